@@ -126,9 +126,9 @@ install: $(PROGRAM) $(if $(wildcard lib/libresetd_member.so),install-lib)
 	install -m 755 tools/wave tools/container $(SHARE)/tools/
 	install -m 644 tools/picture/*.py $(SHARE)/tools/picture/
 	install -m 755 examples/ask examples/gateway examples/local_check examples/member examples/plain_member examples/run examples/service examples/talk examples/worker $(SHARE)/examples/
-	install -m 644 examples/coordinator.py examples/ring.toml examples/front.toml examples/resetd.logrotate examples/resetd.rules.yml $(SHARE)/examples/
+	install -m 644 examples/coordinator.py examples/ring.toml examples/front.toml examples/resetd.logrotate examples/resetd.rules.yml examples/resetd.grafana.json examples/kubernetes.yaml $(SHARE)/examples/
 	for unit in examples/*.service examples/*.timer examples/*.socket; do sed 's|/usr/local/bin/|$(PREFIX)/bin/|' $$unit > $(SHARE)/$$unit; chmod 644 $(SHARE)/$$unit; done
-	install -m 644 docs/OPERATING.md docs/TAKEOVER.md docs/FORMATS.md docs/SERVICES.md docs/PROTOCOL.md docs/FRONT.md docs/member-vectors.json docs/*.svg docs/front.png $(SHARE)/docs/
+	install -m 644 docs/OPERATING.md docs/TAKEOVER.md docs/FORMATS.md docs/SERVICES.md docs/PROTOCOL.md docs/FRONT.md docs/COMPARISON.md docs/QUEUES.md docs/DEPLOYING.md docs/member-vectors.json docs/*.svg docs/front.png $(SHARE)/docs/
 	install -m 644 CHANGELOG.md $(SHARE)/
 	install -m 755 examples/account examples/hello examples/hello.sh examples/one_for_all $(SHARE)/examples/
 	install -m 644 examples/pair.toml $(SHARE)/examples/

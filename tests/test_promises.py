@@ -218,10 +218,10 @@ class Names(Copied):
 
     def test_a_name_of_a_crate_below(self) -> None:
         copy = self.copy()
-        self.define(copy, "crates/coord_commands/specs/Words.antt", "next_size")
+        self.define(copy, "crates/coord_commands/specs/Arguments.antt", "next_size")
         status, said = self.compare(copy, "names")
         self.assertEqual(status, 1, said)
-        self.assertIn("next_size is defined in coord_commands.specs.Words and coord_ledger.specs.machine.Answers", said)
+        self.assertIn("next_size is defined in coord_commands.specs.Arguments and coord_ledger.specs.machine.Answers", said)
 
     def test_a_name_of_a_crate_aside(self) -> None:
         """Two crates of which neither stands on the other may each have it."""

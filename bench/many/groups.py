@@ -1,4 +1,4 @@
-"""From a reset to members that talk: 64 after one gateway, some services of their own, and one that is told."""
+"""From a reset to members that talk: 64 behind one gateway, some services of their own, and one that is told."""
 
 import asyncio
 import contextlib

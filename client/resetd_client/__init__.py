@@ -29,9 +29,9 @@ Which object is for which thread
 
 What is raised
     Each exception is a ResetdError, beside the OSError of a file. After Away make the same call again; OutOfRun says that
-    a message is of another run; all others need a person (`needs_person`). Each function says which it raises.
+    a message is of another run; all others need a person (`needs_person`). Each function names those that it raises.
 
-What it has to tell a person goes to the logger `resetd_client`, or to what a caller gives as `told`.
+Messages for a person go to the logger `resetd_client`, or to the function that a caller passes as `told`.
 
 docs/SERVICES.md says what a service has to do, and why.
 """

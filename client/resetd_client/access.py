@@ -16,7 +16,7 @@ SYNC_SECONDS = 5.0  # a start waits for a sync without a bound
 
 @dataclass(frozen=True)
 class Account:
-    """A user of this machine, by number; the name is the number where it has none."""
+    """A user of this machine, by number; if the user has no name, the name is the number."""
 
     name: str
     uid: int
@@ -49,8 +49,8 @@ def owner_of(folder: str) -> Account:
 
 @dataclass(frozen=True)
 class Trial:
-    """What came of it: which call failed and why, empty if none did; the seconds that the syncs took, None if not all calls
-    came back in time."""
+    """The result: which call failed and why, empty if none did; the seconds that the syncs took, None if not all calls came back
+    in time."""
 
     failed: str = ""
     synced: float | None = 0.0
@@ -62,8 +62,8 @@ def may_try_as(account: Account) -> bool:
 
 
 def tried_as(account: Account, path: str, seconds: float = SYNC_SECONDS) -> Trial:
-    """Opens a file to read and write it, opens its folder, and syncs both, as this user. It takes no lock and writes nothing.
-    A process of its own does it, so that nothing here waits for a disk that hangs."""
+    """Opens a file for reading and writing, opens its folder, and syncs both, as this user. It takes no lock and writes nothing.
+    It runs in a separate process, so that a disk that hangs blocks nothing here."""
     reader, writer = os.pipe()
     child = os.fork()
     if child == 0:
@@ -98,7 +98,7 @@ def become(account: Account) -> None:
 
 
 def attempt(account: Account, path: str, tell: Callable[[list[object]], object]) -> None:
-    """The calls, and what is told of them."""
+    """Makes the calls and reports them."""
     call = "be acted as"
     try:
         become(account)
@@ -116,7 +116,7 @@ def attempt(account: Account, path: str, tell: Callable[[list[object]], object])
 
 
 def lines_of(reader: int, seconds: float) -> list[list[str]]:
-    """What the process tells until it ends, for at most so many seconds."""
+    """The reports of the process until it ends, for at most this many seconds."""
     until, text = time.monotonic() + seconds, b""
     while select.select([reader], [], [], max(until - time.monotonic(), 0))[0]:
         if not (part := os.read(reader, 4096)):

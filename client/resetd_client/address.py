@@ -1,4 +1,4 @@
-"""Where a coordinator, or the front before it, is reached, and the connections to it.
+"""The addresses of a coordinator, or of the front before it, and the connections to it.
 
 | Written | Is |
 |---|---|
@@ -29,12 +29,12 @@ CREDENTIALS: Mapping[str, str] = {
 
 
 class Address(Protocol):
-    """One place that answers. Its text is as it was written."""
+    """One address. Its text is unchanged."""
 
-    is_front: bool  # whether a front is there, which also tells of changes
+    is_front: bool  # whether it is a front, which also reports changes
 
     def connect(self, seconds: float) -> socket.socket:
-        """A connection, each answer of which may take so many seconds. Raises Away and Untrusted."""
+        """Opens a connection, each answer of which may take this many seconds. Raises Away and Untrusted."""
 
     def refusal(self) -> Untrusted | None:
         """Why a front ends each connection without an answer, if it is this client's certificate."""
@@ -141,19 +141,19 @@ class Credentials:
 
     @staticmethod
     def found(environment: Mapping[str, str] = os.environ) -> Credentials:
-        """Those that RESETD_CERTIFICATE, RESETD_KEY and RESETD_AUTHORITY name; what they leave out, the TOML file that
-        RESETD_TLS names says with the keys `certificate`, `key` and `authority`. Raises Unreadable."""
+        """The files named by RESETD_CERTIFICATE, RESETD_KEY and RESETD_AUTHORITY; for missing ones, the TOML file that RESETD_TLS
+        names has the keys `certificate`, `key` and `authority`. Raises Unreadable."""
         path = environment.get("RESETD_TLS", "")
         in_file = read_credentials(path) if path else {}
         return Credentials(**{
             name: environment.get(f"RESETD_{name.upper()}", "") or in_file.get(name, "") for name in CREDENTIALS})
 
     def over(self, **given: str | None) -> Credentials:
-        """These, but for what is given."""
+        """A copy with the given values in place of these."""
         return replace(self, **{name: path for name, path in given.items() if path})
 
     def context(self) -> ssl.SSLContext:
-        """The TLS context. Raises Untrusted where a file is missing or is not what it should be."""
+        """The TLS context. Raises Untrusted if a file is missing or invalid."""
         missing = [name for name in CREDENTIALS if not getattr(self, name)]
         if missing:
             raise Untrusted(f"no {' and no '.join(missing)} given: tls: takes the PEM files of all three "
@@ -202,7 +202,7 @@ def address_of(text: str, credentials: Credentials | None = None) -> Address:
     kind, colon, rest = text.partition(":")
     if kind == "unix" and not rest.isdigit():
         if not rest.startswith("/") or len(os.fsencode(rest)) > 107:
-            raise BadWords(f"{text!r} is no address: behind unix: stands an absolute path of at most 107 bytes")
+            raise BadWords(f"{text!r} is not an address: unix: needs an absolute path of at most 107 bytes")
         return Unix(rest)
     if kind == "tls" and ":" in rest:
         host, port = host_and_port(rest)
@@ -214,7 +214,7 @@ def host_and_port(text: str) -> tuple[str, int]:
     """The host and the port of `HOST:PORT`. Raises BadWords."""
     host, colon, port = text.rpartition(":")
     if not host or not port.isascii() or not port.isdigit() or len(port) > 5 or not 0 < int(port) < 65536:
-        raise BadWords(f"{text!r} is no address: HOST:PORT, unix:PATH or tls:HOST:PORT is meant")
+        raise BadWords(f"{text!r} is not an address: use HOST:PORT, unix:PATH or tls:HOST:PORT")
     return host, int(port)
 
 
@@ -242,7 +242,7 @@ def away(address: Address, fault: OSError) -> Away:
 def untrusted(address: Address, fault: OSError) -> Untrusted | None:
     """What a fault of a TLS connection says of certificates, if it does."""
     if isinstance(fault, ssl.SSLCertVerificationError):
-        return Untrusted(f"{address}: its certificate is not taken: {fault.verify_message}")
+        return Untrusted(f"{address}: its certificate is not accepted: {fault.verify_message}")
     reason = getattr(fault, "reason", None) if isinstance(fault, ssl.SSLError) else None
     words = set(reason.split("_")) if reason else set()
     if reason and "ALERT" in words and words & {"CERTIFICATE", "CA", "DENIED", "DECRYPT"}:

@@ -1,4 +1,4 @@
-"""What a person is told of an order that was not taken: what was found, and what to do."""
+"""Explanations of rejected orders for a person: the cause that was found, and what to do."""
 
 from __future__ import annotations
 
@@ -91,7 +91,7 @@ def of_ends(refusal: Refusal, a: Node, b: Node, view: View) -> str:
     if refusal is Refusal.DEGREE_FULL and (full := [node for node in near if len(near[node]) >= MOST_AT_NODE]):
         return f"node {full[0]} has {MOST_AT_NODE} links: drop one first"
     if refusal is Refusal.LINKS_FULL and len(view.links) >= MOST_LINKS:
-        return f"{MOST_LINKS} links stand: drop one first"
+        return f"{MOST_LINKS} links exist: drop one first"
     return ""
 
 

@@ -12,8 +12,8 @@
         async with member.in_run(tag_of_the_message):    # of just this run, or OutOfRun
             ...                                          # change the work: no begin and no other in_run comes between
 
-The member itself follows in a thread of its own, and each `in_run` holds its lock in a thread of its own until its body is
-left: so coroutines of one loop keep each other out too, and none of them blocks the loop.
+The member follows in its own thread, and each `in_run` holds the member's lock in a thread until its body is left: so coroutines
+of one loop exclude each other too, and none of them blocks the loop.
 """
 
 from __future__ import annotations
@@ -33,8 +33,8 @@ class Member:
 
     def __init__(self, port: Port, orders: Orders | AtFront, node: int, begun: int | None, begin: Callable[[int], Awaitable[None]], *,
                  word: str = "", told: Callable[[str], None] = warn, work: Work = Work.PARTS, generation: int = 0) -> None:
-        """As for a Member. `begin` is a coroutine: it must not use `in_run`, since none is let in meanwhile. Raises
-        Unreadable and BadWords, and RuntimeError where no loop runs."""
+        """As for a Member. `begin` is a coroutine: it must not use `in_run`, which waits for it. Raises Unreadable and BadWords,
+        and RuntimeError if no loop runs."""
         self._loop = asyncio.get_running_loop()
         self._begin = begin
         self._member = Blocking(port, orders, node, begun, self._begin_in_loop, word=word, told=told, work=work, generation=generation)

@@ -98,12 +98,12 @@ class Faulted(NotTaken):
 
 
 class Garbled(NotTaken):
-    """What came is no answer of a coordinator: something else listens at the address. Needs a person."""
+    """The answer is not one of a coordinator: something else listens at the address. Needs a person."""
 
     name = "Garbled"
 
     def __init__(self, line: str, where: str = "what answers") -> None:
-        super().__init__(f"{where} is no coordinator: it said {line.strip()[:MOST_SHOWN]!r}")
+        super().__init__(f"{where} is not a coordinator: it said {line.strip()[:MOST_SHOWN]!r}")
         self.line = line
 
 
@@ -115,7 +115,7 @@ class Reply:
     step: int
 
 
-CARRIED_OUT = Reply("carried out", 0)  # where the reply itself was lost with a connection
+CARRIED_OUT = Reply("carried out", 0)  # if the reply itself was lost with a connection
 Outcome = Reply | NotTaken
 
 

@@ -10,15 +10,14 @@ from collections.abc import Iterable
 
 from .inotify import Inotify
 
-POLL_SECONDS = 0.01  # between two looks at the files, where the system does not tell of changes
+POLL_SECONDS = 0.01  # between two checks of the files, if the system does not report changes
 
-State = tuple[int, int, int] | None  # inode, size and time of the last change; None where there is no file
+State = tuple[int, int, int] | None  # inode, size and time of the last change; None if there is no file
 
 
 class Changes:
-    """Some files, which need not be there yet. On a local file system the system tells of a change (inotify), and only the files
-    of the folder that changed are looked at; where it can't be had, or a folder is missing, all are looked at a hundred times
-    a second."""
+    """Some files, which need not exist yet. On a local file system the system reports changes (inotify), and only the files of
+    the changed folder are checked; without inotify, or if a folder is missing, all are checked a hundred times a second."""
 
     def __init__(self, paths: Iterable[str]) -> None:
         self._states: dict[str, State] = {path: None for path in paths}
@@ -27,8 +26,8 @@ class Changes:
             self._inotify = Inotify()
         except OSError:
             self._inotify = None
-        self._watched: dict[int, list[str]] = {}  # of each watch, the files that stand in its folder
-        self._is_told = False  # whether the system tells of each change from now on
+        self._watched: dict[int, list[str]] = {}  # for each watch, the files in its folder
+        self._is_told = False  # whether the system reports each change from now on
 
     def descriptors(self) -> list[int] | None:
         """What can be read once a file may have changed after the last `take`; None where `take` has to be called every
@@ -70,7 +69,7 @@ class Changes:
         return changed
 
     def wait(self, seconds: float) -> list[str]:
-        """The files that have changed since the last call, as soon as one has, or after so many seconds."""
+        """Returns the files that have changed since the last call, as soon as one has, or after this many seconds."""
         until = time.monotonic() + seconds
         while not (changed := self.take()):
             left = until - time.monotonic()
@@ -80,7 +79,7 @@ class Changes:
         return changed
 
     def _folders(self) -> dict[str, list[str]]:
-        """Where the files stand, and where symbolic links lead: the files of each folder."""
+        """The folders of the files, also those to which symbolic links lead, with the files of each."""
         folders: dict[str, list[str]] = {}
         for path in self._states:
             folders.setdefault(os.path.dirname(os.path.abspath(path)), []).append(path)
@@ -98,8 +97,8 @@ def state_of(path: str) -> State:
 
 
 def wait_for(sources: Iterable[list[int] | None], seconds: float) -> bool:
-    """Waits until one of the descriptors can be read, at most so many seconds; if a source is None, which has to be looked
-    at, a moment. Answers whether one can be read."""
+    """Waits until one of the descriptors can be read, at most this many seconds; if a source is None and has to be polled, only a
+    moment. Returns whether one can be read."""
     poller, polls = select.poll(), False
     for source in sources:
         polls = polls or source is None

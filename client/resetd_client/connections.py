@@ -26,8 +26,8 @@ class Row:
 
 @dataclass(frozen=True)
 class Peer:
-    """A client with a connection: from where, whose it is and which processes have it, as far as this user may see them. The
-    server has accepted it, or it waits for that. `user` is None where no process of this network namespace has it."""
+    """A client with a connection: its address, its user and its processes, as far as this user may see them. The server has
+    accepted the connection, or the client waits for that. `user` is None if no process of this network namespace has it."""
 
     address: str
     user: int | None
@@ -57,7 +57,7 @@ def written(host: str, port: int) -> str:
 
 
 def read_address(text: str) -> str:
-    """An address of version 4 as people write it; one of version 6 as it stands."""
+    """An address of version 4 in the usual form; one of version 6 unchanged."""
     host, port = text.split(":")
     return f"{socket.inet_ntoa(int(host, 16).to_bytes(4, 'little'))}:{int(port, 16)}" if len(host) == 8 else text
 

@@ -1,4 +1,4 @@
-"""What a store's file stands on: its mount, its file system and its device, and what the kernel says of that one."""
+"""The environment of a store's file: its mount, its file system and its device, and the kernel's messages about the device."""
 
 from __future__ import annotations
 
@@ -20,8 +20,7 @@ def said(*words: str) -> str:
 
 
 def mount_of(path: str) -> str:
-    """The row of /proc/self/mountinfo of the mount that a file stands in: the longest of those that lead to it. Raises
-    OSError."""
+    """The row of /proc/self/mountinfo for a file's mount: the longest matching one. Raises OSError."""
     path = os.path.realpath(path)
     with open("/proc/self/mountinfo", encoding="utf-8") as lines:
         rows = [line.rstrip("\n") for line in lines]
@@ -31,7 +30,7 @@ def mount_of(path: str) -> str:
 
 
 def devices_of(path: str) -> list[str]:
-    """The names of the device that a file stands on, and of the disks below it; none where it stands on no block device."""
+    """The names of a file's device, and of the disks below it; none if it is not on a block device."""
     number = os.stat(path).st_dev
     link = f"/sys/dev/block/{os.major(number)}:{os.minor(number)}"
     if not os.path.exists(link):
@@ -60,7 +59,7 @@ def kernel_lines(path: str) -> str:
     """What the kernel has said of a file's device since the start of the machine, and of nothing else."""
     names = devices_of(path)
     if not names:
-        return "the file stands on no block device of this machine\n"
+        return "the file is not on a block device of this machine\n"
     wanted = re.compile(r"\b(?:" + "|".join(map(re.escape, names)) + r")\b")
     told = said("journalctl", "--dmesg", "--no-pager", "--quiet", "--output", "short-iso").splitlines()
     if len(told) < 2:  # no journal, or none that this user may read

@@ -1,8 +1,8 @@
 """What the library raises: each is a `ResetdError`, and says whether it needs a person.
 
-`needs_person` is False where the program itself can go on: after `Away` it makes the same call again, and after
-`OutOfRun` it closes the connection that the message came from. It is True where the same call would end in the same way
-until a person, or the program's author, has changed something.
+`needs_person` is False if the program itself can continue: after `Away` it makes the same call again, and after `OutOfRun` it
+closes the connection of the message. It is True if the same call would fail in the same way until a person, or the program's
+author, has changed something.
 
 Beside these the library raises the OSError of a file or a folder that can't be used.
 """

@@ -14,12 +14,12 @@ SECTOR = 512  # bytes of a file that a disk writes as a whole
 
 
 class Held(ResetdError):
-    """Another process holds the folder. Needs a person, unless that process ends by itself."""
+    """Another process holds the folder. Needs a person, unless that process ends."""
 
 
 def keep(path: str, text: str) -> None:
-    """Replaces a file's content by a text, as a whole; when it returns, the text is on the disk. Others may do so at the
-    same time: then one of the texts stands there in the end."""
+    """Replaces a file's content by a text, as a whole; when it returns, the text is on the disk. If several callers do this at
+    the same time, one of the texts is left in the end."""
     with open(alone(path + ".new"), "w", encoding="utf-8") as file:
         file.write(text)
         file.flush()
@@ -47,7 +47,7 @@ def alone(path: str) -> int:
 
 
 def sync_folder(path: str) -> None:
-    """Syncs the folder that a path stands in."""
+    """Syncs the folder of a path."""
     folder = os.open(os.path.dirname(os.path.abspath(path)), os.O_RDONLY)
     try:
         os.fsync(folder)
@@ -70,7 +70,7 @@ def empty(path: str) -> None:
 
 
 def sync(path: str) -> None:
-    """Syncs a file as it is, and its folder, even if the file is missing: so its present state lasts, although the process that
+    """Syncs a file unchanged, and its folder, even if the file is missing: so its present state lasts, although the process that
     wrote, renamed or removed it may not have synced."""
     try:
         descriptor = os.open(path, os.O_RDONLY | os.O_CLOEXEC)
@@ -93,8 +93,8 @@ def put(path: str, text: str) -> None:
 
 
 def overwrite(path: str, text: str) -> None:
-    """The same as `put`, for a file that nobody else reads: a short text goes over the old one, with blanks before its last
-    line feed where it is shorter, in one call, which no kill cuts. A longer one is put. Nothing waits for the disk."""
+    """Like `put`, for a file that nobody else reads: a short text overwrites the old one, padded with blanks before its last line
+    feed if it is shorter, in one call, which no kill interrupts. A longer one is put. Nothing waits for the disk."""
     try:
         descriptor = os.open(path, os.O_WRONLY | os.O_CLOEXEC | os.O_NOFOLLOW)
     except FileNotFoundError:
@@ -113,8 +113,8 @@ def overwrite(path: str, text: str) -> None:
 
 
 def append(path: str, size: int, text: bytes) -> None:
-    """Writes a text after the first `size` bytes of a file, in the place of all that stands there, and makes the file if
-    it is not there. When it returns, the text is on the disk."""
+    """Replaces everything after the first `size` bytes of a file by a text, and creates the file if it does not exist. When it
+    returns, the text is on the disk."""
     is_new = not os.path.exists(path)
     descriptor = os.open(path, os.O_WRONLY | os.O_CREAT | os.O_CLOEXEC | os.O_NOFOLLOW, 0o666)
     with open(descriptor, "wb", buffering=0) as file:
@@ -129,7 +129,7 @@ def append(path: str, size: int, text: bytes) -> None:
 
 
 def read(path: str) -> str | None:
-    """The text of a file, None where there is none. Raises Unreadable at bytes that are no text."""
+    """The text of a file, None if there is none. Raises Unreadable if its bytes are not UTF-8."""
     try:
         with open(path, encoding="utf-8") as file:
             return file.read()
@@ -140,7 +140,7 @@ def read(path: str) -> str | None:
 
 
 def read_bytes(path: str) -> bytes | None:
-    """The bytes of a file, None where there is none."""
+    """The bytes of a file, None if there is none."""
     try:
         with open(path, "rb") as file:
             return file.read()

@@ -19,7 +19,7 @@ class Finding:
 
 
 def user_name(number: int) -> str:
-    """The name of a user, or the number where there is none."""
+    """The name of a user, or the number if there is none."""
     try:
         return pwd.getpwuid(number).pw_name
     except KeyError:

@@ -19,12 +19,12 @@ from .port import Port, patiently
 from .signals import Clock, Wake, Wakes
 from .view import View
 
-LOOK_SECONDS = 30.0  # between two looks, where nothing wakes it
+LOOK_SECONDS = 30.0  # between two looks, if nothing wakes it
 STOP_SECONDS = 0.1  # of a wait for wake-ups without a descriptor, which is looked into for a `stop`
 FIRST_WAIT = 0.01  # seconds between looks while others are not through: nothing wakes it when another one confirms
-MOST_WAITS = 20  # after which that wait, longer by 1.3 each time, stays as it is: some 2 seconds
+MOST_WAITS = 20  # after which that wait, longer by 1.3 each time, is no longer extended: some 2 seconds
 PUSH_SECONDS = 1.0  # for which a view is awaited that a front pushes after an order
-TOLD_SECONDS = 2.0  # between looks while others are not through, and a front tells of each change
+TOLD_SECONDS = 2.0  # between looks while others are not through, and a front reports each change
 PAST_SECONDS = 30.0  # for which every address that answers may show the past, until one reset is asked for to find out
 DOUBT_SECONDS = 0.1  # until it looks after a message of another run: more of them bring no more looks
 
@@ -99,8 +99,8 @@ class Following:
 
     def _wait(self, wakes: Wakes, seconds: float, sooner: Callable[[float], float] = lambda began: math.inf,
               changes: Changes | None = None) -> Wake:
-        """Waits for a wake-up, at most so many seconds, or until `stop` is called. `sooner` may shorten that when the bell
-        rings, or when files change: it takes the moment at which the wait began, and returns that at which it ends."""
+        """Waits for a wake-up, at most this many seconds, or until `stop` is called. `sooner` may shorten that when the bell
+        rings, or when files change: it gets the time at which the wait began, and returns that at which it ends."""
         began = time.monotonic()
         while True:
             self._bell.hush()
@@ -151,8 +151,8 @@ class Following:
             foresee(view)
 
     def _ask_reset(self, node: int, why: str, epoch: int | None = None) -> None:
-        """Asks for a reset, and tells of the first in a row. It is no fault if the node has gone meanwhile. Raises as
-        `_confirm` does."""
+        """Asks for a reset, and logs the first in a row. It is not a fault if the node has gone meanwhile. Raises as `_confirm`
+        does."""
         if node not in self._asked:
             self._told(f"node {node}: {why}: a reset is asked for")
         self._asked.add(node)

@@ -28,21 +28,21 @@ GATHER_SECONDS = 0.01  # for which others may begin after the last one, and are 
 
 
 class Desk:
-    """A node's members, which begin and talk together: their seats, and what is kept of their starts."""
+    """A node's members, which begin and talk together: their seats, and the stored state of their starts."""
 
     def __init__(self, node: int, shelf: Shelf, folder: str, names: Iterable[str],
                  numbers: Mapping[str, int] = MappingProxyType({})) -> None:
-        """`numbers` are what the members were told before, by their names."""
+        """`numbers` are the numbers of the members' last instructions, by their names."""
         self.node, self._shelf = node, shelf
         self.seats = [Seat(os.path.join(folder, name)) for name in names]
         self._least = max([numbers.get(seat.name, 0) for seat in self.seats], default=0)
         self.starts = Starts(shelf, node, self._begun())
         self.telling: int | None = None  # the epoch that this process told, which is not confirmed yet
-        self.tag: str | None = None  # of the run that the members may talk in: empty where the node is alone
+        self.tag: str | None = None  # of the run that the members may talk in: empty if the node is alone
 
     @property
     def told(self) -> str:
-        """What the members were told last; the empty text for nothing."""
+        """The last instruction to the members; empty for none."""
         return self._shelf.told(self.node)
 
     def due(self, view: View, row: Node) -> Due:
@@ -57,7 +57,7 @@ class Desk:
         return self._is_told(row) and self.starts.begun == row.epoch
 
     def awaits_begin(self) -> bool:
-        """Whether members were told by this process what to begin, and not all of them have."""
+        """Whether this process instructed members to begin, and not all of them have."""
         return self.telling is not None and self._begun() is None
 
     def note_begin(self, epoch: int) -> None:
@@ -67,11 +67,11 @@ class Desk:
         self.telling = epoch
 
     def note_confirmed(self) -> None:
-        """What the members were told, and have begun, was confirmed."""
+        """The epoch that the members were instructed to begin, and have begun, was confirmed."""
         self.telling = None
 
     def lines(self, boot: str) -> str:
-        """What its members are told (seats.py)."""
+        """The instructions to its members (seats.py)."""
         run = "" if self.tag is None else f" {self.tag or '-'} {boot}"
         return "".join(f"{seat.name} {self.told.strip()}{run}\n" for seat in self.seats) if self.told else ""
 
@@ -97,14 +97,14 @@ class Judged(NamedTuple):
 
 
 class Gateway(Following):
-    """Serves members. `members` has the names of each node's members, and the member NAME has the folder
-    FOLDER/NAME: several members of one node, as the processes of one host, all begin before it is confirmed. What it tells its
-    members stands in one file for all of them (seats.py)."""
+    """Serves members. `members` has the names of each node's members, and the member NAME has the folder FOLDER/NAME: several
+    members of one node, as the processes of one host, all begin before it is confirmed. One file has the instructions for all
+    members (seats.py)."""
 
     def __init__(self, port: Port, orders: Orders | AtFront, members: Mapping[int, Iterable[str]], folder: str, *,
                  word: str = "", told: Callable[[str], None] = warn) -> None:
-        """`orders` are an AtFront where every address of the port is a front's. Raises Unreadable if a file of its own does not
-        read, and BadWords at a name that no member can have."""
+        """`orders` are an AtFront if every address of the port is a front's. Raises Unreadable if a file of its own does not
+        read, and BadWords at an invalid name of a member."""
         super().__init__(orders, told)
         self.port, self._word, self._boot = port, word, boot_name()
         os.makedirs(folder, exist_ok=True)
@@ -122,13 +122,13 @@ class Gateway(Following):
                        "with this version")
 
     def look(self) -> View:
-        """One look at `show` for all members: tells what they are to begin, confirms what they have begun, asks for
-        resets, and looks again where it ordered something. Raises as `Member.look` does."""
+        """One look at `show` for all members: publishes what they are to begin, confirms what they have begun, asks for resets,
+        and looks again if it ordered something. Raises as `Member.look` does."""
         return self._look_from(self._view())
 
     def follow(self, wakes: Wakes, every: float = LOOK_SECONDS) -> None:
-        """Looks at each wake-up, by itself after so many seconds, when members have begun, and after each time
-        that the coordinator was away, until nothing more will come or `stop` is called."""
+        """Looks at each wake-up, after this many seconds, when members have begun, and after each absence of the coordinator,
+        until no more wake-ups will come or `stop` is called."""
         check_every(every)
         is_local = False
         while (self._look_at_last() if is_local else None) or self._look_patiently() is not None:
@@ -166,8 +166,8 @@ class Gateway(Following):
         raise Away("there are new epochs each time that it looks")
 
     def _sooner(self, began: float) -> float:
-        """A look is due when all that were told have begun, or no other one has for a moment: they are confirmed together. It is due
-        soon after a member has refused a tag."""
+        """A look is due when all instructed members have begun, or no other one has for a moment: they are confirmed together. It
+        is due soon after a member has rejected a tag."""
         written = {os.path.basename(path) for path in self._changes.take() if os.path.exists(path)}
         if "begun" in written:
             self._last_written = time.monotonic()
@@ -177,8 +177,8 @@ class Gateway(Following):
         return began + DOUBT_SECONDS if self._written else math.inf
 
     def _judge(self, view: View, rows: Mapping[int, Node]) -> list[Judged]:
-        """What is due at each node that is there. Puts on the disk what has to be kept of that, for all in one write: so members
-        are told to begin once the reset is over in their group, and by now may talk no more."""
+        """The due action at each node that exists. Stores the required state, for all in one write: so members are instructed to
+        begin once the reset is over in their group, and have stopped talking by then."""
         judged = [Judged(desk, rows[desk.node], desk.due(view, rows[desk.node])) for desk in self.desks if desk.node in rows]
         begin = [each for each in judged if each.due is Due.BEGIN and view.part(each.desk.node).is_quiet]
         for each in begin:
@@ -188,7 +188,7 @@ class Gateway(Following):
         return judged
 
     def _tell_members(self, view: View, judged: list[Judged]) -> None:
-        """Tells members in which run they may talk, and what they are to begin."""
+        """Publishes in which run members may talk, and what they are to begin."""
         talking = {each.desk.node for each in judged if each.due is Due.TALK}
         self._asked -= talking
         for desk in self.desks:
@@ -196,7 +196,7 @@ class Gateway(Following):
         self._board.tell("".join(desk.lines(self._boot) for desk in self.desks))
 
     def _order_what_is_due(self, view: View, judged: list[Judged]) -> bool:
-        """Confirms what was begun, and asks for one reset, since that may reach the others too. Answers whether there was
+        """Confirms the begun epochs, and asks for one reset, since that may reach the others too. Returns whether there was
         something to order."""
         begun = [each for each in judged if each.desk.has_begun(each.row)]
         self._shelf.write()

@@ -38,7 +38,7 @@ class Bounds:
 
 @dataclass(frozen=True)
 class Health:
-    """What was found. `is_stopped`: the server answers Stopped, so it has to be closed and started again."""
+    """The findings. `is_stopped`: the server answers Stopped, so it has to be closed and started again."""
 
     level: Level
     findings: tuple[str, ...]
@@ -47,8 +47,8 @@ class Health:
 
 def check(port: Port, since: Since, bounds: Bounds, patience: float = 0.0, signals: Signals | None = None,
           store: str | None = None) -> Health:
-    """Looks, and says what is wrong. If there is no view for so many seconds, what has lasted so far is kept. `store` is the
-    file that the coordinator is to have. Raises NotTaken."""
+    """Queries the server and returns the findings. If no view arrives within this many seconds, findings that were already active
+    stay active. `store` is the coordinator's expected file. Raises NotTaken."""
     comparison = Comparison(store)
     try:
         view = patiently(port.show, patience)
@@ -73,7 +73,7 @@ class Comparison:
         try:
             self._before = reading(path) if path else self._before
         except NotCompared:
-            pass  # the reading behind the view says so
+            pass  # the reading after the view says so
 
     def differs(self, view: View) -> bool | None:
         """Whether the store is another one; None where that is not known."""
@@ -89,12 +89,12 @@ class Comparison:
             return Level.UNKNOWN, [f"the store can't be compared: {fault}"]
         if not differs:
             return Level.OK, []
-        return Level.CRITICAL, [f"that is not the store on this file: {self._path} {differs}; what is answered now is lost with the "
-                                "server's end: leave it running (OPERATING, Backup and restore)"]
+        return Level.CRITICAL, [f"that is not the store on this file: {self._path} {differs}; its present answers are lost when the "
+                                "server ends: leave it running (OPERATING, Backup and restore)"]
 
 
 def findings(view: View, since: Since, bounds: Bounds) -> list[str]:
-    """What has lasted for longer than its bound."""
+    """The conditions that have lasted longer than their bounds."""
     found: list[str] = []
     if view.accepted > view.settled and (lasted := oldest_wait(view, since)) >= bounds.steps:
         found.append(f"{view.accepted - view.settled} steps have waited for the disk for {lasted:.0f} s")
@@ -115,9 +115,9 @@ def oldest_wait(view: View, since: Since) -> float:
 
 
 def still_waves(view: View, since: Since, bounds: Bounds) -> list[str]:
-    """The waves that wait for nothing that is on its way. A wave moves if a row of one of its nodes changes. While steps
-    wait for the disk it may wait with them. So it stands still if for long no look found such steps, or if so many were
-    settled meanwhile that its own are among them."""
+    """The waves that wait although no packet is in transit. A wave moves if a row of one of its nodes changes. While steps wait
+    for the disk it may wait with them. So it stands still if for long no look found such steps, or if that many were settled
+    meanwhile that its own are among them."""
     found: list[str] = []
     seen: set[int] = set()
     for node in view.nodes:
@@ -154,10 +154,10 @@ def missing_signals(view: View, signals: Signals, since: Since, bounds: Bounds) 
 def metrics(view: View | None, is_stopped: bool, differs: bool | None = None) -> str:
     """A text for the collector of text files of node_exporter. `differs`: the store is not the one on its file, None where
     that is not known."""
-    rows = [("resetd_up", "gauge", "1 where the server answers", [("", int(view is not None or is_stopped))]),
-            ("resetd_stopped", "gauge", "1 where the server answers Stopped", [("", int(is_stopped))])]
+    rows = [("resetd_up", "gauge", "1 if the server answers", [("", int(view is not None or is_stopped))]),
+            ("resetd_stopped", "gauge", "1 if the server answers Stopped", [("", int(is_stopped))])]
     if differs is not None:
-        rows.append(("resetd_store_differs", "gauge", "1 where the server's store is not on its file", [("", int(differs))]))
+        rows.append(("resetd_store_differs", "gauge", "1 if the server's store is not on its file", [("", int(differs))]))
     if view:
         names = [(f'{{node="{node.node}",group="{node.group}"}}', node) for node in view.nodes]
         rows += [
@@ -167,7 +167,7 @@ def metrics(view: View | None, is_stopped: bool, differs: bool | None = None) ->
             ("resetd_node_epoch", "gauge", "a node's epoch", [(name, node.epoch) for name, node in names]),
             ("resetd_node_confirmed", "gauge", "the last epoch that was confirmed",
              [(name, node.confirmed) for name, node in names]),
-            ("resetd_node_in_reset", "gauge", "1 where a reset is at the node",
+            ("resetd_node_in_reset", "gauge", "1 if a reset is at the node",
              [(name, int(node.mode != "ready")) for name, node in names])]
     return "".join(f"# HELP {name} {about}.\n# TYPE {name} {kind}\n" +
                    "".join(f"{name}{labels} {value}\n" for labels, value in values)

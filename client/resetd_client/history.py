@@ -13,9 +13,9 @@ LINES = re.compile(rb"(?:[0-9a-f]{64}\n)*")
 
 
 class History:
-    """A file of one digest a line, in 64 hexadecimal digits. What is added counts, and is on the disk, after the next
-    `keep`. It is never cut: a store may be put back from any copy. A last line that a power cut tore was of a start that
-    never talked, so it is passed over, and the next one takes its place."""
+    """A file of one digest a line, in 64 hexadecimal digits. An added digest counts, and is on disk, after the next `keep`. It is
+    never truncated: a store may be restored from any copy. A last line that a power cut tore was of a start that never talked, so
+    it is skipped, and the next one takes its place."""
 
     def __init__(self, path: str) -> None:
         """Raises Unreadable if the file does not read."""
@@ -43,7 +43,7 @@ class History:
             self._added.append(digest)
 
     def keep(self) -> None:
-        """Writes all that was added to the disk. After an error call it again: it writes all of it anew."""
+        """Writes all added digests to the disk. After an error call it again: it writes all of them again."""
         if not self._added:
             return
         text = "".join(f"{digest}\n" for digest in self._added).encode()

@@ -11,7 +11,7 @@ CREATED, MODIFIED, MOVED_FROM, MOVED_TO, DELETED = 0x100, 0x2, 0x40, 0x80, 0x200
 DELETED_SELF, MOVED_SELF, ONLY_FOLDERS = 0x400, 0x800, 0x1000000
 MASK = CREATED | MODIFIED | MOVED_FROM | MOVED_TO | DELETED | DELETED_SELF | MOVED_SELF | ONLY_FOLDERS
 IGNORED, OVERFLOWED = 0x8000, 0x4000
-NOT_KNOWN = DELETED_SELF | MOVED_SELF | IGNORED | OVERFLOWED  # what has changed is not known from these
+NOT_KNOWN = DELETED_SELF | MOVED_SELF | IGNORED | OVERFLOWED  # these do not say which file has changed
 EVENTS_BYTES = 65_536
 EVENT = struct.Struct("iIII")  # a watch, what happened, and the length of the name that follows
 
@@ -20,7 +20,7 @@ class Inotify:
     """A descriptor that can be read once something has changed in one of the folders. It is closed with its owner."""
 
     def __init__(self) -> None:
-        """Raises OSError where there is no inotify, or too many of them are in use."""
+        """Raises OSError if there is no inotify, or too many of them are in use."""
         try:
             library = ctypes.CDLL(None, use_errno=True)
             self._add = library.inotify_add_watch

@@ -1,4 +1,4 @@
-"""The numbers that a coordinator takes (docs/PROTOCOL.md), so that others are told before anything is sent."""
+"""The limits of a coordinator (docs/PROTOCOL.md), so that numbers beyond them are rejected before anything is sent."""
 
 from __future__ import annotations
 

@@ -1,4 +1,4 @@
-"""A member: one node's side of a service. When it begins anew, when it confirms, and when it may talk to others."""
+"""A member: one node's side of a service. When it begins, when it confirms, and when it may talk to others."""
 
 from __future__ import annotations
 
@@ -42,7 +42,7 @@ class Run:
 
 
 class Work(enum.Enum):
-    """How `begin` replaces the work, and so what has to be on the disk before it."""
+    """How `begin` replaces the work, and so what must be on disk before it."""
 
     PARTS = enum.auto()  # part by part: "nothing begun" is synced before
     WHOLE = enum.auto()  # at once, together with its epoch, as one file that is renamed: nothing is synced before
@@ -58,25 +58,24 @@ class OutOfRun(ResetdError):
 class Member(Following):
     """Looks at `show` whenever it is woken, and never trusts what woke it.
 
-    It calls `begin` with an epoch: that drops all work in hand and whatever is open to other members, loads the
-    common start, keeps it with the epoch, and returns only once that is on the disk. `begun` is the epoch that
-    stands with the work, None for no work (and for work that is in memory alone). The member keeps two files of its own,
-    `start-NODE.json` and `start-NODE.history` in the folder of its orders: keep them as long as the work, and move them
-    with the work.
+    It calls `begin` with an epoch: that drops all present work and closes what is open to other members, loads the common start,
+    stores it with the epoch, and returns only once that is on disk. `begun` is the epoch that is stored with the work, None for
+    no work (and for work in memory). The member keeps two files, `start-NODE.json` and `start-NODE.history` in the folder of its
+    orders: keep them as long as the work, and move them with the work.
 
-    Either one thread calls `follow`, or the member is used by `with`, which runs `follow` in a thread of its own, woken
-    by `wakes` and at the latest after `every` seconds. Any other threads work `in_run`. `on_run` is called with each run
-    that begins, and with None when it ends, by the thread that looks; it must not wait for that thread.
+    Either one thread calls `follow`, or the member is used by `with`, which runs `follow` in its own thread, woken by `wakes` and
+    at the latest after `every` seconds. Any other threads work `in_run`. `on_run` is called with each run that begins, and with
+    None when it ends, by the thread that looks; it must not wait for that thread.
     """
 
     def __init__(self, port: Port, orders: Orders | AtFront, node: int, begun: int | None, begin: Callable[[int], None], *,
                  word: str = "", told: Callable[[str], None] = warn, wakes: Wakes | None = None,
                  every: float = LOOK_SECONDS, on_run: Callable[[Run | None], None] = lambda run: None, work: Work = Work.PARTS,
                  generation: int = 0) -> None:
-        """`orders` are an AtFront where every address of the port is a front's; it wakes the member too, where no `wakes` are
-        given. `generation` is for the fence: one number of all members, 0 to 8,388,607, and a greater one after each restore of
-        the coordinator's store. Raises Unreadable if a file of its own does not read, and BadWords where work in memory is
-        said to be begun, or at another generation."""
+        """`orders` are an AtFront if every address of the port is a front's; it wakes the member too, if no `wakes` are given.
+        `generation` is for the fence: one number of all members, 0 to 8,388,607, and a greater one after each restore of the
+        coordinator's store. Raises Unreadable if a file of its own does not read, and BadWords if work in memory is given as
+        begun, or at an invalid generation."""
         super().__init__(orders, told)
         if work is Work.MEMORY and begun is not None:
             raise BadWords("work in memory alone does not outlive its process: give begun=None")
@@ -120,11 +119,11 @@ class Member(Following):
 
     @contextmanager
     def in_run(self, tag: str | None = None, wait: float = 0.0) -> Iterator[Run]:
-        """While the body works, no begin and no other `in_run` comes in between. `tag` is that of a message: the body
-        works only if it is of this run. Raises OutOfRun at the tag of another run, and if no run is on after `wait`
-        seconds; at another tag the member looks, since this run may be over. Raises what has ended the member's own
-        thread, if something has. Keep the body short, and don't wait for others in it. Where an event loop runs it raises
-        InLoop: use `resetd_client.aio`."""
+        """While the body works, no begin and no other `in_run` comes in between. `tag` is that of a message: the body works only
+        if it is of this run. Raises OutOfRun at the tag of another run, and if there is no run after `wait` seconds; at another
+        tag the member looks, since this run may be over. Raises the exception that ended the member's own thread, if there is
+        one. Keep the body short, and don't wait for others in it. In a thread with an event loop it raises InLoop: use
+        `resetd_client.aio`."""
         refuse_in_loop("in_run")
         with self._changes:
             self._changes.wait_for(lambda: self._run is not None, wait)
@@ -145,17 +144,17 @@ class Member(Following):
         self._bell.ring()
 
     def note_overtaken(self, nodes: Iterable[int]) -> None:
-        """A resource has refused the member's fence, and keeps one with these nodes. The member looks. If it may talk by that look
-        too, and one of the nodes is connected with it, it asks for a reset: the resource was taken by a start of its own
-        group. Else another group has it. From any thread."""
+        """A resource has rejected the member's fence, and keeps one with these nodes. The member looks. If it may still talk
+        after that look, and one of the nodes is connected with it, it asks for a reset: a start of its own group has the
+        resource. Otherwise another group has it. May be called from any thread."""
         with self._changes:
             self._takers |= set(nodes)
         self._bell.ring()
 
     def look(self) -> View:
-        """Asks `show`, begins anew, confirms and asks for resets until there is nothing more to do, and answers the
-        last view. `run` is then the run that the group is in, or None while somebody is not through. After Away call
-        it again; Refused and Faulted need a person."""
+        """Queries `show`, begins, confirms and asks for resets until there is nothing more to do, and returns the last view.
+        `run` is then the run that the group is in, or None while somebody is not through. After Away call it again; Refused and
+        Faulted need a person."""
         if self._ask_wanted_reset():
             self._await_view()
         for _ in range(MOST_TURNS):
@@ -169,8 +168,8 @@ class Member(Following):
         raise Away(f"node {self.node} has a new epoch each time it is looked at")
 
     def follow(self, wakes: Wakes, every: float = LOOK_SECONDS, after: Callable[[View], None] | None = None) -> None:
-        """Looks at once, at each wake-up, by itself after so many seconds, and after each time that the
-        coordinator was away, until nothing more will come or `stop` is called. `after` hears each view."""
+        """Looks at once, at each wake-up, after this many seconds, and after each absence of the coordinator, until no more
+        wake-ups will come or `stop` is called. `after` receives each view."""
         check_every(every)
         while (view := self._look_patiently()) is not None:
             if after:
@@ -190,7 +189,7 @@ class Member(Following):
         return self
 
     def __exit__(self, kind: object, *_: object) -> None:
-        """Stops. Raises what has ended the thread before, if something has, and if the body raised nothing itself."""
+        """Stops. Raises the exception that ended the thread before, if there is one and the body raised nothing itself."""
         self.stop()
         if self._thread:
             self._thread.join()
@@ -234,7 +233,7 @@ class Member(Following):
         if due is Due.BEGIN:
             self._begin_anew(view, row)
         elif is_parted:
-            self._ask_reset(self.node, "a member that is connected talks in another run, and the same is shown to it", row.epoch)
+            self._ask_reset(self.node, "a connected member talks in another run, and sees the same view", row.epoch)
         elif is_overtaken:
             self._ask_reset(self.node, "a start of its group, in another run, has taken what they share", row.epoch)
         elif due is Due.RESET:

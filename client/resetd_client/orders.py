@@ -20,16 +20,16 @@ from .port import AT_ONCE, Port, line_of
 Order = dict[str, Any]
 
 LOGGER = logging.getLogger("resetd_client")
-MOST_TRIED = 200_000  # numbers, where a lost count is looked for: some seconds
+MOST_TRIED = 200_000  # numbers that are tried to find a lost count: some seconds
 FIRST_PROBES, PROBES = 4, 1_024  # of them over one connection, at first, and at most
 MOST_RECOVERIES = 3  # of the count for one series: others may order as the same client meanwhile
 NEXT_IS = frozenset({Refusal.BAD_EPOCH, Refusal.UNKNOWN_NODE})
 
 
 class CountLost(Refused):
-    """The order's number is neither the client's last nor the next, or it is the last one with another order: this
-    client's numbers are not those of the coordinator. `Orders.recover` finds them. Needs a person, who knows whether the
-    order may be carried out twice."""
+    """The order's number is neither the client's last nor the next, or it is the last one with another order: the client and the
+    coordinator disagree on the client's numbers. `Orders.recover` finds them. Needs a person, who knows whether the order may be
+    carried out twice."""
 
 
 class CountNotFound(ResetdError):
@@ -37,7 +37,7 @@ class CountNotFound(ResetdError):
 
 
 def warn(text: str) -> None:
-    """What `told` is where a caller gives none: a warning of the logger `resetd_client`."""
+    """The default of `told`: a warning of the logger `resetd_client`."""
     LOGGER.warning("%s", text, stacklevel=2)
 
 
@@ -50,7 +50,7 @@ class Kept(NamedTuple):
 
 @dataclass
 class Series:
-    """Orders that are carried out one after the other, and what came of them so far."""
+    """Orders that are carried out one after the other, and their results so far."""
 
     wanted: list[Order]
     outcomes: list[Outcome] = field(default_factory=list)
@@ -78,12 +78,12 @@ class Orders:
 
     def __init__(self, port: Port, client: int, folder: str, *, recovers: bool = False, held_seconds: float = 0.0,
                  told: Callable[[str], None] = warn) -> None:
-        """`client` is 1 to 16. With `recovers`, if the count was lost, it finds it and sends the order once more: for
-        orders that do no harm when they are carried out twice. Another process may hold the folder for so many seconds
-        more. `told` hears what a person may want to know, by default the logger `resetd_client`. Raises BadWords, Held,
-        and Unreadable if the folder's file does not read."""
+        """`client` is 1 to 16. With `recovers`, if the count was lost, it finds it and sends the order once more: for orders that
+        do no harm when they are carried out twice. `held_seconds`: how long another process may still hold the folder. `told`
+        receives messages for a person, by default the logger `resetd_client`. Raises BadWords, Held, and Unreadable if the
+        folder's file does not read."""
         if client not in CLIENTS:
-            raise BadWords(f"{client} is no client: clients are 1 to {CLIENTS[-1]}")
+            raise BadWords(f"{client} is not a client: clients are 1 to {CLIENTS[-1]}")
         self.port, self.client, self.recovers, self.told = port, client, recovers, told
         self.folder = folder
         self._lock = files.hold(folder, held_seconds)
@@ -136,9 +136,9 @@ class Orders:
         return outcome
 
     def order_all(self, orders: Sequence[Order], *, above: int = 0) -> list[Outcome]:
-        """Carries out orders, in this sequence and each once; it sends those after the first together. Answers what
-        came of each, up to and with the first that was refused (or is a fault): nothing after that was carried out.
-        CARRIED_OUT stands for a reply that was lost.
+        """Carries out orders, in this sequence and each once; it sends those after the first together. Returns the result of
+        each, up to and with the first that was refused (or is a fault): nothing after that was carried out. CARRIED_OUT stands
+        for a reply that was lost.
 
         After Away call it again with the same orders: it then goes on. Raises BadWords at a number out of its range,
         TooLong (both before it has sent or written anything), CountLost, CountNotFound, Garbled and Untrusted.
@@ -160,7 +160,7 @@ class Orders:
             return series.outcomes
 
     def settle(self) -> list[Outcome]:
-        """Sends the orders again that have no answer, and answers what came of each, as `order_all` does. Raises Away,
+        """Sends the orders again that have no answer, and returns the result of each, as `order_all` does. Raises Away,
         CountLost, Garbled and Untrusted."""
         with self._turn:
             series = self._owner or Series(self.unanswered)
@@ -214,9 +214,9 @@ class Orders:
             self.recover(node=others[0].get("node"))
 
     def _send(self, series: Series, above: int) -> None:
-        """Sends what is written down, and notes what comes of each. If an order, or one after it, gets another answer
-        than OutOfTurn, its number was taken: so an OutOfTurn before that answer is of an order that was carried out
-        before. An order that was not taken leaves its number, and those after it, free."""
+        """Sends the orders that are written down, and notes the result of each. If an order, or one after it, gets another answer
+        than OutOfTurn, its number was used: so an OutOfTurn before that answer is of an order that was carried out before. A
+        rejected order leaves its number, and those after it, free."""
         (number, pending), done = self._kept, list[Outcome]()
         requests = [self._request(number + 1 + place, order) for place, order in enumerate(pending)]
         try:
@@ -264,8 +264,8 @@ class Orders:
 
 
 def outcome_of(answer: dict[str, Any] | NotTaken, above: int) -> Outcome:
-    """What came of an order. Raises CountLost where the answer is of another order, and what says neither that the
-    order was carried out nor that it was not."""
+    """The result of an order. Raises CountLost if the answer is of another order, and any answer that says neither that the order
+    was carried out nor that it was not."""
     if isinstance(answer, Refused):
         if answer.refusal is Refusal.NUMBER_REUSED:
             raise CountLost(answer.number, answer.name) from answer
@@ -281,10 +281,10 @@ def outcome_of(answer: dict[str, Any] | NotTaken, above: int) -> Outcome:
 
 
 def find_count(port: Port, client: int, near: int = 0, most: int = MOST_TRIED, named: int | None = None) -> int:
-    """The number of a client's last order, 0 for none, found without harm: the order to confirm epoch 0 is refused
-    whatever its number is, as NumberReused where it is the last one's, as BadEpoch (or UnknownNode) where it is the
-    next one, else as OutOfTurn. Numbers are tried from `near` outwards, at most so many, and none above the count of
-    steps. Raises CountNotFound, Away, Garbled and Untrusted."""
+    """The number of a client's last order, 0 for none, found without harm: the order to confirm epoch 0 is refused whatever its
+    number is, as NumberReused if it is the last one's, as BadEpoch (or UnknownNode) if it is the next one, else as OutOfTurn.
+    Numbers are tried from `near` outwards, at most this many, and none above the count of steps. Raises CountNotFound, Away,
+    Garbled and Untrusted."""
     view = port.show_any()  # it gives only a node and a bound
     node = named or (view.nodes[0].node if view.nodes else 1)
     greatest = view.accepted + 1

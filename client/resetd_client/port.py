@@ -50,7 +50,7 @@ class Port:
 
     @property
     def is_front(self) -> bool:
-        """Whether one of the addresses is a front's, which also tells of changes (`Watched`)."""
+        """Whether one of the addresses is a front's, which also reports changes (`Watched`)."""
         return any(address.is_front for address in self.addresses)
 
     def ask(self, request: Request) -> dict[str, Any]:
@@ -94,7 +94,7 @@ class Port:
             self.newest.note_order(address, step)
 
     def resend(self) -> int:
-        """Has what is on its way sent again, and answers how many packets that are. Raises Garbled too."""
+        """Makes the server send the packets in transit again, and returns how many there are. Raises Garbled too."""
         answer = self.ask({"op": "resend"})
         try:
             return int(answer["count"])
@@ -102,7 +102,7 @@ class Port:
             raise Garbled(json.dumps(answer)) from fault
 
     def close(self) -> None:
-        """Ends the server in order: what was accepted is settled first. Raises Garbled too."""
+        """Ends the server in order: everything accepted is settled first. Raises Garbled too."""
         if self.ask({"op": "close"}).get("kind") != "closed":
             raise Garbled("close")
 
@@ -134,7 +134,7 @@ class Port:
         return answers
 
     def _answer(self, address: Address, request: Request) -> str:
-        """The line that answers one request, over a connection of its own."""
+        """The line that answers one request, over a new connection."""
         return next(self._lines(address, [request]))
 
     def _lines(self, address: Address, requests: Sequence[Request]) -> Iterator[str]:
@@ -199,8 +199,7 @@ def line_of(request: Request) -> bytes:
 
 
 def patiently(call: Callable[[], T], seconds: float | None = None, told: Callable[[Away], None] | None = None) -> T:
-    """Makes a call again and again while it raises Away, for so many seconds, or for ever. `told` hears of the
-    first Away of each row."""
+    """Repeats a call while it raises Away, for this many seconds, or forever. `told` receives the first Away of each row."""
     until = None if seconds is None else time.monotonic() + seconds
     wait = 0.1
     is_first = True

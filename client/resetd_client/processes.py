@@ -1,4 +1,4 @@
-"""The processes of this machine, as far as this user may see them: what they have open, locked, and listen at."""
+"""The processes of this machine, as far as this user may see them: their open files, their locks, and where they listen."""
 
 from __future__ import annotations
 
@@ -107,7 +107,7 @@ def opened(process: int) -> list[str]:
 
 
 def links_of(process: int) -> Iterator[str]:
-    """The names of what it has open."""
+    """The names of its open files."""
     for name in opened(process):
         try:
             yield os.readlink(f"/proc/{process}/fd/{name}")
@@ -143,7 +143,7 @@ def output_pipe(process: int) -> Pipe | None:
 
 
 def reads(process: int, name: str) -> bool:
-    """Whether a process has opened what is called so to read it, or to read and write it."""
+    """Whether a process has opened the file of this name for reading, or for reading and writing."""
     for number in opened(process):
         try:
             if os.readlink(f"/proc/{process}/fd/{number}") == name and flags_of(process, number) & os.O_ACCMODE != os.O_WRONLY:
@@ -168,7 +168,7 @@ class Condition(enum.Enum):
 
 
 def condition_of(process: int, seconds: float = LOOK_SECONDS) -> Condition | None:
-    """Whether a process is stopped by a signal; or for so many seconds one of its threads is in one call that can't be
+    """Whether a process is stopped by a signal; or for this many seconds one of its threads is in one call that can't be
     interrupted, as a sync, or never rests. None if it is none of these, or can't be seen."""
     first = threads_of(process)
     if any(state in "Tt" for state, _ in first.values()):
@@ -194,7 +194,7 @@ def threads_of(process: int) -> dict[str, tuple[str, int]]:
 
 @dataclass(frozen=True)
 class Program:
-    """The file that a process runs, with its SHA-256; and whether that is what stands at its path now."""
+    """The file that a process runs, with its SHA-256; and whether its path still names that file."""
 
     path: str
     checksum: str

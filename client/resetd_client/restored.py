@@ -1,7 +1,7 @@
 """After a restore: a reset in each group of linked nodes, so that no service takes its old start for the present one.
 
-A restored store may show as confirmed an epoch that a service began in another past. After the reset the node's epoch
-is higher and unconfirmed, so its service begins anew at its next look, whatever it had begun before.
+A restored store may show as confirmed an epoch that a service began in another past. After the reset the node's epoch is higher
+and unconfirmed, so its service begins again at its next look, whatever it had begun before.
 """
 
 from __future__ import annotations
@@ -17,9 +17,9 @@ LOOK_SECONDS = 0.05
 
 
 def renew(port: Port, orders: Orders, seconds: float) -> str:
-    """Asks for a reset in each group of linked nodes, waits until the epoch of every node has risen, and says so.
-    It finds the client's count first, which a restore changes. It may be repeated. Raises Away if a node's epoch has
-    not risen within so many seconds."""
+    """Asks for a reset in each group of linked nodes, waits until the epoch of every node has risen, and says so. It finds the
+    client's count first, which a restore changes. It may be repeated. Raises Away if a node's epoch has not risen within this
+    many seconds."""
     patiently(orders.recover, seconds)
     view = first = patiently(port.show, seconds)
     until = time.monotonic() + seconds

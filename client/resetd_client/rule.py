@@ -1,6 +1,6 @@
-"""The rule of a member: what it has to do where a view is shown to it, and what it has to keep before it does that.
+"""The rule of a member: what it has to do when a view is shown to it, and what it has to store before.
 
-Nothing here reads or writes. What is proved of the rule, and of any members that keep it, rests on this alone:
+Nothing here reads or writes. The proofs about the rule, and about any members that follow it, assume only this:
 
 - a start talks only with those that were connected when it first talked, at the epochs that they had then;
 - no two starts of a node ever first talk with the same party.
@@ -26,7 +26,7 @@ class Due(enum.Enum):
     TALK = enum.auto()  # all that are connected are through, and its start may talk with them
     WAIT = enum.auto()  # for others, or for a reset that is under way
     BEGIN = enum.auto()  # it begins the shown epoch, and confirms it
-    RESET = enum.auto()  # it asks for a reset: its start and what is shown do not belong together
+    RESET = enum.auto()  # it asks for a reset: its start doesn't match what is shown
 
 
 @dataclass(frozen=True)
@@ -50,8 +50,8 @@ class Shown(NamedTuple):
 
 
 class Judged(NamedTuple):
-    """What is due, and what is to be on the disk before that is done: what is kept, and before it the digest that the
-    history gets, if any. A member that is to begin loads the common start and then keeps the epoch as begun."""
+    """The due action, and what must be on disk before it: the stored values, and before them the digest for the history, if any.
+    A member that is to begin loads the common start and then stores the epoch as begun."""
 
     due: Due
     kept: Kept
@@ -65,8 +65,8 @@ def shown_to(view: View, row: Node) -> Shown:
 
 
 def judge(kept: Kept, history: Container[str], shown: Shown) -> Judged:
-    """What is due. `history` has the digests of all parties with which a start of the member ever first talked; that of
-    a start that was alone is not among them."""
+    """The due action. `history` has the digests of all parties with which a start of the member ever first talked; that of a
+    start that was alone is not among them."""
     digest = digest_of(shown.party)
     if shown.epoch > shown.confirmed and digest not in history:
         return Judged(Due.BEGIN, Kept())

@@ -1,5 +1,5 @@
-"""Whether a coordinator's store is the one on a file. The server reads its file at its start alone, and answers on when
-somebody cuts, overwrites, replaces or removes it; what it answers then is lost with its end."""
+"""Whether a coordinator's store is the one in a file. The server reads its file only at its start, and answers on when somebody
+truncates, overwrites, replaces or removes it; its later answers are lost with its end."""
 
 from __future__ import annotations
 
@@ -34,9 +34,9 @@ def reading(path: str) -> Reading:
 
 
 def difference(before: Reading, view: View, after: Reading) -> str:
-    """Why a file is not the store of a coordinator that answered with this view between the two readings; empty where it
-    may be the one. What the view has on the disk is in the file since then, and the file never has a step that was not
-    accepted. A flight that is on its way to the disk may be in the file before it is settled."""
+    """The reason why a file is not the store of a coordinator that answered with this view between the two readings; empty if it
+    may be the one. The settled steps of the view are in the file since then, and the file never has a step that was not accepted.
+    A flight in progress may be in the file before it is settled."""
     if after.count is None:
         return after.why_not
     if after.count < view.settled:

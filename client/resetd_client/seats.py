@@ -10,10 +10,10 @@
                            line; or `lost EPOCH NUMBER`, if the work that it began for this is gone
     FOLDER/NAME/refused    the member's: the tag of a message that it refused. The gateway takes the file away
 
-Only `begun` is synced: the gateway keeps in its own file what it tells, before it does, in one write for all members. So after a
-power cut `told/members` may be old, torn or gone, while the work may already be that of the next begin. A line that is not
-above `begun` asks for nothing; and a tag counts only in the boot that it was written in, and beside a `begun` of its number. The
-gateway then compares `begun` with its own file, and tells again all that is not so.
+Only `begun` is synced: the gateway stores its instructions in its own file before it publishes them, in one write for all
+members. So after a power cut `told/members` may be old, torn or gone, while the work may already be that of the next begin. A
+line that is not above `begun` asks for nothing; and a tag is valid only in the boot in which it was written, and beside a `begun`
+of its number. The gateway then compares `begun` with its own file, and repeats every instruction that was not carried out.
 """
 
 from __future__ import annotations
@@ -47,7 +47,7 @@ def line_of(text: str | None) -> str:
 
 
 def number_of(text: str | None) -> int:
-    """The number of the first line of `begun`, or of what was told; 0 for one that is missing or does not read."""
+    """The number of the first line of `begun`, or of the last instruction; 0 for one that is missing or does not read."""
     found = BEGUN.fullmatch(line_of(text))
     return int(found.group(1)) if found else 0
 
@@ -60,8 +60,8 @@ class Cached:
         self._state: State = None
 
     def read(self) -> str:
-        """The text; empty where there is no file."""
-        state = state_of(self._path)  # before the text: what is put in place meanwhile is read again
+        """The text; empty if there is no file."""
+        state = state_of(self._path)  # before the text: a file that is replaced meanwhile is read again
         if state != self._state:
             self._state, self._text = state, files.read(self._path) or ""
         return self._text
@@ -74,10 +74,10 @@ class Board:
         self._path = board_in(folder)
         os.makedirs(os.path.dirname(self._path), exist_ok=True)
         self._text = files.read(self._path)
-        self.numbers = {name: int(number) for name, _, number, _, _ in TOLD.findall(self._text or "")}  # that were told before
+        self.numbers = {name: int(number) for name, _, number, _, _ in TOLD.findall(self._text or "")}  # the last instructions
 
     def tell(self, text: str) -> None:
-        """Tells all members at once, if it is not what they were told last."""
+        """Publishes the instructions to all members at once, unless they are the same as last time."""
         if text != self._text:
             os.makedirs(os.path.dirname(self._path), exist_ok=True)
             files.put(self._path, text)
@@ -91,7 +91,7 @@ class Seat:
         """Raises BadWords at a name that no line can have."""
         self.folder, self.name = folder, os.path.basename(folder)
         if self.name == BOARD or not NAME.fullmatch(self.name):
-            raise BadWords(f"{self.name!r} is no name of a member: it has no blanks, and is not {BOARD!r}")
+            raise BadWords(f"{self.name!r} is not a name of a member: it has no blanks, and is not {BOARD!r}")
         os.makedirs(folder, exist_ok=True)
         self._begun = Cached(os.path.join(folder, "begun"))
         self._wanted = number_of(files.read(os.path.join(folder, "wanted")))
@@ -106,11 +106,11 @@ class Seat:
         return [os.path.join(self.folder, name) for name in ("begun", "refused")]
 
     def has_begun(self, told: str) -> bool:
-        """Whether the member has begun what it was told."""
+        """Whether the member has begun as instructed."""
         return line_of(self._begun.read()) == told
 
     def has_lost(self, told: str) -> bool:
-        """Whether the member says that the work of what it was told is gone."""
+        """Whether the member says that the instructed work is gone."""
         return line_of(self._begun.read()) == f"lost {told}"
 
     def take_refused(self) -> str | None:
@@ -123,8 +123,8 @@ class Seat:
         return text.strip()
 
     def _take_away_earlier_files(self) -> bool:
-        """Takes away what a gateway of an earlier version told in files of each member: `run` first, so that the member may talk
-        no more. Whether there was something."""
+        """Removes the files in which a gateway of an earlier version instructed each member: `run` first, so that the member may
+        no longer talk. Returns whether there were any."""
         paths = [path for name in ("run", "wanted") if os.path.exists(path := os.path.join(self.folder, name))]
         for path in paths:
             os.remove(path)
@@ -149,7 +149,7 @@ class Served:
             warn(f"{folder}: the gateway is of an earlier version: start it again with this one, which tells its members in {path}")
 
     def wanted(self) -> int | None:
-        """The epoch to begin; None if the member has begun, or lost, the one that it was told last."""
+        """The epoch to begin; None if the member has begun, or lost, the last one."""
         epoch, number, _, _ = self._line()
         if number <= number_of(self._begun.read()):
             return None
@@ -157,19 +157,19 @@ class Served:
         return epoch
 
     def has_begun(self, work: str = "", is_synced: bool = True) -> None:
-        """Says that the member has begun what `wanted` returned last, and that this stands with the work on the disk. `work`
-        goes down with it, in one file at once: so neither can be there without the other, and a begin costs two syncs, where
-        it costs four with the work in a file of its own, synced before this call. Where the work is in memory alone, nothing
-        need be synced: the member's next process calls `has_lost` when it starts."""
+        """Says that the member has begun the epoch that `wanted` returned last, and that its work is on the disk. `work` is
+        written with it, in one file at once: so neither can exist without the other, and a begin costs two syncs instead of the
+        four of a separate file that is synced before this call. If the work is in memory, nothing need be synced: the member's
+        next process calls `has_lost` when it starts."""
         (files.keep if is_synced else files.put)(os.path.join(self._folder, "begun"), self._told + work)
 
     def work(self) -> str | None:
-        """What was given to `has_begun`; None where nothing is begun, or its work was lost."""
+        """The work given to `has_begun`; None if nothing is begun, or its work was lost."""
         line, _, work = self._begun.read().partition("\n")
         return work if number_of(f"{line}\n") and not line.startswith("lost") else None
 
     def has_lost(self) -> None:
-        """Says that the work of what was begun is gone. The gateway then tells the member to begin again, after a reset."""
+        """Says that the work of the begun epoch is gone. The gateway then instructs the member to begin again, after a reset."""
         begun = self._begun.read()
         if number_of(begun) and not begun.startswith("lost"):
             files.keep(os.path.join(self._folder, "begun"), f"lost {line_of(begun)}")
@@ -194,11 +194,11 @@ class Served:
         return False
 
     def wait(self, seconds: float = WAIT_SECONDS) -> None:
-        """Waits until the gateway has told something since the last wait, at most so many seconds."""
+        """Waits until the gateway has published something since the last wait, at most this many seconds."""
         self._changes.wait(seconds)
 
     def _line(self) -> tuple[int, int, str, str]:
-        """The epoch, the number, the tag and the boot that the gateway told; numbers are 0 and texts empty where it told none."""
+        """The epoch, the number, the tag and the boot of the gateway's line; numbers are 0 and texts empty if it has none."""
         found = self._own_line.search(self._board.read())
         if found is None:
             return 0, 0, "", ""

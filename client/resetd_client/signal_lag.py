@@ -26,9 +26,9 @@ class Mark:
 
 
 class Signals:
-    """What a file of signals lacks. A kill may take a line, and so may a file that was moved away or cut; but after a
-    mark, within one run of the server and one file, no line is lost so. So each epoch that has risen since the mark
-    has to have its line there. If all have it, the mark is set anew, so that little is read each time."""
+    """The lines that a file of signals lacks. A kill may lose a line, and so may a file that was moved away or truncated; but
+    after a mark, within one run of the server and one file, no line is lost this way. So each epoch that has risen since the mark
+    must have its line there. If all have it, the mark is set again, so that little is read each time."""
 
     def __init__(self, path: str, kept: str) -> None:
         self._path, self._kept = path, kept

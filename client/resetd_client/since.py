@@ -26,7 +26,7 @@ class Since:
         self._new: dict[str, Seen] = {}
 
     def seconds(self, thing: str) -> float:
-        """For how long this has been seen; 0 where it is new."""
+        """For how long this has been seen; 0 if it is new."""
         return self._now - self._seen(thing).when
 
     def grown(self, thing: str, steps: int) -> int:
@@ -38,7 +38,7 @@ class Since:
         return [thing for thing in self._old if thing.startswith(f"{kind} ")]
 
     def keep(self) -> None:
-        """Writes down what was seen this time, and forgets all else."""
+        """Stores what was seen this time, and forgets everything else."""
         if self._new != self._old:
             files.keep(self._path, json.dumps({"boot": self._boot, "seen": self._new}))
 
@@ -63,7 +63,7 @@ def boot_clock() -> float:
 
 
 def boot_name() -> str:
-    """What tells one boot of the machine from another; empty where it can't be known."""
+    """The identity of the machine's boot; empty if it can't be known."""
     try:
         return (files.read("/proc/sys/kernel/random/boot_id") or "").strip()
     except OSError:

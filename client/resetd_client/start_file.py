@@ -11,8 +11,8 @@ A row is one of these, in one line of JSON for all nodes:
                                                                 of parties that no start has talked with
     {"begun": null, "party": null}                              nothing is begun
 
-A gateway's rows have `told` too: what the members of the node were told last. The file may be torn by a power cut, since it is
-not always synced. A text without its last line feed is torn; it says that nothing is begun, as an empty one does.
+A gateway's rows have `told` too: the last instruction to the node's members. The file may be torn by a power cut, since it is not
+always synced. A text without its last line feed is torn; it says that nothing is begun, like an empty one.
 
 Earlier versions wrote `{"begun": E, "party": null}` for a start that has not talked (the file was synced then), and before that
 `{"epoch": E, "party": [..]}` with the greatest epoch that was ever begun.
@@ -45,7 +45,7 @@ class Row:
 
     @property
     def is_empty(self) -> bool:
-        """Whether the file says no more than that nothing is begun."""
+        """Whether the file says only that nothing is begun."""
         return self.kept == Kept() and self.told is None and self.floor is None
 
 

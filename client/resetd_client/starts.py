@@ -1,4 +1,4 @@
-"""The starts of a member: what is kept of them on the disk, and what a view asks for by the rule (rule.py)."""
+"""The starts of a member: their state on the disk, and the action that a view requires by the rule (rule.py)."""
 
 from __future__ import annotations
 
@@ -22,7 +22,7 @@ STEPS_BITS = 40  # a store has fewer steps than 2 to this
 @dataclass(frozen=True)
 class Fence:
     """Lets a database, or another resource of one group, refuse a member that was paused while its group went on
-    (docs/SERVICES.md, "A database behind a fence"): a count that is greater for each later run, the name of the run, which all
+    (docs/QUEUES.md, "A database behind a fence"): a count that is greater for each later run, the name of the run, which all
     members of the run share, and the nodes of the run. It stays the same as long as the start lives."""
 
     count: int
@@ -185,7 +185,7 @@ class Starts:
         return self.work if self.work == self._kept.begun else None
 
     def due(self, view: View, row: Node) -> Due:
-        """What a view with the row of the member's node asks for. It puts what has to be kept into the shelf."""
+        """The action that a view with the row of the member's node requires. It puts the state to store into the shelf."""
         if self._floor is not None and row.epoch <= self._floor:
             return self._take_over(view, row)
         self._floor = None
@@ -195,9 +195,9 @@ class Starts:
         return judged.due
 
     def foresee(self, view: View) -> None:
-        """Puts with whom the start that was begun will talk, if nothing changes, into the history before it talks: then it need
-        not wait for the disk later. No start has talked with that party yet, so it may still; this process knows that, and the
-        next one unless the power was cut. One that does not know it asks for a reset where it finds this party shown."""
+        """Puts the party with which the begun start will talk, if nothing changes, into the history in advance: then it need not
+        wait for the disk later. No start has talked with that party yet, so it may still; this process knows that, and the next
+        one unless the power was cut. One that does not know it asks for a reset when this party is shown."""
         row, part = view.node(self._node), view.part(self._node)
         digest = digest_of(part.party)
         if row and row.epoch == self.begun and part.is_quiet and not is_alone(part.party) and self._kept.party is None \
@@ -230,8 +230,8 @@ class Starts:
         return f"epoch {row.epoch} is shown and confirmed, and {work} here"
 
     def note_begin(self, told: str | None = None) -> None:
-        """A start begins: to be called, and kept, before any work of the one before is dropped. That one talks no more
-        by what is kept, whatever becomes of its work."""
+        """A start begins: call this, and `keep`, before any work of the previous one is dropped. That one no longer talks,
+        whatever becomes of its work."""
         self._shelf.put(self._node, Kept(), told=told)
 
     def note_begun(self, epoch: int) -> None:

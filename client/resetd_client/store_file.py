@@ -1,4 +1,4 @@
-"""A store's file, read as docs/FORMATS.md says, also while it is served: what it holds, and a copy of it."""
+"""A store's file, read by the rules of docs/FORMATS.md, also while it is served: its content, and a copy of it."""
 
 from __future__ import annotations
 
@@ -22,7 +22,7 @@ Read = Callable[[int, int], bytes]
 
 
 class NoStore(ResetdError):
-    """The file does not read as a store: the name of the fault as `resetd` tells it, and where it stops. Needs a person."""
+    """The file does not read as a store: the fault's name as `resetd` prints it, and its position. Needs a person."""
 
     def __init__(self, name: str, place: int, what: str) -> None:
         super().__init__(f"{name}: at byte {place}, {what}")
@@ -99,7 +99,7 @@ def store_of(half: Half) -> Store:
         try:
             batch = batch_of(body, half.version)
         except NotSpelled as fault:
-            raise NoStore("BadBatch", place + fault.place, f"batch {len(batches)} is no batch ({fault.kind})") from None
+            raise NoStore("BadBatch", place + fault.place, f"batch {len(batches)} is not a batch ({fault.kind})") from None
         if batch.first != count + 1:
             raise NoStore("BadBatch", place, f"batch {len(batches)} begins with step {batch.first}, and {count + 1} is due")
         batches.append(batch)
@@ -121,11 +121,10 @@ def read_half(read: Read, is_other: bool = False) -> Half:
 
 
 def one_pass(read: Read, size: int, is_other: bool) -> Half | None:
-    """One pass over a half; None where a checkpoint came in between.
+    """One pass over a half; None if a checkpoint came in between.
 
-    A half is written anew only while the other one is selected. So the selector is the same before and after the first
-    reading of the top, and behind the walk, and then the top is still the same: each checkpoint has a new count of
-    steps.
+    A half is rewritten only while the other one is selected. So the selector is the same before and after the first reading of
+    the top, and after the batches, and then the top is still the same: each checkpoint has a new count of steps.
     """
     selector = selected(read)
     index = selector ^ is_other
@@ -191,11 +190,11 @@ def reader_of(descriptor: int) -> Read:
 
 
 def open_store(path: str) -> int:
-    """A descriptor of a store's file. It refuses what is no regular file, and waits for nothing. Raises OSError."""
+    """A descriptor of a store's file. It refuses a path that is not a regular file, and never blocks. Raises OSError."""
     descriptor = os.open(path, os.O_RDONLY | os.O_NONBLOCK | os.O_CLOEXEC)
     if not stat.S_ISREG(os.fstat(descriptor).st_mode):
         os.close(descriptor)
-        raise OSError(errno.EINVAL, "it is no file, as a store is", path)
+        raise OSError(errno.EINVAL, "it is not a regular file", path)
     return descriptor
 
 

@@ -35,7 +35,7 @@ class Reader:
         self.data, self.place = data, 0
 
     def number(self, size: int, least: int, most: int) -> int:
-        """A number of so many bytes, within limits."""
+        """A number of this many bytes, within limits."""
         if self.place + size > len(self.data):
             raise NotSpelled("Short", len(self.data))
         value = int.from_bytes(self.data[self.place:self.place + size], "big")

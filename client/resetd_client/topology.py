@@ -65,8 +65,8 @@ class Order:
 
 
 def read_topology(text: bytes) -> Network:
-    """The network of a topology file. It judges keys before values, and values before what is made of them, as `resetd
-    init` does. Raises BadTopology."""
+    """The network of a topology file. It checks keys before values, and values before the rows, like `resetd init`. Raises
+    BadTopology."""
     if len(text) > MOST_BYTES:
         raise BadTopology("NotToml", f"over {MOST_BYTES} bytes")
     try:
@@ -84,7 +84,7 @@ def read_topology(text: bytes) -> Network:
     network = Network()
     for node, group in nodes:
         if node in network.groups:
-            raise BadTopology("7 NodeExists", f"node {node} stands twice")
+            raise BadTopology("7 NodeExists", f"node {node} occurs twice")
         network.groups[node] = group
     for a, b in links:
         add_link(network, a, b)
@@ -101,7 +101,7 @@ def add_link(network: Network, a: int, b: int) -> None:
     if network.groups[a] != network.groups[b]:
         raise BadTopology("10 OtherGroup", f"link {a} {b}: two groups")
     if pair(a, b) in network.links:
-        raise BadTopology("11 LinkExists", f"link {a} {b} stands twice")
+        raise BadTopology("11 LinkExists", f"link {a} {b} occurs twice")
     network.links.add(pair(a, b))
     if max(network.degree(a), network.degree(b)) > MOST_LINKS_AT_NODE:
         raise BadTopology("13 DegreeFull", f"link {a} {b}: a node has at most {MOST_LINKS_AT_NODE} links")
@@ -110,7 +110,7 @@ def add_link(network: Network, a: int, b: int) -> None:
 
 
 def tables(top: dict[str, Any], key: str) -> Iterator[dict[str, Any]]:
-    """The tables directly in an array; what is none is left out."""
+    """The tables directly in an array; other items are skipped."""
     rows = top.get(key, [])
     return (row for row in (rows if isinstance(rows, list) else []) if isinstance(row, dict))
 

@@ -85,7 +85,7 @@ class View:
                 "nodes": [list(node) for node in self.nodes], "settled": self.settled}
 
     def node(self, number: int) -> Node | None:
-        """The row of a node, where it is there."""
+        """The row of a node, if it exists."""
         return next((node for node in self.nodes if node.node == number), None)
 
     def part(self, number: int) -> Part:

@@ -1,4 +1,5 @@
-"""Told by a front: it pushes the view at once, at each change, and every 15 seconds so that a dead one is noticed."""
+"""Watching through a front: it pushes the view at once, at each change, and every 15 seconds so that a dead connection is
+noticed."""
 
 from __future__ import annotations
 
@@ -18,7 +19,7 @@ from .port import Port, Request, line_of
 from .signals import Wake
 from .view import View
 
-SILENCE_SECONDS = 45.0  # after so long without a line the front, or the way to it, is taken for dead
+SILENCE_SECONDS = 45.0  # after this long without a line the front, or the connection to it, counts as dead
 REPLY_SECONDS = 30.0  # a front's own patience with the server
 FIRST_PAUSE, PAUSE = 0.1, 2.0  # seconds between two trials to connect, at first and at most
 VIEW = '{"accepted":'  # with which the line of a view begins
@@ -62,8 +63,8 @@ class Pushed:
         self.awaited, self.answers = len(requests), []
 
     def views(self, seconds: float) -> list[View]:
-        """The views that have come, after at most so many seconds; `is_over` is then true if no more will. Raises Away
-        after a silence, NotTaken (Garbled, Faulted) if what came is no view, and Untrusted."""
+        """The views that have arrived, after at most this many seconds; `is_over` is then true if no more will. Raises Away after
+        a silence, NotTaken (Garbled, Faulted) if a line is not a view, and Untrusted."""
         return [view_of(line, str(self.address)) for line in self._lines(seconds)]
 
     def newest(self, seconds: float) -> View | None:
@@ -71,7 +72,7 @@ class Pushed:
         lines = self._lines(seconds)
         for line in lines[:-1]:
             if not line.startswith(VIEW):
-                view_of(line, str(self.address))  # it is no view, and raises what it is
+                view_of(line, str(self.address))  # it is not a view: raises the fault that it is
         return view_of(lines[-1], str(self.address)) if lines else None
 
     def _lines(self, seconds: float) -> list[str]:
@@ -120,15 +121,15 @@ class Pushed:
 
 
 class Watched:
-    """Wakes whoever waits for it within milliseconds of a change, on any host, where a front is at one of a port's
-    addresses. It connects again by itself, and then takes it that something is new."""
+    """Wakes its waiters within milliseconds of a change, on any host, if one of a port's addresses is a front's. It reconnects
+    automatically, and then assumes a change."""
 
     def __init__(self, port: Port, seconds: float = 5.0) -> None:
         """`seconds` is how long it may take to connect. Raises BadWords if none of the addresses is a front's."""
         self._newest = port.newest
         self._fronts = [address for address in port.addresses if address.is_front]
         if not self._fronts:
-            raise BadWords("no address of a front (unix:PATH, tls:HOST:PORT) to be told by")
+            raise BadWords("no address of a front (unix:PATH, tls:HOST:PORT) to watch")
         self._pushed: Pushed | None = None
         self._seconds, self._turn = seconds, 0
         self._pause, self._not_before = FIRST_PAUSE, 0.0
@@ -208,8 +209,8 @@ class Watched:
         return self._fronts[self._turn % len(self._fronts)]
 
     def wait(self, seconds: float) -> Wake:
-        """Waits until a view comes that is not the last one, at most so long. It never answers END. Raises NotTaken
-        (Garbled, or Faulted where the policy allows no watch) and Untrusted."""
+        """Waits until a view comes that is not the last one, at most this long. It never returns END. Raises NotTaken (Garbled,
+        or Faulted if the policy allows no watch) and Untrusted."""
         until = time.monotonic() + seconds
         while True:
             if not self._is_untold:
@@ -258,7 +259,7 @@ class Watched:
                 self._is_untold, self._new, self._seen = is_untold, new, seen
 
     def _connect(self, seconds: float) -> None:
-        """Connects with the next front, once its pause is over; waits no longer than so many seconds."""
+        """Connects with the next front, once its pause is over; waits at most this many seconds."""
         left = self._not_before - time.monotonic()
         if left > 0:
             time.sleep(max(0.0, min(left, seconds)))
@@ -266,7 +267,7 @@ class Watched:
             self._pushed = Pushed(self._front, self._seconds)
 
     def _put_off(self) -> None:
-        """The front was away: the next one is tried, after a pause that grows, and what it tells first is new."""
+        """The front was away: the next one is tried, after a growing pause, and its first view counts as new."""
         self._turn += 1
         self._seen = self._new = None
         self._is_untold = False
@@ -284,12 +285,12 @@ def view_of(line: str, where: str) -> View:
 
 
 def views(port: Port, seconds: float = 5.0) -> Iterator[View]:
-    """The views that a front at one of the port's addresses pushes over one connection: the present one, and one at each
-    change. Raises Away when it ends, or can't be had within so many seconds, NotTaken, Untrusted, and BadWords if none
+    """The views that a front at one of the port's addresses pushes over one connection: the present one, and one at each change.
+    Raises Away when the connection ends, or can't be opened within this many seconds, NotTaken, Untrusted, and BadWords if none
     of the addresses is a front's."""
     fronts = [address for address in port.addresses if address.is_front]
     if not fronts:
-        raise BadWords("no address of a front (unix:PATH, tls:HOST:PORT) to be told by")
+        raise BadWords("no address of a front (unix:PATH, tls:HOST:PORT) to watch")
     pushed = Pushed(fronts[0], seconds)
     try:
         seen: View | None = None

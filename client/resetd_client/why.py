@@ -1,4 +1,4 @@
-"""What is after a fault of `resetd`, as Device or NoMagic, at a store's file: it looks from outside, and locks, writes and
+"""The cause of a fault of `resetd`, such as Device or NoMagic, at a store's file: it looks from outside, and locks, writes and
 keeps open nothing."""
 
 from __future__ import annotations
@@ -20,8 +20,7 @@ KINDS = {stat.S_IFREG: "file", stat.S_IFDIR: "folder", stat.S_IFIFO: "FIFO", sta
 
 
 def of_file(path: str, account: Account | None = None) -> Iterator[Finding]:
-    """What there is to know of a store's file, from its folder to its bytes. It judges for a user, by default the one who
-    owns the folder."""
+    """The findings about a store's file, from its folder to its bytes, for a user, by default the owner of the folder."""
     folder = os.path.dirname(os.path.abspath(os.path.realpath(path)))
     yield from of_folder(folder)
     try:
@@ -49,7 +48,7 @@ def of_file(path: str, account: Account | None = None) -> Iterator[Finding]:
 
 
 def of_absence(path: str, fault: OSError) -> Finding:
-    """Nothing stands there, or what stands there can't be seen."""
+    """There is no file, or this user can't see it."""
     if fault.errno != errno.ENOENT:
         return Finding("file", f"{fault.strerror}", "Device")
     if os.path.islink(path):
@@ -108,7 +107,7 @@ def of_program(process: int) -> Iterator[Finding]:
     """Which program a process runs: what tells one build of the server from another."""
     if program := program_of(process):
         yield Finding("program", f"process {process} runs {program.path}, SHA-256 {program.checksum}" + (
-            "" if program.is_there else "; that is not what stands there now: it runs on with the old one until it is started again"))
+            "" if program.is_there else "; its path has another one now: it runs the old one until it is restarted"))
 
 
 def of_output(process: int) -> Iterator[Finding]:
@@ -130,7 +129,7 @@ def of_store(store: Store) -> Iterator[Finding]:
     half = store.half
     behind = store.count - store.world.count
     yield Finding("store", f"version {half.version}, {store.count:,} steps: {store.world.count:,} in the snapshot, {behind:,} in "
-                           f"{len(store.batches):,} batches behind it")
+                           f"{len(store.batches):,} batches after it")
     yield Finding("store", f"half {half.index} is read; {half.used:,} of its {half.size:,} bytes are in use")
     nodes = [node for node, mode in store.world.modes.items() if mode != "ready"]
     if nodes:

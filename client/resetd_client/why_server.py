@@ -1,4 +1,4 @@
-"""What is after a fault of a server at an address: what listens there, who has its one connection, and what it does."""
+"""The cause of a fault of a server at an address: what listens there, who has its one connection, and what it is doing."""
 
 from __future__ import annotations
 
@@ -18,10 +18,10 @@ from .waiting import AUDIT, of_groups
 
 KEPT_SECONDS = "11 minutes"  # the longest that one client keeps all others out
 CONDITIONS = {
-    Condition.STOPPED: ("is stopped by a signal (SIGSTOP or a debugger): kill -CONT {} lets it go on", "a stop"),
-    Condition.IN_A_CALL: ("has a thread in a call of the system that does not come back, as a sync of a disk that is slow or hangs: "
-                          "look at the kernel's lines (journalctl -k)", "a disk that is slow or hangs"),
-    Condition.SPINNING: ("has a thread that never rests: it works, or it spins", ""),
+    Condition.STOPPED: ("is stopped by a signal (SIGSTOP or a debugger): kill -CONT {} continues it", "a stop"),
+    Condition.IN_A_CALL: ("has a thread in a system call that does not return, such as a sync of a slow or hanging disk: "
+                          "see the kernel's log (journalctl -k)", "a disk that is slow or hangs"),
+    Condition.SPINNING: ("has a thread that is always busy: it works, or it spins", ""),
 }
 
 
@@ -49,13 +49,13 @@ def of_address(text: str, seconds: float, path: str, audit: str = AUDIT) -> Iter
 
 
 def of_network(path: str) -> Iterator[Finding]:
-    """A server whose unit has PrivateNetwork= is in a network of its own: what follows is then looked at in there."""
+    """A server whose unit has PrivateNetwork= is in a private network: the following checks then run inside it."""
     for process in filter(has_other_network, holders_of(path)):
         try:
             join_network(process)
-            yield Finding("address", f"process {process} has a network of its own: the address is looked at in there")
+            yield Finding("address", f"process {process} has a private network: the address is checked inside it")
         except OSError as fault:
-            text = f"process {process} has a network of its own, which can't be joined ({fault.strerror})"
+            text = f"process {process} has a private network, which can't be joined ({fault.strerror})"
             yield Finding("address", text, left_out="what is at the address in there")
         return
 
@@ -97,7 +97,7 @@ def of_store_behind(path: str, before: Reading | None, view: View) -> Iterator[F
         yield Finding("answer", f"{text} can't be seen by this user, or while it is at work", left_out=text)
     elif differs := difference(before, view, after):
         yield Finding("answer", f"that is not the store on this file: it {differs}. The coordinator has another one, or this one was "
-                                "written over, cut or replaced under it, and what it answers is lost with its end", later="a loss")
+                                "overwritten, truncated or replaced under it, and its answers are lost when it ends", later="a loss")
 
 
 def holders_of(path: str) -> list[int]:

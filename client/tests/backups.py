@@ -1,6 +1,6 @@
-"""Copies of a store that is served, under load: each has to be a legal store with every order that was answered before
-it was begun. `RESETD=PROGRAM python3 client/tests/backups.py [COPIES] [--planted]` makes so many (1,000), with --planted
-by a reading that takes gates after what stands behind them, which has to be found."""
+"""Copies of a store that is served, under load: each must be a legal store with every order that was answered before the copy
+began. `RESETD=PROGRAM python3 client/tests/backups.py [COPIES] [--planted]` makes this many (1,000), with --planted by a wrong
+reading that reads gates after the bytes that follow them, which must be found."""
 
 from __future__ import annotations
 
@@ -26,7 +26,7 @@ WRITTEN_SECONDS = 60  # within which a store under load is written to
 
 
 class Lost(Exception):
-    """A copy is no store, or lacks what was answered."""
+    """A copy is not a store, or lacks an answered order."""
 
 
 class Load(threading.Thread):
@@ -79,7 +79,7 @@ class Trial:
         self.server.close()
 
     def copies(self, count: int) -> str:
-        """Makes so many copies and looks into each. What was seen. Raises Lost."""
+        """Makes this many copies and checks each. Returns the counts. Raises Lost."""
         began = time.monotonic()
         while any(each.answered is None and not each.failed for each in self.load):
             time.sleep(0.01)
@@ -120,7 +120,7 @@ class Trial:
         return store
 
     def serve(self, path: str, answered: list[Answered]) -> None:
-        """What was answered before is answered the same over the copy, or a later order of the client is there."""
+        """Earlier answers are the same over the copy, or a later order of the client is there."""
         with subprocess.Popen([PROGRAM, "serve", path, "127.0.0.1:0"], stdout=subprocess.PIPE, encoding="utf-8") as server:
             assert server.stdout
             port = Port(server.stdout.readline().split()[1], 300)
@@ -132,7 +132,7 @@ class Trial:
 
 
 def read_gates_last(store: str, path: str) -> None:
-    """A wrong copy: what stands behind the last gate is of an earlier moment than the gate."""
+    """A wrong copy: the bytes after the last gate are of an earlier moment than the gate."""
     with open(store, "rb") as file:
         earlier = file.read()
         half = read_half(lambda place, length: earlier[place:place + length])

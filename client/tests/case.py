@@ -47,7 +47,7 @@ class Case(unittest.TestCase):
         return orders
 
     def run_words(self, *words: str, address: str = "") -> tuple[int, str, str]:
-        """`resetctl` with these words: its status, what it printed, and what it complained of."""
+        """`resetctl` with these arguments: its status, its output, and its complaints."""
         out, err = io.StringIO(), io.StringIO()
         with redirect_stdout(out), redirect_stderr(err), mock.patch("resetd_client.control.base.SILENCE_SECONDS", 60.0):
             status = main(["--address", address or self.server.address, "--state", self.folder, "--patience", "0", *words])

@@ -2,9 +2,9 @@
 or two starts of it in one?
 
 The member is the library's own. Its files are on a disk in memory: a text that was not synced is, after a power cut, an earlier
-one, the new one, a part of it or nothing; after a kill it is there. A process ends (by a kill or a power cut) in front of any
-write, between a write and its sync, in `begin`, before and after each order, and between two looks. Any views are shown:
-epochs that come again, parties that come again, confirms by hand. The judge is that of the theorem about members (NoMix in
+one, the new one, a part of it or nothing; after a kill it is there. A process ends (by a kill or a power cut) before any write,
+between a write and its sync, in `begin`, before and after each order, and between two looks. Any views are shown: epochs that
+come again, parties that come again, manual confirms. The judge is that of the theorem about members (NoMix in
 crates/coord_member), for one member.
 
 usage: cuts.py [LIVES] [--without PART]      LIVES of each kind of work (20,000); PART is one of PARTS, which is left out
@@ -54,7 +54,7 @@ class End(BaseException):
 
 
 class Disk:
-    """What is read now, and what may be there after a power cut. `left` is how many steps the process has."""
+    """The current bytes, and those that a power cut may leave. `left` is how many steps the process has."""
 
     def __init__(self, rng: random.Random, without: str) -> None:
         self.rng, self.without = rng, without
@@ -175,7 +175,7 @@ class Front(AtFront):
 
 
 class Looks:
-    """A port that shows anything of nodes 1 and 2, and perhaps 3; or, where it is calm, only that they confirm one epoch."""
+    """A port that shows anything of nodes 1 and 2, and perhaps 3; or, if it is calm, only that they confirm one epoch."""
 
     def __init__(self, disk: Disk, is_calm: bool) -> None:
         self._disk, self._rng, self._shown = disk, disk.rng, list[View]()
@@ -207,7 +207,7 @@ def view_of(links: list[list[int]], nodes: list[list[object]]) -> View:
 
 
 class Life:
-    """A member in a random life, and what it said in which run."""
+    """A member in a random life, and its messages in each run."""
 
     def __init__(self, seed: int, work: Work, without: str) -> None:
         self.rng = random.Random(seed)
@@ -216,7 +216,7 @@ class Life:
         self.looks = Looks(self.disk, self.is_calm)
         self.numbers = itertools.count(1)
         self.start: Start = None  # as the process finds it
-        self.maybe: list[Start] = [None]  # what it may be after a power cut
+        self.maybe: list[Start] = [None]  # possible texts after a power cut
         self.talked: list[tuple[Start, str]] = []
         if work is not Work.MEMORY and self.rng.random() < 0.2:
             self.begin_before()

@@ -1,5 +1,5 @@
-"""A file that is written as docs/FORMATS.md says, and read in the midst of that in every way that a kernel may: no
-write and no reading of more than one byte is one moment."""
+"""A file that is written as docs/FORMATS.md says, and read meanwhile in every way that a kernel may: only writes and reads of one
+byte are atomic."""
 
 from __future__ import annotations
 
@@ -17,7 +17,7 @@ class Journal:
         self.choice, self.size = choice, size
         self.index, self.count = 0, choice.choice([1, 250, 65_530])
         self.snapshot, self.bodies = self._snapshot(), list[bytes]()
-        self.checkpoints = list[int]()  # the states in the midst of one and around it
+        self.checkpoints = list[int]()  # the states during one and around it
         self.states = [b"\0" + b"ACRRESET" + size.to_bytes(8, "big") + self._top() + b"\0"]
         self.contents = [self._content()]
         self.gate = len(self.states[0]) - 1
@@ -73,9 +73,9 @@ class Journal:
 
 
 class Reading:
-    """Reads a journal while it is written: `now` is the state that it is in. Between two calls it goes on, and during a
-    call too: then each byte that the call gives is of any state in between. It goes on steadily, or at a few calls alone,
-    and then with a liking for states in the midst of a checkpoint; over no more selectors than it is told."""
+    """Reads a journal while it is written: `now` is its state. The writing continues between two calls, and during a call too:
+    then each byte that the call returns is of any state in between. It continues steadily, or at a few calls only, and then
+    prefers states during a checkpoint; over at most the given number of selectors."""
 
     def __init__(self, journal: Journal, choice: random.Random, start: int, most_selectors: int) -> None:
         self.journal, self.choice, self.now, self.left = journal, choice, start, most_selectors

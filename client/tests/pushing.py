@@ -14,11 +14,11 @@ from typing import Any
 from fake import Fake
 from wire import SOMEBODY
 
-SUBJECTS = {"authority": "CA:TRUE", "front": "", "client": "", "foreign": "CA:TRUE", "stranger": ""}  # and what they may be
+SUBJECTS = {"authority": "CA:TRUE", "front": "", "client": "", "foreign": "CA:TRUE", "stranger": ""}  # and their types
 
 
 class Pushing:
-    """Serves each connection in a thread of its own. `names` are of the certificates that clients have shown."""
+    """Serves each connection in a thread. `names` are of the certificates that clients have shown."""
 
     def __init__(self, fake: Fake, listener: socket.socket, context: ssl.SSLContext | None = None) -> None:
         self.fake, self._listener, self._context = fake, listener, context
@@ -41,7 +41,7 @@ class Pushing:
                     each.sendall(self._view())
 
     def wait_for_watchers(self, count: int) -> bool:
-        """Waits until so many connections watch."""
+        """Waits until this many connections watch."""
         with self._changes:
             return self._changes.wait_for(lambda: len(self._watchers) >= count, 60)
 

@@ -1,5 +1,5 @@
-"""The program itself in the place of the coordinator in memory: `resetd serve` over a store of its own, behind a port
-that fails in the ways that a test asks for."""
+"""The program in the place of the coordinator in memory: `resetd serve` over a new store, behind a port that fails in the ways
+that a test asks for."""
 
 from __future__ import annotations
 
@@ -92,7 +92,7 @@ class Real(Wire):
         return answer
 
     def await_settled(self) -> dict[str, Any]:
-        """What is shown once no reset is at any node, nothing is on its way and all is on the disk."""
+        """The view once no reset is at any node, nothing is in transit and everything is on the disk."""
         until = time.monotonic() + SECONDS
         while time.monotonic() < until:
             view = self.ask(op="show")

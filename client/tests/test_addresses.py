@@ -126,7 +126,7 @@ class Certificates(Case):
             asyncio.get_running_loop().set_exception_handler(lambda *_: None)
             async with await asyncio.start_server(lambda _, writer: writer.close(), sock=listener, ssl=context_of(self.pem)):
                 await asyncio.to_thread(stop.wait)
-            await asyncio.sleep(0.1)  # what it has ended is closed
+            await asyncio.sleep(0.1)  # the connection that it has ended is closed
 
         thread = threading.Thread(target=lambda: asyncio.run(serve()), daemon=True)
         thread.start()

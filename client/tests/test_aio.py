@@ -119,7 +119,7 @@ class Coroutines(Case):
         self.through(cancel)
 
     def test_a_begin_keeps_them_out(self) -> None:
-        """A reset comes while a coroutine is in: the member begins anew only after it."""
+        """A reset comes while a coroutine is in: the member begins only after it."""
         async def resets(member: aio.Member) -> None:
             async with member.in_run(wait=SECONDS):
                 await asyncio.to_thread(self.server.by_somebody, "reset", node=1)

@@ -74,7 +74,7 @@ class Words(Case):
             file.write("something else than a store")
         self.run_words("backup", self.store, self.out)
         for source, out, said in ((self.store, self.store, "this is the store itself"),
-                                  (self.out, self.store, "a process has it locked: nothing is put onto a store that is served"),
+                                  (self.out, self.store, "a process has locked it: a store that is served is not replaced"),
                                   (self.store, f"{self.folder}/text", "it holds something else than a store")):
             self.assertEqual(self.run_words("backup", source, out), (2, "", f"resetctl: {out}: {said}\n"))
 
@@ -85,7 +85,7 @@ class Words(Case):
         for name in ("fifo", "link", "below"):
             kind = os.lstat(f"{self.folder}/{name}").st_mode
             self.assertEqual(self.run_words("backup", self.store, f"{self.folder}/{name}"),
-                             (2, "", f"resetctl: {self.folder}/{name}: it is no file, as a store is\n"))
+                             (2, "", f"resetctl: {self.folder}/{name}: it is not a regular file\n"))
             self.assertEqual(os.lstat(f"{self.folder}/{name}").st_mode, kind)
 
     def test_a_link_to_a_copy_stays(self) -> None:
@@ -99,7 +99,7 @@ class Words(Case):
         self.assertEqual(self.run_words("backup", f"{self.folder}/none", self.out)[0], 1)
         os.mkfifo(f"{self.folder}/fifo")
         for command in (("backup", f"{self.folder}/fifo", self.out), ("steps", f"{self.folder}/fifo")):
-            self.assertEqual(self.run_words(*command), (1, "", f"resetctl: {self.folder}/fifo: it is no file, as a store is\n"))
+            self.assertEqual(self.run_words(*command), (1, "", f"resetctl: {self.folder}/fifo: it is not a regular file\n"))
         self.assertFalse(os.path.exists(self.out))
 
     def test_steps_say_who_asked_for_a_reset_and_when_it_settled(self) -> None:

@@ -49,7 +49,7 @@ class Files(unittest.TestCase):
         timer.start()
         self.assertEqual(files.wait(LONG), [path or self.path])
         timer.join()
-        files.take()  # what came of the change meanwhile
+        files.take()  # the changes meanwhile
 
     def test_each_change(self) -> None:
         files = Changes([self.path, f"{self.folder}/another"])
@@ -96,7 +96,7 @@ class Files(unittest.TestCase):
         self.expect_woken(files, lambda: shutil.rmtree(f"{self.folder}/inner"), path)
 
     def test_a_symbolic_link(self) -> None:
-        """What it leads to stands in another folder."""
+        """The link's target is in another folder."""
         os.mkdir(f"{self.folder}/inner")
         self.write(f"{self.folder}/inner/file")
         os.symlink(f"{self.folder}/inner/file", self.path)
@@ -105,8 +105,8 @@ class Files(unittest.TestCase):
         self.expect_woken(files, lambda: self.write(f"{self.folder}/inner/file"))
 
     def test_a_wait_that_nothing_ends(self) -> None:
-        """The wait lasts as long as is said. The files are looked at twice, at its beginning and at its end, where the system
-        tells of changes."""
+        """The wait lasts as long as given. If the system reports changes, the files are checked twice, at its beginning and at
+        its end."""
         files = Changes([self.path])
         files.take()
         with mock.patch.object(changes, "state_of", side_effect=changes.state_of) as looked:
@@ -127,7 +127,7 @@ class Files(unittest.TestCase):
 
 
 class PolledFiles(Files):
-    """Where the system can't tell."""
+    """If the system can't report changes."""
 
     is_polled = True
 

@@ -47,7 +47,7 @@ class Bash(unittest.TestCase):
         self.assertEqual(self.offered("completion", "z"), {"zsh"})
 
     def test_values_are_not_commands(self) -> None:
-        """An address stands there as several words, since bash splits at a colon and at an equals sign."""
+        """An address is several words there, since bash splits at a colon and at an equals sign."""
         for before in (("--client", "3"), ("--address", "127.0.0.1", ":", "4170"), ("--address", "=", "unix", ":", "/run/front"),
                        ("--address", "a", ":", "1,b", ":", "2"), ("--quiet",), ("--state", "show")):
             with self.subTest(before=before):

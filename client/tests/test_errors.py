@@ -1,4 +1,4 @@
-"""What the library raises: of one base, exported, said where it is raised, and told apart by `resetctl`."""
+"""The exceptions of the library: of one base, exported, documented where they are raised, and distinguished by `resetctl`."""
 
 from __future__ import annotations
 
@@ -17,7 +17,7 @@ from resetd_client import BadWords, Member, Orders, Port, ResetdError, Unreadabl
 
 PACKAGE = os.path.join(ROOT, "client", "resetd_client")
 INNER = {"Stopped", "NotSpelled", "NotCompared"}  # which the library catches itself
-SAYING = ("address", "answers", "errors", "limits", "orders", "port", "topology", "watching")  # each says what it raises
+SAYING = ("address", "answers", "errors", "limits", "orders", "port", "topology", "watching")  # each documents its exceptions
 
 
 def exceptions() -> Iterator[type[BaseException]]:

@@ -1,4 +1,4 @@
-"""The examples, by their words alone: what they do, tools/test_services tries."""
+"""The command lines of the examples; tools/test_services tries what they do."""
 
 from __future__ import annotations
 

@@ -59,7 +59,7 @@ class Alike(unittest.TestCase):
         self.addCleanup(self.real.close)
 
     def compare(self, text: bytes) -> dict[str, Any]:
-        """Both answers, but for the numbers of steps: the program's resets take steps of their own."""
+        """Both answers, except the numbers of steps: the program's resets take further steps."""
         told: list[dict[str, Any]] = [json.loads(self.fake.respond(text)), json.loads(self.real.respond(text))]
         for answer in told:
             answer.pop("step", None)

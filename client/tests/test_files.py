@@ -67,7 +67,7 @@ class Kept(unittest.TestCase):
         self.assertEqual([call[:2] for call in calls[2:]], [("sync", os.path.dirname(self.path))])
 
     def test_a_link_in_the_place_of_the_new_text(self) -> None:
-        """A link is not followed: what it leads to stays as it is."""
+        """A link is not followed: its target stays unchanged."""
         with open(f"{self.path}.other", "w", encoding="utf-8") as file:
             file.write("other")
         os.symlink(f"{self.path}.other", f"{self.path}.new")

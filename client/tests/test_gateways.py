@@ -63,7 +63,7 @@ class Seats(unittest.TestCase):
         self.assertEqual(self.served.wanted(), 3)
 
     def test_it_is_told_in_one_write(self) -> None:
-        """And in none where nothing is new."""
+        """And none if nothing is new."""
         with mock.patch("os.replace", side_effect=os.replace) as replaced, mock.patch("os.fsync") as synced:
             for _ in range(3):
                 self.tell("1 1", f" a-b {boot_name()}")
@@ -116,7 +116,8 @@ class Seats(unittest.TestCase):
             self.assertEqual((self.served.wanted(), self.seat.has_begun(f"1 {number}\n"), self.seat.number), (None, True, number))
 
     def test_a_tag_is_that_of_the_start(self) -> None:
-        """Of what the member has begun, and not of what it has to begin or has lost; in this boot, and of a line that is whole."""
+        """Of the epoch that the member has begun, not of one that it has to begin or has lost; in this boot, and of a whole
+        line."""
         self.begin("1 1")
         self.tell("1 1", f" a-b {boot_name()}")
         self.assertEqual(self.served.tag(), "a-b")
@@ -131,8 +132,8 @@ class Seats(unittest.TestCase):
         self.assertIsNone(self.served.tag())
 
     def test_a_power_cut_before_begun(self) -> None:
-        """The work is on the disk, `begun` is not yet, and what was told is as it was. The new work may not talk in the run of the
-        old one."""
+        """The work is on the disk, `begun` is not yet, and the instruction is unchanged. The new work may not talk in the run of
+        the old one."""
         self.begin("1 1")
         self.tell("1 1", f" a-b {boot_name()}")
         before = read(f"{self.folder}/told/members") or ""
@@ -144,7 +145,7 @@ class Seats(unittest.TestCase):
             self.assertEqual((again.wanted(), again.tag()), (None, None))
 
     def test_a_power_cut_after_begun(self) -> None:
-        """An old text of what was told asks for nothing, and is no run of the new start; a torn one neither."""
+        """An old text of the instructions asks for nothing, and is not a run of the new start; a torn one is the same."""
         self.begin("1 1")
         self.tell("1 1", f" a-b {boot_name()}")
         old = read(f"{self.folder}/told/members") or ""
@@ -173,7 +174,7 @@ class Seats(unittest.TestCase):
         self.assertEqual(self.served.wanted(), 1)
 
     def test_what_an_earlier_gateway_left(self) -> None:
-        """It told each member in files of its own: they are taken away, and their number is the least."""
+        """It instructed each member in separate files: they are removed, and their number is the least."""
         for name, text in (("run", "1 tag 9 boot\n"), ("wanted", "1 9\n"), ("begun", "1 4\n")):
             self.write(f"1/{name}", text)
         with self.assertLogs("resetd_client", "WARNING") as told:
@@ -210,7 +211,7 @@ class Gateways(Case):
         return epoch
 
     def told_to(self, node: int) -> str:
-        """What the member is told."""
+        """The instruction to the member."""
         lines = (read(f"{self.folder}/members/told/members") or "").splitlines()
         return next(line.partition(" ")[2] for line in lines if line.startswith(f"{node} "))
 
@@ -264,14 +265,14 @@ class Gateways(Case):
         self.assertEqual(self.all_begin(), [None, None, None])
 
     def test_a_gateway_that_starts_again_goes_on(self) -> None:
-        """In the run of before: what it kept is what its members have begun."""
+        """In the run of before: its stored state is the one that its members have begun."""
         self.all_begin()
         tags = self.tags()
         self.gateway = self.restarted()
         self.assertEqual((self.all_begin(), self.tags(), None in tags), ([None] * 3, tags, False))
 
     def test_what_it_tells_goes_down_once_for_all(self) -> None:
-        """A begin, what was begun, and a first talk: as many syncs for three members as for one."""
+        """A begin, its confirmation, and a first talk: as many syncs for three members as for one."""
         counts: list[int] = []
         sync = os.fsync
 
@@ -293,7 +294,7 @@ class Gateways(Case):
         self.assertEqual((counts, len(self.tags()), None in self.tags()), ([2, 1, 0], 1, False))
 
     def test_what_is_begun_while_it_looks(self) -> None:
-        """What is begun is kept before it is confirmed."""
+        """A begun epoch is stored before it is confirmed."""
         tell, confirm = self.gateway._tell_members, self.gateway._confirm
 
         def tell_and_begin(*words: Any) -> None:
@@ -311,7 +312,7 @@ class Gateways(Case):
         self.assertEqual(self.rows(), [(1, 1)] * 3)
 
     def test_what_somebody_else_confirms(self) -> None:
-        """Is a run, if its members have begun it; and what was told before is not told for the same epoch again."""
+        """It is a run, if its members have begun it; and no instruction is repeated for the same epoch."""
         self.look()
         for node in (1, 2, 3):
             self.begin(node)
@@ -338,7 +339,7 @@ class Gateways(Case):
         self.assertTrue(self.told_to(1).startswith("3 3 "))
 
     def test_a_file_of_an_earlier_version(self) -> None:
-        """All begin anew, after one reset, and what members had begun is not taken for it."""
+        """All begin again, after one reset, and earlier begins of members do not count for it."""
         self.all_begin()
         self.book.close()
         party = sorted(self.port.show().party(1))
@@ -376,7 +377,7 @@ class Gateways(Case):
         self.assertEqual(self.told_to(1), f"2 2 - {boot_name()}")
 
     def test_a_run_ends_where_somebody_comes(self) -> None:
-        """Before any member is told to begin anew."""
+        """Before any member is instructed to begin."""
         self.all_begin()
         self.server.by_somebody("add", node=9, group=1)
         self.server.by_somebody("join", a=3, b=9)
@@ -385,7 +386,7 @@ class Gateways(Case):
         self.assertEqual(self.tags(), {None})
 
     def test_what_a_member_writes_brings_a_look(self) -> None:
-        """At once what it has begun, and soon what it has refused; what the gateway writes brings none."""
+        """At once when it has begun, and soon when it has rejected a tag; the gateway's own writes wake nobody."""
         self.look()
         self.assertEqual(self.gateway._sooner(7.0), math.inf)
         self.begin(1)
@@ -436,7 +437,7 @@ class Gateways(Case):
 
     @in_memory
     def test_it_looks_again_after_it_asked_for_a_reset(self) -> None:
-        """So its members are told the new epoch by the same look."""
+        """So its members are instructed to begin the new epoch by the same look."""
         self.gateway.look()
         self.assertEqual([self.begin(node) for node in (1, 2, 3)], [1] * 3)
 
@@ -573,7 +574,7 @@ class AtAFront(Case):
         self.expect(lambda: len({each.tag() for each in served}) == 1 and served[0].tag() is not None)
 
     def test_resets(self) -> None:
-        """Its members are confirmed together, and what they write brings no look at the server: the front pushes each change."""
+        """Its members are confirmed together, and their files cause no look at the server: the front pushes each change."""
         self.begin_all(1)
         shows = [request for request in self.server.seen if request["op"] == "show"]
         for epoch in (2, 3):
@@ -585,7 +586,7 @@ class AtAFront(Case):
         self.assertFalse(os.path.exists(f"{self.folder}/members/order.json"))
 
     def test_syncs_of_a_reset(self) -> None:
-        """Two where it tells what to begin, and one of the history; it tells all members in two writes."""
+        """Two for the instructions to begin, and one of the history; all members are instructed in two writes."""
         self.begin_all(1)
         synced = list[int]()
         with mock.patch("os.fsync", side_effect=synced.append), mock.patch("os.fdatasync", side_effect=synced.append):

@@ -77,7 +77,7 @@ class Watching(Case):
 
     def expect(self, folder: str, looks: list[tuple[float, int, int, int, list[str]]]) -> None:
         """Looks at a row of two nodes, the first in a reset: each with its time, the steps accepted and settled, the second
-        node's epoch, and what is told."""
+        node's epoch, and the expected findings."""
         for now, accepted, settled, epoch, told in looks:
             rows = [[1, 1, "abort", 2, 0, 0], [2, 1, "ready", 0, epoch, epoch]]
             since = Since(f"{self.folder}/{folder}", now)
@@ -92,19 +92,20 @@ class Watching(Case):
                               (30, 10, 9, 0, [])])
 
     def test_a_wave_that_moves_with_its_flights_is_not_still(self) -> None:
-        """While steps wait, the disk is told and no wave; nor is one told whose look fell between two flights."""
+        """While steps wait, the disk is reported and no wave; a wave whose look fell between two flights is not reported
+        either."""
         self.expect("since", [(0, 9, 7, 0, []), (6, 9, 7, 0, ["2 steps have waited for the disk for 6 s"]), (7, 11, 9, 0, []),
                               (13, 12, 11, 0, []), (20, 12, 12, 0, []), (21, 13, 12, 0, []), (25.5, 13, 13, 0, []),
                               (30, 13, 13, 1, []), (34, 13, 13, 1, [])])
 
     def test_a_wave_that_stands_still(self) -> None:
-        """Where nothing waits; or where very many steps were settled meanwhile, those of the wave among them."""
+        """If nothing waits; or if very many steps were settled meanwhile, those of the wave among them."""
         told = "a wave has stood still at node 1 (abort) for {} s: resend"
         self.expect("idle", [(0, 9, 9, 0, []), (6, 9, 9, 0, [told.format(6)]), (7, 30, 30, 0, [told.format(7)])])
         self.expect("busy", [(0, 9, 8, 0, []), (1, 1_000, 999, 0, []), (2, 1_040, 1_039, 0, []), (5, 1_050, 1_040, 0, [told.format(5)])])
 
     def test_what_was_seen_in_another_boot_is_forgotten(self) -> None:
-        """The clock of ages begins anew with the machine."""
+        """The clock of ages restarts with the machine."""
         for boot, now, lasted in (("one", 10, 0), ("one", 30, 20), ("two", 50, 0), ("two", 60, 10)):
             since = Since(f"{self.folder}/since", now, boot)
             self.assertEqual(since.seconds("thing"), lasted)
@@ -140,7 +141,7 @@ class Watching(Case):
 
 
 class Lagging(Case):
-    """The file of signals beside what is shown."""
+    """The file of signals beside the view."""
 
     def setUp(self) -> None:
         super().setUp()

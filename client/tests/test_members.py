@@ -50,7 +50,7 @@ class MemberCase(Case):
 
 class Members(MemberCase):
     def test_runs_of_two_epochs_are_two(self) -> None:
-        """Also where neither has a tag."""
+        """Also if both have no tag."""
         self.assertTrue(is_one_run(Run(1, ""), Run(1, "")))
         self.assertFalse(is_one_run(Run(1, ""), Run(2, "")))
 
@@ -326,7 +326,7 @@ class Refusals(MemberCase):
         self.assertEqual(self.begun, [1])
 
     def test_who_is_alone_takes_no_message(self) -> None:
-        """Nor one of a member that is alone, too."""
+        """And one of a member that is alone, too."""
         self.server.by_somebody("drop", a=1, b=2)
         member = self.member()
         self.look(member)
@@ -337,7 +337,7 @@ class Refusals(MemberCase):
             self.assertEqual(run.tag, "")
 
     def test_two_that_refuse_each_other_ask_for_a_reset(self) -> None:
-        """If the same is shown to both: so neither is merely behind."""
+        """If the same is shown to both: so both are up to date."""
         member = self.in_a_run()
         for same, begun in ((False, [1]), (True, [1, 2])):
             self.refuse(member, self.other(member, same))
@@ -345,7 +345,8 @@ class Refusals(MemberCase):
             self.assertEqual(self.begun, begun)
 
     def test_a_resource_that_was_taken_by_its_own_group(self) -> None:
-        """One reset is asked for, and none if those who took it are not connected with the member, or it may not talk any more."""
+        """One reset is asked for, and none if the members that took it are not connected with this one, or it may no longer
+        talk."""
         member = self.in_a_run()
         for takers, begun in (({7, 9}, [1]), ({2, 9}, [1, 2]), ({2, 9}, [1, 2])):
             member.note_overtaken(takers)
@@ -372,7 +373,7 @@ class Refusals(MemberCase):
 
 
 class Lives(MemberCase):
-    """A member that follows in a thread of its own."""
+    """A member that follows in its own thread."""
 
     def expect(self, holds: Callable[[], bool]) -> None:
         until = time.monotonic() + 60
@@ -498,7 +499,7 @@ class Runs(MemberCase):
         self.assertEqual(self.begun, [1, 2])
 
     def test_a_begin_is_written_down_before_work_is_dropped(self) -> None:
-        """With nobody to talk with yet: so a death in its midst is known of."""
+        """With nobody to talk with yet: so a death during it is detected."""
         kept: list[str | None] = []
         orders = self.orders()
         member = Member(self.port, orders, 1, None, lambda epoch: kept.append(read(f"{orders.folder}/start-1.json")),

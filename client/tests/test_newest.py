@@ -31,7 +31,7 @@ class Takes(unittest.TestCase):
         self.assertRaises(Past, newest.take, NEW, view(19))
 
     def test_one_address_may_go_back(self) -> None:
-        """Its store was put back; another one is judged by what it shows now."""
+        """Its store was put back; another one is now compared with its view."""
         newest = Newest()
         for steps in (20, 5):
             newest.take(NEW, view(steps))

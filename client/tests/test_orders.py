@@ -184,7 +184,7 @@ class Numbers(Case):
         self.assertEqual(caught.exception.name, "Exhausted")
 
     def test_a_count_that_is_lost_again_and_again(self) -> None:
-        """As where others order as the same client: it is looked for three times, and then that is told."""
+        """As if others order as the same client: it is looked for three times, and then that is reported."""
         orders = self.orders(recovers=True)
         orders.order("reset", node=1)
         with mock.patch.object(orders, "_send", side_effect=CountLost(4, "OutOfTurn")) as send, \
@@ -271,7 +271,7 @@ class Together(Case):
         self.assertEqual([type(outcome) for outcome in outcomes], [*[Reply] * 58, Refused])
         self.assertEqual((self.nodes(), self.server.last(2)), (list(range(1, 60)), 58))
         flights = [batch for batch in read_store(self.server.store).batches if accepted < batch.first <= accepted + 58]
-        self.assertLess(len(flights), 12)  # the first order has one of its own, and the others come in together
+        self.assertLess(len(flights), 12)  # the first order has one, and the others arrive together
 
     def test_more_than_one_part(self) -> None:
         pairs = [(3, 4), *[(a, b) for a in range(1, 13) for b in range(a + 1, 13)]]
@@ -297,7 +297,7 @@ class Together(Case):
         self.assertEqual((self.nodes(), self.book.number, self.book.unanswered), ([1, 2, 3, 4], 2, []))
 
     def test_a_connection_that_is_lost_at_any_line(self) -> None:
-        """An answer is lost at one line, and at another one of what is sent again; the orders are carried out once."""
+        """An answer is lost at one line, and at another one of the repeated lines; the orders are carried out once."""
         self.book.order("reset", node=1)
         fresh = iter(range(3, 64))
         for fault in ("mute", "lose", STOPPED, '{"fault":"OutOfMemory"}'):

@@ -110,7 +110,7 @@ class Strange(unittest.TestCase):
             raise each
 
     def test_one_that_is_silent_and_one_that_leaves(self) -> None:
-        """The two are told apart, since another client may keep the one connection of a server."""
+        """The two are distinguished, since another client may keep the one connection of a server."""
         ended = threading.Event()
         self.addCleanup(ended.set)
 
@@ -132,7 +132,7 @@ class Strange(unittest.TestCase):
 
 class Patience(unittest.TestCase):
     def test_waits_grow_up_to_a_bound(self) -> None:
-        """And whoever is told hears of it once."""
+        """And each receiver gets the message once."""
         waits: list[float] = []
         told: list[Away] = []
 

@@ -83,7 +83,7 @@ class Report(Case):
             self.assertEqual(file.read(), before)
 
     def test_a_server_that_is_down_and_a_store_that_does_not_read(self) -> None:
-        """What can't be found says why, and what is left of the store is there."""
+        """A part that can't be found says why, and the rest of the store is there."""
         self.server.end()
         with open(self.store, "wb") as file:
             file.write(APPENDED[:50])

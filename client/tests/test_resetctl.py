@@ -174,9 +174,9 @@ class Controls(Case):
         self.server.faults = ["<!DOCTYPE HTML>"] * 3
         for words in (["show"], ["reset", "1"]):
             status, _, told = self.run_words(*words)
-            self.assertEqual((status, told), (1, f"resetctl: {self.server.address} is no coordinator: it said "
+            self.assertEqual((status, told), (1, f"resetctl: {self.server.address} is not a coordinator: it said "
                                                  "'<!DOCTYPE HTML>'\n"))
-        self.assertEqual(self.run_words("health")[:2], (3, f"resetd UNKNOWN: {self.server.address} is no coordinator: it said "
+        self.assertEqual(self.run_words("health")[:2], (3, f"resetd UNKNOWN: {self.server.address} is not a coordinator: it said "
                                                            "'<!DOCTYPE HTML>'\n"))
 
     def test_files_that_cannot_be_used(self) -> None:
@@ -209,7 +209,7 @@ class Controls(Case):
         with open(path, "w", encoding="utf-8") as file:
             file.write("".join(f"[[node]]\nid = {n}\ngroup = 1\n" for n in (1, 2, 3, 4)))
         self.run_words("reset", "1")
-        for before in (1, 2):  # show; what had no answer, and show
+        for before in (1, 2):  # show; the order without an answer, and show
             self.server.faults = [*[""] * before, "mute"]
             self.assertEqual(self.run_words("apply", path)[0], 3)
         status, _, told = self.run_words("apply", path)

@@ -1,4 +1,5 @@
-"""The rule of a member, by its table: what is kept and shown, and what is due and to be kept. Nothing is read or written."""
+"""The rule of a member, by its table: stored and shown values, the due action, and the values to store. Nothing is read or
+written."""
 
 from __future__ import annotations
 
@@ -13,14 +14,14 @@ from resetd_client.rule import Judged, Kept, judge, shown_to
 
 
 def view_of(*rows: tuple[int, int, int]) -> View:
-    """A view of nodes, each with its epoch and what is confirmed, in a row of links of steps 1 and so on."""
+    """A view of nodes, each with its epoch and confirmed epoch, in a row of links of steps 1 and so on."""
     nodes = tuple(Node(node, 1, "ready", 0, epoch, confirmed) for node, epoch, confirmed in rows)
     return View.of({"accepted": 9, "settled": 9, "nodes": nodes,
                     "links": [[a.node, b.node, step] for step, (a, b) in enumerate(zip(nodes, nodes[1:]), 1)]})
 
 
 def judged(view: View, kept: Kept = Kept(), history: Container[str] = ()) -> Judged:
-    """What is due for node 1."""
+    """The due action for node 1."""
     row = view.node(1)
     assert row
     return judge(kept, history, shown_to(view, row))

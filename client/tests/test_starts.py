@@ -1,4 +1,4 @@
-"""What is kept of a member's starts on the disk, and what a power cut leaves of it."""
+"""The stored state of a member's starts, and what a power cut leaves of it."""
 
 from __future__ import annotations
 
@@ -101,7 +101,7 @@ class Kept(Case):
             self.assertRaises(Unreadable, Shelf, self.path)
 
     def test_nothing_is_written_where_nothing_is_due(self) -> None:
-        """A start waits: what is kept stays as it is, though its work is gone meanwhile."""
+        """A start waits: the stored state is unchanged, though its work is gone meanwhile."""
         self.begun(4)
         before = read(self.path)
         shelf = Shelf(self.path)
@@ -135,7 +135,7 @@ class Kept(Case):
         self.assertEqual(self.due(Starts(Shelf(f"{self.folder}/none.json"), 1, 4), THROUGH), Due.RESET)
 
     def test_what_a_gateway_tells_again_is_written(self) -> None:
-        """Also where nothing else changes."""
+        """Also if nothing else changes."""
         shelf = Shelf(self.path)
         for told in ("1 1\n", "1 2\n"):
             Starts(shelf, 1, None).note_begin(told)
@@ -203,7 +203,7 @@ class Cuts(Case):
         self.assertIn((False, True), outcomes)
 
     def test_a_line_that_was_torn(self) -> None:
-        """A torn line is passed over, and the next one takes its place; a whole one that does not read is told."""
+        """A torn line is skipped, and the next one takes its place; a whole one that does not read is reported."""
         path = f"{self.folder}/a.history"
         lines = [digest_of(frozenset({str(place)})) for place in range(3)]
         for torn in ("", lines[1][:20], lines[1], "\0" * 200):
@@ -238,7 +238,7 @@ class Cuts(Case):
 
 
 class Fences(Case):
-    """What a database is told of a start."""
+    """The fence of a start."""
 
     def begun(self) -> Starts:
         starts = Starts(Shelf(self.path), 1, None)
@@ -246,7 +246,8 @@ class Fences(Case):
         return starts
 
     def test_it_is_of_the_look_in_which_the_party_was_fixed(self) -> None:
-        """Not of later looks, nor after a new process; and one name for all members of a run, by the group's word."""
+        """It does not depend on later looks, or on a new process; and there is one name for all members of a run, by the group's
+        word."""
         starts = self.begun()
         self.assertIsNone(starts.fence())
         self.due(starts, THROUGH)
@@ -328,7 +329,7 @@ class Versions(Case):
             Shelf(self.path)
 
     def test_what_was_read_is_synced_before_it_counts(self) -> None:
-        """Both files and the folder, also where a file is not there: it may have been removed and come back."""
+        """Both files and the folder, also if a file does not exist: it may have been removed and come back."""
         both: tuple[list[str], ...] = ([], ["start.json", "start.history"])
         for names in both:
             for name in names:
@@ -346,10 +347,10 @@ class Versions(Case):
 
 
 class Written(Case):
-    """What is synced, and what is only written."""
+    """Which files are synced, and which are only written."""
 
     def test_nothing_begun_is_on_the_disk_where_it_has_to_be(self) -> None:
-        """Also where it was written before, and not synced."""
+        """Also if it was written before, and not synced."""
         shelf = Shelf(self.path)
         starts = Starts(shelf, 1, None)
         starts.note_begun(4)
@@ -448,7 +449,7 @@ class Earlier(Case):
         self.assertEqual([self.due(self.of(4, THROUGH), other), self.due(self.of(3, THROUGH), other)], [Due.RESET, Due.BEGIN])
 
     def test_its_party_does_not_come_again(self) -> None:
-        """Nor by another start of this version."""
+        """And by no other start of this version."""
         for starts in (self.of(3, THROUGH), Starts(Shelf(self.path), 1, None)):
             self.assertEqual(self.due(starts, UNCONFIRMED), Due.RESET)
 

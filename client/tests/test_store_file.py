@@ -171,7 +171,7 @@ def served_stores() -> list[bytes]:
 
 
 def use(store: str, orders: int) -> None:
-    """Has resets made at a store, and ends the server in the midst of one."""
+    """Asks for resets at a store, and ends the server during one."""
     from resetd_client import Port
     with subprocess.Popen([PROGRAM, "serve", store, "127.0.0.1:0"], stdout=subprocess.PIPE, encoding="utf-8") as server:
         assert server.stdout

@@ -36,7 +36,7 @@ class Threads(Case):
         self.book.recover()
 
     def in_threads(self, *calls: Callable[[], object]) -> None:
-        """Makes calls at once, each in a thread of its own, and raises what one of them raised."""
+        """Makes calls at once, each in its own thread, and raises an exception of one of them."""
         raised: list[BaseException] = []
 
         def caller(call: Callable[[], object]) -> None:

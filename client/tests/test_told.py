@@ -15,7 +15,7 @@ from resetd_client import Away, Orders
 
 class Told(Case):
     def overtaken(self, orders: Orders) -> None:
-        """Has an order refused that had no answer, which a person is told of."""
+        """Has an order refused that had no answer, which is reported to a person."""
         self.server.faults = ["lose"]
         self.assertRaises(Away, orders.order, "remove", node=2)
         orders.order("reset", node=1)

@@ -93,7 +93,7 @@ class Topologies(unittest.TestCase):
 
     @unittest.skipUnless(PROGRAM, "RESETD names no program")
     def test_faults_have_the_names_that_init_has(self) -> None:
-        """Keys are judged before values, values before what is made of them, and each in the order of the file."""
+        """Keys are checked before values, values before the rows, and each in the order of the file."""
         one, two = "[[node]]\nid = 1\ngroup = 1\n", "[[node]]\nid = 2\ngroup = 2\n"
         link = "[[link]]\na = {}\nb = {}\n".format
         texts = (

@@ -1,4 +1,4 @@
-"""What is shipped for a person on call beside the program: units, the rotation of the file of signals, alert rules."""
+"""The files for a person on call beside the program: units, the rotation of the file of signals, alert rules."""
 
 from __future__ import annotations
 
@@ -51,7 +51,7 @@ class Units(unittest.TestCase):
         self.folder = temporary.name
 
     def unit(self, name: str) -> configparser.ConfigParser:
-        """A unit; of a setting that stands there several times, the last one."""
+        """A unit; of a setting that occurs several times, the last one."""
         parser = configparser.ConfigParser(strict=False, interpolation=None, comment_prefixes=("#",))
         parser.optionxform = str  # type: ignore[assignment]
         parser.read_string(shipped(name).replace("\\\n", " "))
@@ -68,7 +68,7 @@ class Units(unittest.TestCase):
         self.assertTrue(self.unit("resetd-alert@.service")["Service"]["ExecStart"])
 
     def test_three_units_share_a_network_that_nobody_else_has(self) -> None:
-        """Each names the two others: a network goes by the name of the unit that began it."""
+        """Each names the two others: a network is named after the unit that began it."""
         names = {"resetd.service", "resetd-front.service", "resetd-health.service"}
         for name in names:
             unit = self.unit(name)
@@ -106,7 +106,7 @@ class Units(unittest.TestCase):
 
     @unittest.skipUnless(shutil.which("logrotate"), "logrotate is not installed: nothing is rotated")
     def test_the_file_of_signals_is_rotated(self) -> None:
-        """In place, as the server keeps it open; the lines stand in the file before."""
+        """In place, as the server keeps it open; the lines are in the file before."""
         signals = os.path.join(self.folder, "signals")
         with open(os.path.join(self.folder, "conf"), "w", encoding="utf-8") as file:
             file.write(shipped("resetd.logrotate").replace("/var/log/resetd/signals", signals).replace("su resetd resetd\n", "\n"))
@@ -128,7 +128,7 @@ class Units(unittest.TestCase):
 
     @unittest.skipUnless(shutil.which("logrotate"), "logrotate is not installed: nothing is rotated")
     def test_the_audit_is_rotated(self) -> None:
-        """By its name, as the front opens it anew when it is told."""
+        """By its name, as the front opens it again when it is signalled."""
         audit, told = (os.path.join(self.folder, name) for name in ("audit", "told"))
         text = shipped("resetd.logrotate").replace("/var/log/resetd-front/audit", audit).replace("su resetd resetd\n", "\n")
         with open(os.path.join(self.folder, "conf"), "w", encoding="utf-8") as file:

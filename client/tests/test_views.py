@@ -58,7 +58,7 @@ class Parts(unittest.TestCase):
             self.assertEqual((view.part(64 if 64 not in nodes else 99), view.party(99)), (Part(), frozenset()))
 
     def test_many_members_ask_a_view_once(self) -> None:
-        """What is due at each of 64 nodes costs the calls of a few, since what is the same for all is found once."""
+        """The due actions at 64 nodes cost the calls of a few, since the common parts are computed once."""
         links = tuple(Link(node, (node + far - 1) % 64 + 1, far) for node in range(1, 65) for far in (1, 2))
         view = View(9, 9, tuple(Node(node, 1, "ready", 0, 2, 2) for node in range(1, 65)), links)
         calls = 0

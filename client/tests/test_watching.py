@@ -1,4 +1,4 @@
-"""Told by a front, in place of looking again and again."""
+"""Watching through a front, instead of polling."""
 
 from __future__ import annotations
 
@@ -135,7 +135,7 @@ class Told(Case):
         self.assertFalse(following.is_alive())
 
     def test_resetctl_watch(self) -> None:
-        """A member looks when the front tells of a change, and not by itself."""
+        """A member looks when the front reports a change, and not at intervals."""
         pictures: list[str] = []
 
         def note(picture: list[str]) -> None:

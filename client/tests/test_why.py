@@ -1,4 +1,4 @@
-"""`resetctl why`: what stands after one word of a start."""
+"""`resetctl why`: the cause of each fault at a start."""
 
 from __future__ import annotations
 
@@ -49,7 +49,7 @@ class Files(Case):
     def test_a_store(self) -> None:
         for data, count, index, used in ((APPENDED, 1, 0, 45), (CHECKPOINTED, 0, 1, 17)):
             status, lines = self.why(self.put(data))
-            self.assertEqual((status, lines[-1]), (0, "nothing seen here stands in the way of a start"))
+            self.assertEqual((status, lines[-1]), (0, "nothing found here prevents a start"))
             self.assertIn(f"store    half {index} is read; {used} of its 32,768 bytes are in use", lines)
             self.assertTrue(any(line.startswith(f"store    version 1, {count} steps: 0 in the snapshot") for line in lines))
             self.assertRegex(lines[1], rf"^file     a file of {len(data):,} bytes, -rw-r----- \S+:\S+$")
@@ -59,7 +59,7 @@ class Files(Case):
         for data, told in ((b"", "NoMagic: at byte 0, no store begins so: the file is empty"),
                            (APPENDED[:50], "BadRecord: at byte 38, a body of 23 bytes with its gate runs past the end"),
                            (FRESH[:17] + b"\3" + FRESH[18:], "BadSnapshot: at byte 17, version 3 is not known"),
-                           (APPENDED[:48] + b"\7" + APPENDED[49:], "BadBatch: at byte 48, batch 0 is no batch (BadByte)")):
+                           (APPENDED[:48] + b"\7" + APPENDED[49:], "BadBatch: at byte 48, batch 0 is not a batch (BadByte)")):
             status, lines = self.why(self.put(data))
             name = told.split(":")[0]
             self.assertEqual((status, lines[-1]), (1, f"a start now would end with {name}: store: does not read: {told}"))
@@ -98,7 +98,7 @@ class Files(Case):
 
     @unittest.skipUnless(os.geteuid() == 0, "needs root: it acts as another user")
     def test_the_user_of_the_server(self) -> None:
-        """Root sees what that user meets: by default the one who owns the folder."""
+        """Root sees the faults of that user: by default the owner of the folder."""
         self.move_to_all()
         store = self.put(FRESH)
         os.chmod(store, 0o600)
@@ -111,14 +111,14 @@ class Files(Case):
         self.assertEqual(self.why(store)[1][-1][:len(refused)], refused)
         os.chown(store, nobody.pw_uid, -1)
         status, lines = self.why(store)
-        self.assertEqual((status, lines[-1]), (0, "nothing seen here stands in the way of a start"))
+        self.assertEqual((status, lines[-1]), (0, "nothing found here prevents a start"))
         self.assertTrue(any("the user nobody may open it and its folder, and a sync of both took" in line for line in lines), lines)
         os.chmod(self.folder, 0o300)
         self.assertIn("access: the user nobody can't open its folder: Permission denied", self.why(store)[1][-1])
 
     @unittest.skipUnless(os.geteuid() == 0, "needs root: it acts as another user")
     def test_a_folder_of_a_lost_machine(self) -> None:
-        """Its owner has no name here, and is told so; who may open the file as that number, may."""
+        """Its owner has no name here, which is reported; whoever may open the file as that number, may."""
         self.move_to_all()
         store = self.put(FRESH)
         for path in (store, self.folder):
@@ -129,11 +129,11 @@ class Files(Case):
         self.assertEqual(self.why("--user", "nobody", store)[0], 1)
 
     def test_who_can_not_try(self) -> None:
-        """Only root can act as another user. What was not tried is not told as if it were well."""
+        """Only root can act as another user. An untried check is not reported as passed."""
         store = self.put(FRESH)
         with mock.patch("resetd_client.access.os.geteuid", return_value=12_345):
             status, lines = self.why("--user", "54321", store)
-        self.assertEqual((status, lines[-1]), (0, "nothing seen here stands in the way of a start; whether 54321 may open it is not known"))
+        self.assertEqual((status, lines[-1]), (0, "nothing found here prevents a start; whether 54321 may open it is not known"))
 
     def test_a_disk_that_hangs(self) -> None:
         """A sync that does not come back holds nothing up here."""
@@ -249,7 +249,7 @@ class Connections(unittest.TestCase):
 @unittest.skipUnless(PROGRAM, "RESETD names no program to compare with")
 @unittest.skipUnless(PROGRAM and os.getuid() == 0 and shutil.which("unshare") and shutil.which("ip"), "it needs root, unshare and ip")
 class Networks(unittest.TestCase):
-    """A server in a network of its own, as its unit has it."""
+    """A server in a private network, as its unit has it."""
 
     def test_it_is_looked_at_in_there(self) -> None:
         with tempfile.TemporaryDirectory() as folder:
@@ -263,7 +263,7 @@ class Networks(unittest.TestCase):
                 why = subprocess.run([sys.executable, f"{ROOT}/client/resetctl", "why", store, "127.0.0.1:4170"],
                                      stdout=subprocess.PIPE, encoding="utf-8", check=False)
                 server.kill()
-            self.assertIn(f"process {server.pid} has a network of its own: the address is looked at in there", why.stdout)
+            self.assertIn(f"process {server.pid} has a private network: the address is checked inside it", why.stdout)
             self.assertIn(f"a start now would end with Device: lock: held by process {server.pid} (", why.stdout)
             self.assertIn("a coordinator with 0 nodes and 0 steps on the disk", why.stdout)
 
@@ -279,7 +279,7 @@ class BesideTheProgram(Case):
         return told[0].split()[6].rstrip(":") if told else ""
 
     def ended(self, path: str, address: str) -> str:
-        """The word with which a start ends; nothing where it listens."""
+        """The fault with which a start ends; nothing if it listens."""
         with subprocess.Popen([PROGRAM, "serve", path, address], stdout=subprocess.PIPE, stderr=subprocess.PIPE,
                               encoding="utf-8") as process:
             assert process.stdout and process.stderr
@@ -318,7 +318,7 @@ class BesideTheProgram(Case):
         self.assertNotIn("that is not the store on this file", out)
 
     def test_which_program_it_runs(self) -> None:
-        """One that was replaced under a server is told."""
+        """One that was replaced under a server is reported."""
         assert isinstance(self.server, Real)
         program = f"{self.folder}/resetd"
         shutil.copy(PROGRAM, program)
@@ -362,7 +362,7 @@ class BesideTheProgram(Case):
         self.expect_the_reader_told(reader, os.open(f"{self.folder}/fifo", os.O_WRONLY))
 
     def expect_the_reader_told(self, reader: int, writer: int) -> None:
-        """The one who has the pipe is named, and once it is full that is the word of a server that runs."""
+        """The process that has the pipe is named, and once it is full that is the finding for a running server."""
         self.addCleanup(os.close, reader)
         fcntl.fcntl(writer, fcntl.F_SETPIPE_SZ, 4_096)
         assert isinstance(self.server, Real)

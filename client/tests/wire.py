@@ -12,9 +12,9 @@ SOMEBODY = 15  # the client of orders that a test has made by somebody else
 
 
 class Wire:
-    """Serves on a port of its own. `faults` are what it does with the next lines: `lose` (nothing of it happens, and
-    no answer comes), `mute` (it happens, and no answer comes), `` (nothing is wrong), or a text to be answered instead.
-    `seen` are the requests that came; `lines_each` is how many lines of one connection are answered."""
+    """Serves on its own port. `faults` say how the next lines fail: `lose` (nothing of it happens, and no answer comes), `mute`
+    (it happens, and no answer comes), `` (no fault), or a text to be answered instead. `seen` are the received requests;
+    `lines_each` is how many lines of one connection are answered."""
 
     def __init__(self) -> None:
         self.is_stopped, self.lines_each = False, 1 << 30

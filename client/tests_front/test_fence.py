@@ -1,4 +1,4 @@
-"""Eight workers share a database and are paused at random while their group goes on: after the fence no item is taken twice.
+"""Eight workers share a database and are paused at random while their group goes on: behind the fence no item is taken twice.
 
 PAUSES is how many pauses there are (6). PostgreSQL is Debian's server; python3-psycopg2 may be that of another Python here."""
 

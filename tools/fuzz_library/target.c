@@ -34,7 +34,7 @@ static int are_judged_alike(const struct resetd_judged *a, const struct resetd_j
          a->history_size == b->history_size;
 }
 
-/* A copy in memory of just that size: AddressSanitizer sees each byte that is read behind it. */
+/* A copy in memory of exactly that size: AddressSanitizer reports each read past its end. */
 static struct text copy(const uint8_t *bytes, size_t length) {
   struct text made = {malloc(length ? length : 1), length};
   EXPECT(made.bytes);
@@ -83,7 +83,8 @@ static void free_input(struct input *in) {
   free(in->tag.bytes);
 }
 
-/* A judgement into a room of this size, of which no byte behind it may be written. Its status, and the text if it is 0. */
+/* A judgement into a buffer of this size, past whose end no byte may be written. Its status, and the text if it is 0.
+   */
 static uint32_t judge(const struct input *in, const struct text *start, size_t room, struct resetd_judged *judged, struct text *given) {
   *given = (struct text){malloc(room ? room : 1), 0};
   EXPECT(given->bytes);
@@ -160,7 +161,7 @@ static void try_tag(const struct input *in) {
   resetd_are_parted(in->word.bytes, in->word.length, in->tag.bytes, in->tag.length);
 }
 
-/* Orders of any numbers, and then ones in which no order is in hand: what is refused leaves them as they were. */
+/* Orders of any numbers, and then ones in which no order is in hand: a refused order leaves the numbers unchanged. */
 static void try_orders(const struct input *in, struct resetd_orders orders) {
   uint8_t line[RESETD_MOST_LINE];
   size_t length = 0;

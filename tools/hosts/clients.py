@@ -15,7 +15,7 @@ if TYPE_CHECKING:
     from .network import Host
     from .records import Records
 
-# What is read of a line.
+# bytes of a line that are read
 Json = dict[str, Any]
 STOPPED, OLD_EPOCH = 1, 15
 TIMEOUT = 2  # seconds for one answer, before the next address is tried
@@ -50,8 +50,8 @@ def ask(host: Host, address: str, request: Json, seconds: float = TIMEOUT) -> Js
 
 
 class Site:
-    """Where the clients are, and the addresses that they try; the last one that served is tried first. A coordinator
-    that says Stopped is sent a close: it serves nobody, and keeps the lock of the file as long as it runs."""
+    """Where the clients are, and the addresses that they try; the last one that served is tried first. A coordinator that says
+    Stopped is sent a close: it serves nobody, and keeps the lock of the file while it runs."""
 
     def __init__(self, host: Host, keepers: list[Keeper]) -> None:
         self.host, self.keepers, self.present = host, keepers, keepers[0]
@@ -95,11 +95,11 @@ class Client:
         self.reply: Json | None = None
         self.unanswered: Json | None = None
         self.refused = ""
-        self.drops = 0  # every so many answers are dropped, to see that it is found
+        self.drops = 0  # one answer in this many is dropped, to see that it is found
 
     def order(self, op: str, seconds: float = 120, is_wanted: Callable[[], bool] = lambda: True,
               **members: int) -> Json | None:
-        """Carries out an order; where one still waits for its answer, that one. Its reply or its refusal."""
+        """Carries out an order; if one still waits for its answer, that one. Its reply or its refusal."""
         if self.unanswered is None:
             number = self.answered["number"] + 1 if self.answered else 1
             self.unanswered = {"op": op, "client": self.number, "number": number, **members}
@@ -112,7 +112,7 @@ class Client:
             self.note(order, reply, keeper)
         else:
             self.refused = f"{order} was answered {reply} by {keeper.host.name}, after {self.answered}: {self.reply}"
-        self.unanswered = None  # the last thing: without one, what was answered is noted
+        self.unanswered = None  # the last call: without one, the answer is noted
         return reply
 
     def note(self, order: Json, reply: Json, keeper: Keeper) -> None:
@@ -152,7 +152,7 @@ class Load:
                 reply = client.order("reset", is_wanted=lambda: self.is_on, node=choice.choice(self.members))
                 if reply is not None and "kind" not in reply:
                     raise Lost(client.refused)
-        except Exception as fault:  # told by `stop`
+        except Exception as fault:  # set by `stop`
             self.fault = fault
 
     def stop(self) -> None:

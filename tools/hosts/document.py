@@ -1,7 +1,7 @@
 """The words of docs/TAKEOVER.md, "To set it up", typed on three machines under systemd.
 
-Each block of words there stands below a line that says on which hosts they are typed. Packages are not installed
-again: the three machines have what this one has. What stands between the words and a takeover is tried after them.
+Each block of commands follows a line that says on which hosts they are typed. Packages are not installed again: the three
+machines have those of this one. The takeover that the commands prepare is tried after them.
 """
 
 import os
@@ -19,7 +19,7 @@ ON = {"each of the three hosts": (1, 2, 3), "host1": (1,), "host1 and host2": (1
 PORT = "127.0.0.1:4170"
 GROUPS = "groups"
 
-# A machine of its own: this one's files below a layer that keeps what is changed, and systemd as its first process.
+# A separate machine: this one's files below a layer that keeps the changes, and systemd as its first process.
 BOOT = r"""
 set -e
 hostname "$1"

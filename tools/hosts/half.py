@@ -11,9 +11,9 @@ from .trial import Trial, tell
 
 LOAD = 2  # seconds of orders upon the byte
 
-# Stands in the place of a coordinator and appends one order as docs/FORMATS.md says, with the file's lock: the body
-# behind the closed gate, and a sync; then the gate. Before the gate is opened it is written as it is, so that the
-# volume has noted already that a write is on its way, and it waits for a line.
+# Takes the place of a coordinator and appends one order as docs/FORMATS.md says, with the file's lock: the body after the closed
+# gate, and a sync; then the gate. Before the gate is opened it is written unchanged, so that the volume has noted already that a
+# write is in progress, and it waits for a line.
 APPEND = r"""
 import fcntl, json, os, struct, sys
 order = json.loads(sys.argv[2])

@@ -10,7 +10,7 @@ from .volume import MOUNT
 PORT, STORE, TURN, AGAIN = 4170, f"{MOUNT}/store", f"{MOUNT}/turn", 1
 REFUSED = "3 resetd: Device"
 
-# Only where the volume is mounted and has the file: `serve` would make an absent one.
+# Only if the volume is mounted and has the file: `serve` would create an absent one.
 KEEP = r"""
 store=$1 folder=$2 again=$3
 shift 3
@@ -25,8 +25,8 @@ while :; do
 done
 """
 
-# The file is written over itself before it is opened to be served, so that what is read of it is not one brick's
-# alone (docs/TAKEOVER.md, "Why the unit writes the file over itself"). No other host comes in between: it is not its turn.
+# The file is rewritten before it is opened to be served, so that the bytes that are read are not on one brick only
+# (docs/TAKEOVER.md, "Why the unit rewrites the file"). No other host comes in between: it is not its turn.
 TAKE_TURN = ["flock", "--no-fork", "--nonblock", "--conflict-exit-code", "3", TURN]
 REWRITE_AND_SERVE = r"""
 flock --nonblock "$1" dd if="$1" of="$1" bs=1M conv=notrunc,fsync status=none || exit 3
@@ -35,7 +35,7 @@ exec "$0" serve "$1" "$2"
 
 
 class Keeper:
-    """What it printed stands in files of its host, one list of lines over all its starts."""
+    """Its output is in files of its host, one list of lines over all its starts."""
 
     process: subprocess.Popen[bytes]
 

@@ -1,4 +1,4 @@
-"""Hosts of the trial: namespaces with a network, mounts, a name and processes of their own, joined by one switch.
+"""Hosts of the trial: namespaces with a separate network, mounts, name and processes, joined by one switch.
 
 All of it stands inside the namespaces that tools/takeover began, so that nothing is bound or mounted outside, and
 the end of its first process ends everything in it.
@@ -22,7 +22,7 @@ NEW_NETWORK = 0x40000000
 GET_FLAGS, SET_FLAGS, UP = 0x8913, 0x8914, 1
 SWITCH = "switch"
 
-# The first process of a host. What it starts from: its own folders in the place of the machine's, and an empty /run.
+# The first process of a host. It starts with its own folders in the place of the machine's, and an empty /run.
 BOOT = r"""
 set -e
 hostname "$1"
@@ -49,7 +49,7 @@ class Failed(Exception):
 
 
 def run(words: list[str], seconds: float = 60, is_checked: bool = True) -> tuple[int, str]:
-    """Runs a command to its end: its status, and what it printed."""
+    """Runs a command to its end: its status, and its output."""
     try:
         done = subprocess.run(words, stdin=subprocess.DEVNULL, stdout=subprocess.PIPE, stderr=subprocess.STDOUT,
                               encoding="utf-8", errors="replace", timeout=seconds, check=False)
@@ -85,7 +85,7 @@ class Host:
         self.boot_by(BOOT)
 
     def boot_by(self, script: str, *more: str, group: str | None = None) -> None:
-        """In a control group of its own, where one is named: systemd wants to be the only one in its group."""
+        """In a separate control group, if one is named: systemd wants to be the only one in its group."""
         words = ["sh", "-c", 'echo $$ > "$0/cgroup.procs"; exec "$@"', group] if group else []
         words += ["unshare", "--net", "--mount", "--pid", "--uts", "--ipc", "--cgroup", "--fork", "--kill-child",
                   "--mount-proc", "sh", "-c", script, "boot", self.name, self.folder, self.address,
@@ -140,7 +140,7 @@ class Host:
 
     @contextlib.contextmanager
     def network(self) -> Iterator[None]:
-        """Within it the thread that calls has this host's network: what it connects to, the host connects to."""
+        """Within it the calling thread has this host's network: its connections are the host's."""
         with open(f"/proc/{self.first}/ns/net", "rb") as there, \
                 open(f"/proc/self/task/{threading.get_native_id()}/ns/net", "rb") as back:
             enter(there)

@@ -1,4 +1,4 @@
-"""The parts of the trial: what is lost in each, and who goes on."""
+"""The parts of the trial: the loss in each, and who continues."""
 
 import time
 from collections.abc import Callable
@@ -9,7 +9,7 @@ from .keeper import Keeper, look_into
 from .network import Host, wait_for
 from .trial import QUICK, Trial, tell
 
-LATER = 2  # seconds of load before and after what is done to a host
+LATER = 2  # seconds of load before and after each loss
 RECONNECTED = 6  # seconds after which all hosts have found a brick again
 AWAY = 9  # seconds for which the host without a coordinator, or the majority, is away
 

@@ -1,4 +1,4 @@
-"""All that was answered and signalled over all hosts, and what has to hold of it."""
+"""All answers and signals over all hosts, and their invariants."""
 
 import threading
 import time
@@ -44,7 +44,7 @@ class Records:
         return max(self.steps, default=0)
 
     def first_answer(self, keeper: Keeper, since: float) -> float | None:
-        """When this keeper first answered an order after a moment; none where it did not."""
+        """When this keeper first answered an order after a moment; none if it did not."""
         with self.lock:
             return next((when for when, who in self.answers if who is keeper and when >= since), None)
 

@@ -1,4 +1,4 @@
-"""Small services, one for each member: at a signal each begins anew and confirms the epoch."""
+"""Small services, one for each member: at a signal each begins again and confirms the epoch."""
 
 import threading
 import time
@@ -28,7 +28,7 @@ class Service:
                 if time.monotonic() > self.looked + LOOK:
                     self.look()
                 time.sleep(0.02)
-        except Exception as fault:  # told by `stop`
+        except Exception as fault:  # set by `stop`
             self.fault = fault
 
     def follow(self, place: int, lines: list[str]) -> None:

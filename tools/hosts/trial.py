@@ -1,4 +1,4 @@
-"""The setting of the trial, and what has to hold after each of its parts."""
+"""The setting of the trial, and the checks after each of its parts."""
 
 import time
 
@@ -84,7 +84,7 @@ class Trial:
         keeper.start()
 
     def wait_takeover(self, keeper: Keeper, since: float) -> float:
-        """Waits until another host's coordinator has answered an order of the load: what it took."""
+        """Waits until another host's coordinator has answered an order of the load: the seconds that it took."""
         wait_for(f"an answer of {keeper.host.name}", 90,
                  lambda: self.load.fault or keeper.gave_up() or self.records.first_answer(keeper, since), 0.01)
         answered = self.records.first_answer(keeper, since)
@@ -132,7 +132,7 @@ class Trial:
              f"{took:.1f} s\n")
 
     def plant(self, keeper: Keeper) -> None:
-        """What is wrong on purpose, to see that it is found."""
+        """The planted faults, to see that they are found."""
         if self.planted == "other-brick":
             with open(f"{self.hosts[2].folder}/srv/brick/resetd/store", "r+b") as file:
                 file.seek(20)
@@ -151,8 +151,8 @@ class Trial:
         self.records.note_epochs({int(row[1]): int(row[5]) for row in rows})
 
     def end_old(self, keeper: Keeper, before: int, request: Json) -> str:
-        """An old coordinator, whose end is the one after so many, is asked: it has to refuse, and ends by `close` with
-        the fault of its device. Where a client of the load came to it first, and closed it, its end alone is seen."""
+        """An old coordinator, whose end is the one after this many, is queried: it must refuse, and ends by `close` with the
+        fault of its device. If a client of the load came to it first, and closed it, only its end is seen."""
         try:
             reply = ask(self.site.host, keeper.address, request, 30)
             if reply.get("name") != "Stopped":
@@ -174,8 +174,8 @@ class Trial:
         return sum(keeper.starts() for keeper in self.keepers)
 
     def hand_over(self) -> float:
-        """Ends the present coordinator in order, and waits for the next start, here or there: what it took. A
-        coordinator has the file open on the bricks that its host had when it opened it, so each has to have all."""
+        """Ends the present coordinator in order, and waits for the next start, here or there: the seconds that it took. A
+        coordinator has the file open on the bricks that its host had when it opened it, so each must have all."""
         for keeper in self.keepers:
             wait_for(f"{keeper.host.name}: all bricks", 30, lambda: self.volume.is_connected(keeper.host), 0.2)
         starts, begun, keeper = self.starts(), time.monotonic(), self.present
@@ -196,7 +196,7 @@ class Trial:
             self.hand_over()
 
     def tell_state(self) -> None:
-        """What stands where, at a loss."""
+        """The state of each host, at a loss."""
         print(f"orders: {[(client.answered, client.reply, client.unanswered) for client in self.clients]}")
         for keeper in self.keepers:
             print(f"{keeper.host.name}: {keeper.starts()} starts; ends: {' | '.join(keeper.ends()[-5:])}")

@@ -6,7 +6,7 @@ from .clients import Lost
 from .network import Failed, Host, wait_for
 
 NAME, BRICK, MOUNT = "resetd", "/srv/brick/resetd", "/srv/resetd"
-# Without direct I/O a host that served before reads what its own memory still has of the file, not what it is now.
+# Without direct I/O a host that served before reads the file's old pages from its own page cache.
 DIRECT, FRESH = "direct-io-mode=enable", "attribute-timeout=0,entry-timeout=0"
 STRICT_LOCKS = "client.strict-locks"
 
@@ -100,8 +100,8 @@ class Volume:
         host.run("kill", "-9", self.present_brick(host))
 
     def freeze_brick(self, host: Host) -> None:
-        """What comes to it is not looked at any more. Its threads stop once the first of them has got the signal, on
-        a busy machine some time later, so that is waited for."""
+        """Messages to it are no longer processed. Its threads stop once the first of them has got the signal, on a busy machine
+        some time later, so that is waited for."""
         number = self.present_brick(host)
         host.run("kill", "-STOP", number)
         wait_for(f"the brick of {host.name} to stop", 10, lambda: self.is_frozen(host, number), 0.01)
@@ -130,8 +130,8 @@ class Volume:
         return status == 0 and printed.count("Number of entries: 0") == len(self.hosts)
 
     def wait_healed(self, host: Host, seconds: float = 60) -> tuple[bytes, float]:
-        """Until no brick owes another one anything and all have the same bytes: these bytes, and what it took. The
-        bytes count too, since a write of the last second may not stand in the bricks' lists yet."""
+        """Waits until no brick owes another one anything and all have the same bytes: these bytes, and the seconds that it took.
+        The bytes count too, since a write of the last second may not be in the bricks' lists yet."""
         try:
             took = wait_for("healing", seconds, lambda: self.is_healed(host) and len(set(self.bytes())) == 1, 0.5)
         except Failed as late:

@@ -14,11 +14,11 @@ from support.program import PROGRAM, ROOT, ran
 from support.serving import Serving
 from support.stores import HALF, topology
 
-LONG = 120  # seconds within which what is typed has to end on a busy machine
+LONG = 120  # seconds within which a command has to end on a busy machine
 
 
 class Typed(NamedTuple):
-    """What came of what was typed: its exit status, and what it printed."""
+    """The result of a typed command: its exit status, and its output."""
 
     status: int
     text: str
@@ -36,7 +36,7 @@ LEFT_OUT: dict[str, str] = {}  # why a row has none
 
 
 class NotSeen(AssertionError):
-    """The row's line was not seen, or what it says to type did not help."""
+    """The row's line was not seen, or its command did not help."""
 
 
 def row(beginning: str, is_slow: bool = False) -> Callable[[Callable[[Desk], None]], Callable[[Desk], None]]:

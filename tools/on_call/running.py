@@ -1,4 +1,4 @@
-"""The rows of what is seen of a server that runs."""
+"""The rows about a running server."""
 
 import contextlib
 import os
@@ -119,7 +119,7 @@ def a_file_of_signals_that_is_full(desk: Desk) -> None:
 
 @row("`N steps have waited for the disk`", is_slow=True)
 def a_slow_disk(desk: Desk) -> None:
-    """At 2, 4 and 7 seconds a sync, of which a flight has two. A flight that takes longer than 5 s is told, and no wave as
+    """At 2, 4 and 7 seconds a sync, of which a flight has two. A flight that takes longer than 5 s is reported, and no wave as
     one that stands still, since it moves with its flights."""
     for seconds in (2, 4, 7):
         store = desk.store(name=f"slow{seconds}")
@@ -181,7 +181,7 @@ def a_new_service(desk: Desk) -> None:
 
 @contextlib.contextmanager
 def service(desk: Desk, server: Serving) -> Iterator[Callable[[], str]]:
-    """The example, as member 1; and what it has printed."""
+    """The example, as member 1, and its output."""
     said = desk.path("service.txt")
     with open(said, "wb") as out:
         process = subprocess.Popen([sys.executable, "-B", f"{ROOT}/examples/service", "1", server.address, desk.path("member"),
@@ -221,7 +221,7 @@ def no_answer_to_an_order(desk: Desk) -> None:
 
 @row("the power failed, or the process was killed")
 def a_kill(desk: Desk) -> None:
-    """In the midst of a reset."""
+    """During a reset."""
     store = desk.store(8)
     with desk.serve(store, SYNC_MILLIS=100) as server:
         server.order(1, "reset", node=1)

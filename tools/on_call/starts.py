@@ -1,4 +1,4 @@
-"""The rows of what is seen at a start, or at a command."""
+"""The rows about a start, or a command."""
 
 import os
 import resource
@@ -33,7 +33,7 @@ def device_at_a_start(desk: Desk) -> None:
         os.chmod(store, 0o600)
         see(desk.why(store, None, "--user", "nobody"), "Device: access: the user nobody can't open it to read and write")
         shutil.chown(store, "nobody")
-        see(desk.why(store, None, "--user", "nobody"), "nothing seen here stands in the way of a start")
+        see(desk.why(store, None, "--user", "nobody"), "nothing found here prevents a start")
 
 
 @row("`resetd: Device` from each command, at once")

@@ -45,7 +45,7 @@ def skip_flight(answers: deque[str]) -> None:
 
 
 def note(commands: dict[int, list[str]], number: int, words: list[str], answer: str) -> None:
-    """Notes the step that line `number` of the input made, where it made one."""
+    """Notes the step that line `number` of the input made, if it made one."""
     kind, _, step = answer.partition(" ")
     if kind not in ANSWERED or not step.isdigit():
         return

@@ -110,7 +110,7 @@ class Wave:
             self.column.modes[node] = "reached"
 
     def ask_unless_known(self, kind: str, node: int) -> None:
-        """Without the input, the one who asked is the first to send or to be signalled."""
+        """Without the input, the node that asked is the first to send or to be signalled."""
         if self.column.kind == kind and not any(cell.asked for cell in self.column.cells.values()):
             self.ask(node)
 

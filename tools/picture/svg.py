@@ -106,7 +106,7 @@ def bar(begin: float, end: float, y: float, mode: str) -> str:
 
 
 def arrow(message: Message, at: Layout) -> str:
-    """From where a message went out to where it was taken; dashed into the gap between where it never was."""
+    """From the step that sent a message to the step that took it; dashed into the gap between if none did."""
     x1, y1, y2 = at.x(message.sent), at.y(message.sender), at.y(message.receiver)
     x2 = at.x(message.end) if message.end else at.end
     style = f'class="{message.kind}" stroke="{COLOURS[message.kind]}" stroke-width="2"'

@@ -2,7 +2,7 @@
 
 from .reading import Cell, Column, Wave
 
-# What is printed of something, and its kind, by which it is coloured.
+# A printed text, and its kind, by which it is coloured.
 Mark = tuple[str, str]
 LETTERS = {"abort": "a", "ack": "k", "ready": "r"}
 COLOURS = {"abort": "31", "ack": "33", "ready": "32", "reached": "31", "acknowledged": "33", "signal": "1;32"}

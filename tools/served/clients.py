@@ -3,7 +3,7 @@
 from typing import Any, Protocol
 
 STOPPED = 1
-# What is read of a line.
+# bytes of a line that are read
 Json = dict[str, Any]
 
 

@@ -24,7 +24,7 @@ from .services import Failed, Port, Trial, patiently, read
 
 NODE = 3
 SHOW = b'{"op":"show"}\n'
-# Of a member that watches: how often it is looked after, how long it has to have done what was due before it is shown a change, and
+# Of a member that watches: how often it is checked, how long it has to have done what was due before it is shown a change, and
 # after how long it is shown the same again.
 STEP_SECONDS, REST_SECONDS, BEAT_SECONDS = 0.01, 0.04, 0.3
 # What a member orders: the kind, the node, and the epoch that it confirms.
@@ -33,7 +33,7 @@ ROWS: dict[Due | None, str] = {Due.BEGIN: "begins", Due.WAIT: "waits", Due.TALK:
 
 
 class Guess:
-    """What the member may have on the disk, and what is then due by the last answer that it got. There are several guesses
+    """The possible states of the member's disk, and what is then due by the last answer that it got. There are several guesses
     only after it died: between two of its writes nobody else knows which of them were done."""
 
     def __init__(self, kept: Kept = Kept(), history: frozenset[str] = frozenset()) -> None:
@@ -43,7 +43,7 @@ class Guess:
         self.is_refused = False  # whether it has refused a tag that needs a reset, if it looks and talks
 
     def answered(self, view: View | None) -> None:
-        """The member is shown this, or, where it is None, was started anew. `steps` are the states of the disk on the way."""
+        """The member is shown this, or, if it is None, was started again. `steps` are the states of the disk on the way."""
         self.due, self.run, self.steps = None, "", [(self.kept, self.history)]
         row = view and view.node(NODE)
         if not view or not row:
@@ -57,7 +57,7 @@ class Guess:
             self.run = f"{row.epoch} {tag_of(judged.kept.party, view.party(NODE)) or '-'}"
         elif judged.due is Due.BEGIN:
             self.steps += [(Kept(), self.history), (Kept(row.epoch), self.history)]
-        if judged.due is not Due.TALK:  # it may know more parties than it talked with: that which it is shown, ahead of its talk
+        if judged.due is not Due.TALK:  # it may know more parties than it talked with: the shown one, ahead of its talk
             more = self.history | {digest_of(view.party(NODE))}
             self.steps += [(kept, more) for kept, _ in self.steps]
         self.kept = judged.kept
@@ -85,7 +85,7 @@ class Guess:
 
 
 class Rule:
-    """The rule beside the member: what it has to keep, and what is due by the last answer that it got."""
+    """The rule beside the member: what it has to store, and what is due by the last answer that it got."""
 
     def __init__(self, folder: str) -> None:
         self.folder, self.guesses = folder, [Guess()]
@@ -104,13 +104,13 @@ class Rule:
         return self.guesses[0].run
 
     def answered(self, view: View | None) -> None:
-        """The member is shown this, or it was started anew."""
+        """The member is shown this, or it was started again."""
         self.view, self.orders = view, list[Order]()
         for guess in self.guesses:
             guess.answered(view)
 
     def died(self) -> None:
-        """The member is started anew, with the writes for the last answer done up to any of them."""
+        """The member is started again, with the writes for the last answer done up to any of them."""
         steps = dict.fromkeys(step for guess in self.guesses for step in [*guess.steps, (guess.kept, guess.history)])
         self.guesses = [Guess(*step) for step in steps]
         self.answered(None)
@@ -121,13 +121,13 @@ class Rule:
         self.answered(None)
 
     def refused(self) -> None:
-        """The member refused a message of another run, whose sender was shown what is shown to it."""
+        """The member rejected a message of another run, whose sender was shown what is shown to it."""
         self.has_heeded = False
         for guess in self.guesses:
             guess.is_refused = True
 
     def ordered(self, order: Json) -> None:
-        """The member orders something. What it had in hand when it died it may send again, with its number."""
+        """The member orders something. It may send the order that it had in hand when it died again, with its number."""
         line = tuple(sorted(order.items()))
         asked: Order = (order["op"], order.get("node"), order.get("epoch") if order["op"] == "confirm" else None)
         is_again = line in self.asked and not any(asked in guess.fit(self.view) for guess in self.guesses)
@@ -177,8 +177,8 @@ Spoil = Callable[[socket.socket, bytes], bool]
 
 
 class Between:
-    """A port and a socket for the member alone, in front of the coordinator's front. `spoil` says what becomes of the next looks.
-    Each life of the member has a port of its own: what a dead one asked may still wait there, and tells nothing.
+    """A port and a socket for the member alone, before the coordinator's front. `spoil` says how the next looks are spoiled. Each
+    process of the member has its own port: a request of a dead one may still wait there, and means nothing.
 
     A member that watches is shown a view once it has done what was due by the one before, at each change and now and then."""
 
@@ -227,7 +227,7 @@ class Between:
         """Whether more is answered on this connection."""
         request: Json = json.loads(line)
         if request["op"] == "show" and connection in self.watching:
-            self.is_asked = True  # it may not have seen yet what was pushed before
+            self.is_asked = True  # it may not have seen the previous push yet
             return True
         if request["op"] in ("show", "watch"):
             if request["op"] == "watch":
@@ -249,8 +249,8 @@ class Between:
         return True
 
     def show(self, connection: socket.socket, lives: int, watches: bool = False) -> bool:
-        """Shows the present to the member, which has done what was due by the last view. To one that watches and has not yet, perhaps
-        since it has not seen that view, it is shown again. Whether more is answered."""
+        """Shows the present to the member, which has done what was due by the last view. To one that watches and has not yet,
+        perhaps since it has not seen that view, it is shown again. Whether more is answered."""
         self.direct(SHOW)  # waits while the server is away, and keeps nobody else waiting
         with self.lock:
             if lives != self.lives:
@@ -268,8 +268,8 @@ class Between:
             return True
 
     def push(self, connection: socket.socket, lives: int) -> None:
-        """Shows the present again and again to a member that watches, each time that it has done what was due, or has had all the
-        time for it; and where nothing has changed not so often."""
+        """Shows the present repeatedly to a member that watches, each time that it has done what was due, or has had all the time
+        for it; and if nothing has changed less often."""
         with contextlib.suppress(OSError):
             while self.await_done(lives):
                 is_done = self.rule.has_done()  # else it had all the time for it
@@ -340,7 +340,7 @@ class Tried:
                 stderr=lines, start_new_session=True)
 
     def kill(self) -> None:
-        """Kills it, where it did not kill itself."""
+        """Kills it, unless it killed itself."""
         with contextlib.suppress(ProcessLookupError):
             os.killpg(self.process.pid, signal.SIGKILL)
         self.process.wait()
@@ -353,7 +353,7 @@ class Tried:
         os.killpg(self.process.pid, signal.SIGCONT)
 
     def starts_without(self, name: str, what: str) -> None:
-        """Starts it anew with a folder in the place of a file, which no program can read; then with the file again."""
+        """Starts it again with a folder in the place of a file, which no program can read; then with the file again."""
         path, aside = f"{self.folder}/{name}", f"{self.trial.folder}/aside"
         self.kill()
         os.rename(path, aside)
@@ -390,18 +390,18 @@ class Tried:
             time.sleep(0.02)
 
     def looks(self, what: str, times: int = 2) -> None:
-        """The member looks so often, and does each time what is due."""
+        """The member looks this often, and does each time what is due."""
         before = self.rule.looks
         self.until(what, lambda: self.rule.looks >= before + times)
 
     def talks_now(self) -> bool:
-        """Whether it talks by what is shown now."""
+        """Whether it talks by the present view."""
         view = self.trial.port.show()
         rule = self.rule
         return rule.talks > 1 and rule.due is Due.TALK and rule.view is not None and rule.view.nodes == view.nodes
 
     def talks_with_all(self) -> bool:
-        """Whether all three are in one run, each with what is shown now."""
+        """Whether all three are in one run, each with the present view."""
         self.others.look(1, 2)
         runs = [member.run for member in self.others.members.values() if member.run]
         return (self.talks_now() and len(runs) == len(self.others.members)
@@ -460,7 +460,7 @@ def of_nodes(tried: Tried) -> None:
 
 
 def of_confirms(tried: Tried) -> None:
-    """A confirm by hand; a kill where it is about to confirm, once with the confirm lost."""
+    """A manual confirm; a kill when it is about to confirm, once with the confirm lost."""
     trial = tried.trial
     tried.kill()
     trial.reset(1)
@@ -499,8 +499,8 @@ def of_restores(tried: Tried) -> None:
 
 
 def of_unreadable(tried: Tried) -> None:
-    """A file of its own can't be read: it ends, or does what was due with the file. Once it talks, and once a store is put
-    back to where it has talked in the epoch that is shown."""
+    """A file of its own can't be read: it ends, or does what was due with the file. Once it talks, and once a store is put back
+    to where it has talked in the shown epoch."""
     for name in sorted(os.listdir(tried.folder)):
         if name in ("run", "refused") or name.endswith(".new") or not os.path.isfile(f"{tried.folder}/{name}"):
             continue
@@ -583,7 +583,7 @@ EVENTS = (of_resets, of_links, of_second_hand, of_nodes, of_confirms, of_restore
 
 
 def lead(trial: Trial, command: list[str]) -> str:
-    """Leads a member through the events. Raises Failed where it does not keep the rule."""
+    """Leads a member through the events. Raises Failed if it violates the rule."""
     tried = Tried(trial, command)
     tried.start()
     try:

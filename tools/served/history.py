@@ -1,4 +1,4 @@
-"""All that was answered and printed over the starts of one store, and what has to hold of the store after each."""
+"""All answers and signals over the starts of one store, and the checks of the store after each."""
 
 from .clients import Lost
 from .server import Server
@@ -28,12 +28,12 @@ class History:
         self.epochs = dict(epochs)
 
     def find_unprinted(self) -> list[tuple[int, int]]:
-        """The signals of epochs that were shown, which were neither printed nor taken by a kill before."""
+        """The signals of epochs that were shown, which were neither printed nor lost to a kill before."""
         return [(node, epoch) for node, last in self.epochs.items()
                 for epoch in range(self.accounted.get(node, 0) + 1, last + 1) if (node, epoch) not in self.printed]
 
     def expect_printed(self) -> None:
-        """Where nothing was killed and the device has not failed, each signal that was settled was printed."""
+        """If nothing was killed and the device has not failed, each settled signal was printed."""
         if missing := self.find_unprinted():
             raise Lost(f"signal {missing[0][0]} {missing[0][1]} was settled and not printed, one of {len(missing)}")
         self.accounted = dict(self.epochs)

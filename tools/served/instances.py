@@ -1,7 +1,7 @@
-"""A coordinator whose instances are short: they change in the midst of resets and of connections, and it is killed there.
+"""A coordinator whose instances are short: they change during resets and connections, and it is killed there.
 
-A kill is meant for a change of instance: it comes once the server is seen with fewer threads than an instance has, so while the
-threads of one end or those of the next one start, or between the two, where the engine is taken apart.
+A kill is aimed at a change of instance: it comes once the server is seen with fewer threads than an instance has, so while the
+threads of one end or those of the next one start, or between the two, when the engine is taken apart.
 """
 
 import io
@@ -17,15 +17,15 @@ from .ring import Ring
 from .server import TIMEOUT, Away, Server
 
 WORKERS = 8
-# What a server runs in the midst of an instance: itself, what prints, the flusher and the workers. The last two end with it.
+# The threads of a server during an instance: the main one, the printer, the flusher and the workers. The last two end with it.
 IN_A_INSTANCE, OVER_ALL = 3 + WORKERS, 2
 MOST_LOOKS = 10_000_000
 UNKILLED, STAYED, AT_ONCE = 20, 80, 8  # resets, and orders of a client that stays, of which some are sent at once
 
 
 class Watched(Server):
-    """A server whose instances are counted by the number of its flusher's thread, as it is seen after each answer. That
-    is the least number that there can have been: some instances end unseen."""
+    """A server whose instances are counted by the number of its flusher's thread, as it is seen after each answer. That is the
+    least number that there can have been: some instances end unseen."""
 
     instances = 0
     flusher: int | None = None
@@ -50,8 +50,8 @@ class Watched(Server):
 
 
 class Killer(threading.Thread):
-    """Kills the server within a change of instance: once it is seen with no more than so many threads, fewer than an instance
-    has. `met` is with how many it was seen then."""
+    """Kills the server within a change of instance: once it is seen with at most this many threads, fewer than an instance has.
+    `met` is how many it had then."""
 
     def __init__(self, server: Watched, most: int) -> None:
         super().__init__()
@@ -77,8 +77,8 @@ class Killer(threading.Thread):
 
 
 class Staying:
-    """A connection that its client never closes: the server does, once its instance is too old, after a reply. What has no
-    reply then is sent again over the next one."""
+    """A connection that its client never closes: the server does, once its instance is too old, after a reply. Lines without a
+    reply are then sent again over the next one."""
 
     def __init__(self, server: Watched) -> None:
         self.server, self.connections = server, 0
@@ -189,8 +189,8 @@ def order_at_once(ring: Ring, staying: Staying, client: Client, count: int) -> N
 
 
 def one_round(ring: Ring) -> int | None:
-    """A start, what has to hold after it, resets by clients that stay or do not, and a kill within a change of instance.
-    With how many threads the server was met, if it was."""
+    """A start, the checks after it, resets by clients that stay or do not, and a kill within a change of instance. With how many
+    threads the server was met, if it was."""
     server = watch(ring)
     count, _ = ring.history.look_into(server)
     server.must_start()

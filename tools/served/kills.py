@@ -1,4 +1,4 @@
-"""A coordinator killed at random moments, and what is found after each kill."""
+"""A coordinator killed at random moments, and the checks after each kill."""
 
 import threading
 import time
@@ -34,8 +34,8 @@ def first_reset(ring: Ring) -> tuple[float, float]:
 
 
 def one_round(ring: Ring, usual_start: float, usual_reset: float) -> str:
-    """A start, what has to hold after it, further resets, and a kill: while it starts, at the very moment of an
-    answer, or at a random one. Where the kill was met."""
+    """A start, the checks after it, further resets, and a kill: while it starts, exactly at an answer, or at a random moment.
+    Where the kill happened."""
     server, killer = ring.server, None
     count, _ = ring.history.look_into(server)
     moment = ring.choice.choice(["start", "answer", "any", "any", "any"])
@@ -77,7 +77,7 @@ def after_kill(ring: Ring, listened: bool) -> str:
 
 
 def start_again(ring: Ring) -> None:
-    """A start that nobody kills: what was answered is there, and a reset that was cut goes on to its end."""
+    """A start that nobody kills: every answer is there, and an interrupted reset completes."""
     count, _ = ring.history.look_into(ring.server)
     ring.server.must_start()
     ring.repeat_orders(count)

@@ -5,7 +5,7 @@ import shutil
 import subprocess
 
 LARGE = 1 << 20
-# A program that stands for clang, and for the other tools that clang's file is under the names by which it is called.
+# A program in place of clang, and of the other tools that clang's file is under the names by which it is called.
 CLANG = """#include <stdlib.h>
 #include <string.h>
 #include <unistd.h>

@@ -1,4 +1,4 @@
-"""Copies of a store of version 1 that are migrated and killed on the way, and what is found in them."""
+"""Copies of a store of version 1 that are migrated and killed on the way, and the checks of what is left."""
 
 from __future__ import annotations
 
@@ -31,7 +31,7 @@ WRITE, SYNCS = "pwrite64", ("fsync", "fdatasync")
 
 
 def run(program: str, folder: str, choice: random.Random, rounds: int) -> None:
-    """Kills so many migrations, at a random moment and at each call of the device in turn."""
+    """Kills this many migrations, at a random moment and at each call of the device in turn."""
     first, copy = Server(program, f"{folder}/first"), Server(program, f"{folder}/copy")
     ring = Ring(first, choice)
     try:
@@ -90,7 +90,7 @@ def digest(path: str) -> bytes:
 
 
 class Trial:
-    """A copy of the store, which is made anew for each migration."""
+    """A copy of the store, made again for each migration."""
 
     def __init__(self, ring: Ring, server: Server, count: int) -> None:
         self.ring, self.server, self.count = ring, server, count
@@ -196,7 +196,7 @@ class Trial:
             raise Lost("a kill left one version only: the kills did not meet the migrations")
 
     def go_on(self) -> None:
-        """Resets go through what was migrated, and it stays version 2."""
+        """Resets run over the migrated store, and it stays version 2."""
         self.ring.server = self.server
         self.server.must_start()
         self.ring.repeat_orders(self.count)

@@ -12,8 +12,8 @@ MOST_RESETS = 3
 
 
 class Slow:
-    """The members of a group in one process, of which each looks when it is told to. What a start has heard of, at
-    first or at second hand, goes with each message that it sends; messages may come late."""
+    """The members of a group in one process, of which each looks when the trial makes it look. Each message carries the starts
+    that its sender has heard of, directly or through others; messages may come late."""
 
     def __init__(self, trial: Trial, nodes: Iterable[int]) -> None:
         self.trial, self.starts = trial, 0
@@ -33,14 +33,14 @@ class Slow:
         return Member(orders.port, orders, node, None, begin, told=lambda _: None)
 
     def look(self, *nodes: int) -> None:
-        """Members look until they have done what is due, and then all that was ever said is heard by whom it may be."""
+        """Members look until they have done what is due, and then all messages ever sent are heard by those that may."""
         for node in nodes:
             patiently(self.members[node].look, 20)
             self.trial.expect_quiet()
             self.talk()
 
     def talk(self) -> None:
-        """Each member that talks sends what it has heard of, and hears what fits its run, until nobody learns more."""
+        """Each member that talks sends what it has heard of, and hears the messages of its run, until nobody learns more."""
         before = None
         while before != (before := ({node: set(heard) for node, heard in self.heard.items()}, len(self.sent))):
             for node, member in self.members.items():

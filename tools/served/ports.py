@@ -6,9 +6,8 @@ _held = list[socket.socket]()  # until this process ends
 
 
 def held_ports(count: int) -> list[int]:
-    """Ports of 127.0.0.1 that nobody else gets while this process runs, neither for a listener at port 0 nor for a
-    connection. Each is bound here and not listened at: whoever is given it may listen there, again and again, as servers
-    do that set SO_REUSEADDR."""
+    """Ports of 127.0.0.1 that nobody else gets while this process runs, for a listener at port 0 or for a connection. Each is
+    bound here without listening: a server that sets SO_REUSEADDR may listen there, repeatedly."""
     new = [socket.socket() for _ in range(count)]
     for one in new:
         one.setsockopt(socket.SOL_SOCKET, socket.SO_REUSEADDR, 1)

@@ -1,10 +1,10 @@
 #!/usr/bin/env python3
 """A member of a work queue, for the trials of tools/test_services: it hands items on to the next member, in order.
 
-Member 1 makes items 1, 2, 3 and so on and hands them to member 2, which hands them to 3, and so round to 1. Each start
-has a name of its own, which the coordinator does not know and the tag does not hold; each message has the names of
-all starts that it comes from. So a member reports when it hears of two starts of one member within one start of its
-own (MIXED), and when an item is left out (GAP).
+Member 1 makes items 1, 2, 3 and so on and hands them to member 2, which hands them to 3, and so round to 1. Each start has a
+name, which the coordinator does not know and the tag does not contain; each message has the names of all starts that it comes
+from. So a member reports when it hears of two starts of one member within one start of its own (MIXED), and when an item is left
+out (GAP).
 
 usage: queue_member NODE ADDR FOLDER OWN PEER SIGNALS [WITHOUT..]
     OWN and PEER are ports. WITHOUT is what a trial leaves out, to see that this is noticed:
@@ -86,7 +86,7 @@ class Queue:
 
     def __init__(self, node: int, folder: str) -> None:
         self.node, self.path = node, os.path.join(folder, "work")
-        self.work: Json = {}  # empty where there is none
+        self.work: Json = {}  # empty if there is none
         if os.path.exists(self.path):
             with open(self.path, encoding="utf-8") as file:
                 self.work = json.load(file)
@@ -98,7 +98,7 @@ class Queue:
         self.tell(f"starts anew, epoch {epoch}")
 
     def next(self) -> Json | None:
-        """The next message, None where there is no item to hand on."""
+        """The next message, None if there is no item to hand on."""
         item = self.work["handed"] + 1
         if item > self.work["taken"] + (AHEAD if self.node == 1 else 0):
             return None

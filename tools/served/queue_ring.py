@@ -1,4 +1,4 @@
-"""Members of a work queue in a ring, each a process, whose own lines say what was mixed."""
+"""Members of a work queue in a ring, each a process, whose own lines report mixed runs."""
 
 import json
 import os
@@ -13,8 +13,8 @@ MEMBER = f"{ROOT}/tools/served/queue_member.py"
 
 
 class QueueRing:
-    """As many members as asked for, who hand items round. `words` are what each is started with: an address and a file of signals, and
-    what it is without."""
+    """As many members as asked for, which hand items round. `words` are the arguments of each: an address and a file of signals,
+    and the parts of the rule that it leaves out."""
 
     def __init__(self, folder: str, nodes: int, address: str, signals: str, *without: str) -> None:
         self.folder, self.nodes, self.address, self.signals, self.without = folder, range(1, nodes + 1), address, signals, without

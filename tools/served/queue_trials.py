@@ -68,7 +68,7 @@ class Queue(Trial):
         return work
 
     def starts(self) -> dict[int, str | None]:
-        """The name of each member's start, where it has one."""
+        """The name of each member's start, if it has one."""
         return {node: self.work(node)["starts"].get(str(node)) for node in self.nodes}
 
     def goes_on(self, what: str, since: dict[int, str | None] | None = None) -> None:
@@ -91,7 +91,7 @@ class Queue(Trial):
             self.expect_whole(what)
 
     def expect_whole(self, what: str) -> None:
-        """No member has told of a fault."""
+        """No member has reported a fault."""
         for node in self.nodes:
             faults = [line for line in read(f"{self.folder}/{node}.lines").splitlines() if "MIXED" in line or "GAP" in line]
             if faults:
@@ -129,7 +129,7 @@ class Queue(Trial):
                 self.order("join", a=node, b=other)
 
     def add_again(self, node: int, resets: int = 0) -> None:
-        """A node without links is removed and added again, so often reset alone, and linked as it was."""
+        """A node without links is removed and added again, reset alone this often, and linked as it was."""
         self.order("remove", node=node)
         self.order("add", node=node, group=1)
         for _ in range(resets):
@@ -139,11 +139,11 @@ class Queue(Trial):
 
 
 
-# The ways in which a node may show, confirmed, the epoch that its service has begun, though its start is another one
-# than that which the others talked with. Each leaves the network whole; what has to hold then is looked for after it.
+# The ways in which a node may show, confirmed, the epoch that its service has begun, though its start is another one than that
+# which the others talked with. Each leaves the network whole; the checks come after it.
 
 def with_one_down(trial: Queue) -> None:
-    """The store is put back while a member is down that has not begun what was forgotten."""
+    """The store is put back while a member is down that has not begun the forgotten epoch."""
     copy = trial.copy()
     trial.down(3)
     trial.reset_epochs(1, 2)
@@ -172,8 +172,8 @@ def twice(trial: Queue) -> None:
 
 
 def while_served(trial: Queue) -> None:
-    """A copy of a store that is served is put back, if it reads, while a member is down that has not begun what was
-    forgotten."""
+    """A copy of a store that is served is put back, if it reads, while a member is down that has not begun the forgotten
+    epoch."""
     served = f"{trial.folder}/served"
     shutil.copy(trial.server.store, served)
     trial.down(2)
@@ -233,7 +233,7 @@ def own_copy(trial: Queue) -> None:
 
 
 def new_store(trial: Queue) -> None:
-    """A store is made anew under the same services, and reset to the epoch that they have begun, while one is down."""
+    """A new store is made under the same services, and reset to the epoch that they have begun, while one is down."""
     trial.down(3)
     epoch = trial.epoch(3)
     trial.close()
@@ -308,7 +308,7 @@ RENEWING = (plain_reset, by_the_page)
 
 
 def happen(trial: Queue, way: Callable[[Queue], None], when: str) -> None:
-    """One of the ways, and what has to hold after it."""
+    """One of the ways, and the checks after it."""
     since = trial.starts() if way in RENEWING else None
     try:
         way(trial)

@@ -12,7 +12,7 @@ TIMEOUT = 300  # seconds within which a reset has to end, on a busy machine too
 
 
 def topology(half: int, reach: int) -> str:
-    """A ring in which each node is linked to so many that follow it."""
+    """A ring in which each node is linked to this many that follow it."""
     nodes = "".join(f"[[node]]\nid = {node}\ngroup = 1\n" for node in range(1, NODES + 1))
     links = "".join(f"[[link]]\na = {node}\nb = {(node + far) % NODES + 1}\n"
                     for node in range(1, NODES + 1) for far in range(reach))
@@ -36,13 +36,13 @@ class Ring:
             raise Lost(f"resetd init: {done}")
 
     def ask_resets(self, resets: int) -> None:
-        """That many clients, one after the other, each over a connection of its own."""
+        """That many clients, one after the other, each over its own connection."""
         for client in self.choice.sample(self.clients, resets):
             client.order(self.server, "reset", node=self.choice.randint(1, NODES))
             self.note(client)
 
     def note(self, client: Client) -> None:
-        """Notes a reply, where it is new."""
+        """Notes a reply, if it is new."""
         assert client.answered and client.reply
         step = client.reply["step"]
         if step not in self.history.answered and client.reply["kind"] == "started":
@@ -50,8 +50,8 @@ class Ring:
         self.history.answered.add(step)
 
     def repeat_orders(self, count: int) -> None:
-        """After a start on a store of `count` steps: what was answered is answered the same again, and what was not
-        answered is sent again."""
+        """After a start on a store of `count` steps: each answered order gets the same answer again, and each unanswered one is
+        sent again."""
         self.note_counts(count, count, is_start=True)
         for client in self.clients:
             client.repeat(self.server, count)
@@ -76,7 +76,7 @@ class Ring:
         raise Lost(f"a reset has not come to its end within {TIMEOUT} seconds")
 
     def note_counts(self, accepted: int, settled: int, is_start: bool = False) -> None:
-        """While a server runs, over all its lives, neither count falls."""
+        """While a server runs, over all its instances, neither count falls."""
         if not is_start and (accepted < self.counts[0] or settled < self.counts[1]):
             raise Lost(f"{self.counts} steps were accepted and settled, and then {accepted} and {settled}")
         self.counts = accepted, settled
@@ -91,8 +91,8 @@ class Ring:
         self.history.expect_printed()
 
     def compare(self, epochs: dict[int, int]) -> None:
-        """Where no reset was started, no epoch rose; one alone raised each by one; of several, each node that
-        started some was signalled as often at least."""
+        """If no reset was started, no epoch rose; one alone raised each by one; of several, each node that started some was
+        signalled at least as often."""
         for node, before in self.quiet.items():
             rise = epochs[node] - before
             if (len(self.started) < 2 and rise != len(self.started)) or rise < self.started.count(node):

@@ -6,11 +6,11 @@ import sys
 
 
 class Screen:
-    """The picture moves where the output is a terminal and neither NO_COLOR nor CI is set; else it has lines alone."""
+    """The picture moves if the output is a terminal and neither NO_COLOR nor CI is set; otherwise it only has lines."""
 
     def __init__(self) -> None:
         self.moves = sys.stdout.isatty() and not os.environ.get("NO_COLOR") and not os.environ.get("CI")
-        self.drawn = 0  # lines of the picture that stands there
+        self.drawn = 0  # lines of the present picture
 
     def say(self, *lines: str) -> None:
         """Prints lines that stay."""

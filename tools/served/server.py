@@ -53,7 +53,7 @@ class Server:
         return done.returncode, (done.stdout + done.stderr).splitlines()
 
     def found(self, topology: str) -> tuple[int, list[str]]:
-        """Makes the store with the nodes and links of a topology, and answers what was printed."""
+        """Makes the store with the nodes and links of a topology, and returns the output."""
         with open(f"{self.store}.toml", "w", encoding="utf-8") as file:
             file.write(topology)
         return self.command("init", f"{self.store}.toml")
@@ -64,7 +64,7 @@ class Server:
         return self.listen()
 
     def launch(self, *before: str) -> None:
-        """Starts the process, by the words before it where there are some."""
+        """Starts the process, after a prefix of arguments if there is one."""
         self.address = ""
         with open(self.signals, "ab") as signals, open(self.errors, "wb") as errors:
             self.size_before = signals.tell()
@@ -105,7 +105,7 @@ class Server:
         self.process.wait()
 
     def end(self) -> None:
-        """Kills the server where it still runs."""
+        """Kills the server if it still runs."""
         if self._process and self._process.poll() is None:
             self.kill()
 

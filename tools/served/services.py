@@ -39,7 +39,7 @@ class Words(argparse.Namespace):
 
 
 class Trial:
-    """A coordinator, what it needs, and the helpers that were started; all end with it."""
+    """A coordinator, its requirements, and the helpers that were started; all end with it."""
 
     def __init__(self, words: Words, folder: str, nodes: int, is_ring: bool = True) -> None:
         self.words, self.folder, self.nodes = words, folder, range(1, nodes + 1)
@@ -122,7 +122,7 @@ class Trial:
         return row.epoch
 
     def reset(self, node: int = 1, is_killed: bool = False) -> None:
-        """Asks for a reset. Where the server is killed, that is somewhere in it."""
+        """Asks for a reset. If the server is killed, that is somewhere in it."""
         self.order("reset", node=node)
         if is_killed:
             time.sleep(random.uniform(0, 0.004))
@@ -138,7 +138,7 @@ class Trial:
         return all(row.is_begun for row in rows) and self.port.show().nodes == rows
 
     def begun(self, node: int) -> tuple[int, int | None]:
-        """How often a service has begun anew, and the epoch of the last time."""
+        """How often a service has begun, and the last epoch."""
         if not os.path.exists(f"{self.folder}/{node}.lines"):
             return 0, None
         with open(f"{self.folder}/{node}.lines", encoding="utf-8") as lines:
@@ -162,8 +162,7 @@ class Trial:
                 for times, last in [self.begun(node)])
 
     def expect_begun(self, what: str, before: dict[int, int] | None = None, nodes: Sequence[int] | None = None) -> None:
-        """Every service has begun anew, after as many times as it had begun before, the epoch that its node has, and
-        confirmed it."""
+        """Every service has begun once more than this often, the epoch that its node has, and confirmed it."""
         earlier = before or {}
 
         def holds() -> bool:
@@ -176,13 +175,13 @@ class Trial:
         return {node: self.begun(node)[0] for node in self.nodes}
 
     def reset_all(self, what: str, node: int = 1, is_killed: bool = False) -> None:
-        """A reset, after which every service begins anew."""
+        """A reset, after which every service begins again."""
         before = self.times()
         self.reset(node, is_killed)
         self.expect_begun(what, before)
 
     def put_back(self, copy: str) -> None:
-        """The store is what it was when the copy was taken."""
+        """The store is the same as when the copy was made."""
         self.close()
         shutil.copy(copy, self.server.store)
         self.start()
@@ -196,7 +195,7 @@ class Trial:
                 raise Failed(f"resetctl restored: status {status}, {told}")
 
     def resetctl(self, *words: str) -> tuple[int, str]:
-        """A command of the person on call, with a client of its own. Its status and what it printed."""
+        """A command of the person on call, with a separate client. Its status and its output."""
         done = subprocess.run([f"{ROOT}/client/resetctl", "--address", self.server.address, "--client", str(OPERATOR - 1),
                                "--state", f"{self.folder}/state", *words], capture_output=True, encoding="utf-8", check=False)
         return done.returncode, done.stdout + done.stderr
@@ -217,11 +216,11 @@ def read(path: str) -> str:
 
 
 def tag_in(path: str) -> str:
-    """The tag of a member's run, by its file; empty where there is none."""
+    """The tag of a member's run, by its file; empty if there is none."""
     fields = read(path).split()
     return fields[1] if len(fields) > 1 else ""
 
 
 def tags_at(folder: str) -> set[str]:
-    """The tags that a gateway told its members last; with the empty text where it told one none."""
+    """The last tags that a gateway gave its members; with the empty text if it gave one none."""
     return {(line.split() + ["", "", "", ""])[3] for line in read(f"{folder}/told/members").splitlines()}

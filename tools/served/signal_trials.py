@@ -9,7 +9,7 @@ import time
 from .ports import held_ports
 from .services import Failed, Trial, patiently, read, tags_at
 
-LIMIT = 400_000  # bytes of the file of signals, where a line is to be torn
+LIMIT = 400_000  # bytes of the file of signals, at which a line is to be torn
 TIMEOUT = 300  # seconds within which a server answers and ends, on a busy machine too
 
 
@@ -136,7 +136,7 @@ def members(trial: Trial) -> None:
 
 
 def messages(trial: Trial) -> str:
-    """Member 1 only looks by itself, so it learns late: after a reset it goes on for a while in the old run."""
+    """Member 1 looks only at intervals, so it learns late: after a reset it continues for a while in the old run."""
     places = held_ports(2)
     tag = ["--without-tag"] if "tag" in trial.words.without else []
     for node, signals, look in ((1, "/nonexistent", 1.2), (2, trial.server.signals, 5)):

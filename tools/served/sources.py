@@ -8,7 +8,7 @@ sys.dont_write_bytecode = True
 ROOT = os.path.dirname(os.path.dirname(os.path.dirname(os.path.abspath(__file__))))
 # The tests of the crates: no check reads a file that ends in .rt.txt.
 UNITS = f"{ROOT}/tests/units"
-# Their program waits as it is tried, so that it can be taken; with the variable it runs.
+# Their program waits, so that it can be copied while it is tried; with the variable it runs.
 WAITING = """#include <stdlib.h>
 #include <unistd.h>
 

@@ -8,8 +8,8 @@ from .signal_trials import begin_first
 
 
 def restore(trial: Trial) -> None:
-    """A store is put back that was copied before two resets: one while service 3 was down, one while all were, which
-    nobody has begun. Every service begins anew, and later resets go through as before."""
+    """A store is put back that was copied before two resets: one while service 3 was down, one while all were, which nobody has
+    begun. Every service begins again, and later resets complete as before."""
     trial.services()
     trial.expect_begun("the services began")
     third = trial.helpers[-2:]
@@ -44,7 +44,7 @@ def put_back(trial: Trial, before: dict[int, int], up: Sequence[int]) -> None:
 
 
 def again(trial: Trial) -> None:
-    """A member is removed, added again and reset: it begins anew, though it had begun that epoch before."""
+    """A member is removed, added again and reset: it begins again, though it had begun that epoch before."""
     begin_first(trial)
     before = trial.times()
     for other in (1, 2):
@@ -58,7 +58,7 @@ def again(trial: Trial) -> None:
 
 
 def plain(trial: Trial) -> None:
-    """A member in plain bash beside two after a gateway: they begin together, and come to one tag."""
+    """A member in plain bash beside two behind a gateway: they begin together, and come to one tag."""
     def up() -> None:
         trial.run("gateway", "1-2", 1, trial.server.address, f"{trial.folder}/gateway", "--signals",
                   trial.server.signals, "--look", 0.3, name="gateway")

@@ -39,7 +39,7 @@ class Clause(NamedTuple):
 
 
 class Mutants:
-    """The mutants that name what they break, and what is wrong with these names."""
+    """The mutants that name what they break, and the faults in these names."""
 
     def __init__(self, repository: Repository):
         self.repository = repository
@@ -89,15 +89,15 @@ class Mutants:
         return found - {key}
 
     def meant(self, caller: Function, owner: str, name: str) -> Function | None:
-        """The function that a call means: the only one of this name that is not the caller, of this type where it is named, or
-        the only one in its module."""
+        """The function that a call means: the only one of this name that is not the caller, of this type if it is named, or the
+        only one in its module."""
         others = [it for it in self.of_name.get((caller.crate, name), []) if it.key != caller.key]
         of_owner = [it for it in others if owner and owner in (it.owner, it.module.rpartition("::")[2])]
         near = [it for it in others if it.module == caller.module]
         return next((few[0] for few in (of_owner, others, near) if len(few) == 1), None)
 
     def below(self, key: Key) -> dict[Key, dict[str, list[str]]]:
-        """The mutants that break what a function stands on, by function and clause."""
+        """The mutants that break the callees of a function, by function and clause."""
         return {it: mutants for it in sorted(self.callees(key)) if (mutants := self.of(it))}
 
     def is_tried(self, key: Key) -> bool:

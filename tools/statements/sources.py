@@ -37,7 +37,7 @@ class Function:
 
     @property
     def ensured(self) -> list[str]:
-        """The names of what it ensures; empty for a clause without a name."""
+        """The names of its ensures; empty for a clause without a name."""
         return [label.partition(" ")[2] for label, _ in self.clauses if label.startswith("ensures")]
 
     @property
@@ -57,7 +57,7 @@ class Ghost:
 
 
 class Source:
-    """A file of Rattle or of definitions, without its comments, and what it imports."""
+    """A file of Rattle or of definitions, without its comments, and its imports."""
 
     def __init__(self, root: pathlib.Path, crate: str, path: pathlib.Path):
         self.crate, self.path = crate, path
@@ -125,7 +125,7 @@ def clauses_of(text: str, at: int) -> tuple[list[tuple[str, str]], int]:
 
 
 def owner_of(head: str) -> str:
-    """What the methods of an impl or a trait go by: the type, and after `as` the trait that it implements."""
+    """The name for the methods of an impl or a trait: the type, and after `as` the trait that it implements."""
     head = re.sub(r"\s+", " ", head.split("{")[0].split(";")[0]).strip()
     while re.search(r"<[^<>]*>", head):
         head = re.sub(r"(?<!-)<[^<>]*>", "", head)
@@ -137,7 +137,7 @@ def owner_of(head: str) -> str:
 
 
 def blocks_of(text: str) -> list[tuple[int, int, str, str]]:
-    """The impls, traits and types of a file: where each begins and ends, its kind and what it goes by."""
+    """The impls, traits and types of a file: where each begins and ends, its kind and its name."""
     found = []
     for match in BLOCK.finditer(text):
         head = match.group(0)
@@ -175,7 +175,7 @@ def ghosts_of(source: Source) -> list[Ghost]:
 
 
 def definitions_of(source: Source) -> dict[str, str]:
-    """The definitions of a file of specs/ by name: each has its lines, and the heads of the modules that it stands in."""
+    """The definitions of a file of specs/ by name: each has its lines, and the heads of the modules around it."""
     found: dict[str, list[str]] = collections.defaultdict(list)
     heads: list[tuple[int, str]] = []
     name, depth = "", 0
@@ -204,9 +204,9 @@ TOKEN = re.compile(r"\w+|\S")
 
 
 def stated_in(source: Source) -> str:
-    """What a file of Rattle states: all but its comments, its imports of code, the bodies of its functions, and those private
-    functions that have no clause. So it has the visibility, the parameters, the bounds and the clauses of a function, what a
-    type derives and which fields it has, ghost members, constants and what is exported."""
+    """The statements of a file of Rattle: everything but its comments, its imports of code, the bodies of its functions, and
+    private functions without a clause. So it has the visibility, the parameters, the bounds and the clauses of a function, the
+    derives and fields of types, ghost members, constants and exports."""
     text, at, kept = source.text, 0, list[str]()
     for match in FUNCTION.finditer(text):
         if match.start() < at:

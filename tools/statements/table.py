@@ -14,7 +14,7 @@ TABLE = "docs/PROMISES.md"
 
 
 class Row(NamedTuple):
-    """A row: what it is called, what it says, and of each function that it cites, the clauses that it names."""
+    """A row: its title, its words, and for each function that it cites the clauses that it names."""
 
     title: str
     words: str
@@ -22,7 +22,7 @@ class Row(NamedTuple):
 
 
 class Table:
-    """The rows of docs/PROMISES.md: which functions they name, and what they name that is not there."""
+    """The rows of docs/PROMISES.md: which functions they name, and which of their names do not exist."""
 
     def __init__(self, repository: Repository):
         self.repository = repository

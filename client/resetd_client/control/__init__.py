@@ -40,7 +40,7 @@ def parser() -> argparse.ArgumentParser:
     top.add_argument("--client", type=ranges.of("client"), metavar="C",
                      default=os.environ.get("RESETD_CLIENT") or str(CLIENTS[-1]), help="the client that orders (RESETD_CLIENT, 16)")
     top.add_argument("--state", default=os.environ.get("RESETCTL_STATE") or default_state(), metavar="FOLDER",
-                     help="where this client's numbers are kept (RESETCTL_STATE, ~/.local/state/resetctl)")
+                     help="the folder for this client's numbers (RESETCTL_STATE, ~/.local/state/resetctl)")
     top.add_argument("--patience", type=ranges.span, metavar="SECONDS",
                      help="how long the same line is sent again while no answer comes (30; of what only looks 2)")
     top.add_argument("--seconds", type=ranges.some_seconds, metavar="SECONDS",
@@ -61,7 +61,7 @@ def is_within(path: str, folder: str) -> bool:
 
 
 def default_state() -> str:
-    """Where the numbers of a person's client are kept."""
+    """The folder for the numbers of a person's client."""
     if given := os.environ.get("STATE_DIRECTORY"):  # by systemd
         return given.split(":")[0]
     return os.path.join(os.environ.get("XDG_STATE_HOME") or os.path.expanduser("~/.local/state"), "resetctl")
@@ -98,7 +98,7 @@ def main(arguments: list[str] | None = None) -> int:
     except ResetdError as fault:
         complain(str(fault))
         return REFUSED
-    except BrokenPipeError:  # who read what is printed has left
+    except BrokenPipeError:  # the reader of the output has left
         os.dup2(os.open(os.devnull, os.O_WRONLY), sys.stdout.fileno())
         return LEFT
     except OSError as fault:

@@ -1,4 +1,4 @@
-"""The front's audit file, for people: who ordered what, when, and what came of it."""
+"""The front's audit file, for people: who ordered what and when, and the result."""
 
 from __future__ import annotations
 
@@ -73,7 +73,7 @@ def line_of(entry: Entry) -> Entry:
 
 
 def told(entry: Entry) -> str:
-    """An entry as a line: when, who, what, and what came of it."""
+    """An entry as a line: when, who, what, and the result."""
     parts = [str(entry["time"]), who(entry.get("who")), what(entry), came_of(entry)]
     return "  ".join(part for part in parts if part)
 
@@ -97,7 +97,7 @@ def what(entry: Entry) -> str:
 
 
 def came_of(entry: Entry) -> str:
-    """What was answered, or why not."""
+    """The answer, or the reason why there is none."""
     answer, parts = entry.get("answer"), list[str]()
     if isinstance(answer, dict):
         if "kind" in answer:

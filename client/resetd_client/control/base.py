@@ -1,4 +1,4 @@
-"""What all commands share: their words, the port, one client's orders in a folder, and what they tell a person."""
+"""Common parts of all commands: their arguments, the port, one client's orders in a folder, and messages to a person."""
 
 from __future__ import annotations
 
@@ -22,7 +22,7 @@ from ..view import View
 DONE, REFUSED, WRONG_WORDS, AWAY, COUNT = 0, 1, 2, 3, 4
 PATIENCE, SECONDS = 30.0, 20.0
 LOOK_SECONDS = 2.0  # how long a command that only looks waits, in all and for one answer
-SILENCE_SECONDS = 1.0  # after so long without an answer a person is told what is waited for
+SILENCE_SECONDS = 1.0  # after this long without an answer a message says what is waited for
 Words = argparse.Namespace
 T = TypeVar("T")
 
@@ -37,12 +37,12 @@ def print_json(value: object) -> None:
 
 
 def no_words(_: argparse.ArgumentParser) -> None:
-    """A command without words of its own."""
+    """A command without arguments."""
 
 
 @dataclass(frozen=True)
 class Command:
-    """A row of the table of commands. `is_look` says that it only looks, and so waits for no more than 2 s."""
+    """A row of the table of commands. `is_look`: it only reads, and so waits for at most 2 s."""
 
     name: str
     about: str
@@ -52,7 +52,7 @@ class Command:
 
 
 class Control:
-    """A command's words, and what it speaks with."""
+    """A command's arguments, and its connection to the coordinator."""
 
     def __init__(self, words: Words) -> None:
         self.words = words
@@ -69,7 +69,7 @@ class Control:
             print(text, flush=True)
 
     def patient(self, call: Callable[[], T]) -> T:
-        """Makes a call until it is answered or the patience is over, and says at once what it waits for."""
+        """Repeats a call until it is answered or the time is over, and reports at once what it waits for."""
         with told_after(SILENCE_SECONDS, f"waits for an answer of {self.words.address}") as timer:
             def tell(away: Away) -> None:
                 timer.cancel()
@@ -85,7 +85,7 @@ class Control:
         return Orders(self.port, self.words.client, folder, recovers=True, held_seconds=10.0, told=complain)
 
     def settle(self, book: Orders) -> None:
-        """Sends orders of an earlier call again that have no answer yet, and tells what came of them."""
+        """Sends orders of an earlier call again that have no answer yet, and reports their results."""
         if not book.unanswered:
             return
         left = book.unanswered
@@ -94,7 +94,7 @@ class Control:
             for order, outcome in zip(left, self.patient(book.settle)):
                 complain(f"{told_order(order)}: {outcome if isinstance(outcome, NotTaken) else told_reply(outcome)}")
         except CountLost:
-            complain(f"client {self.words.client} has ordered since: whether that was carried out, show tells; it is given up")
+            complain(f"client {self.words.client} has ordered since: use show to see whether that was carried out; it is given up")
             self.patient(book.recover)
 
     def carry_out(self, book: Orders, op: str, **members: int) -> Reply:
@@ -113,7 +113,7 @@ class Control:
             yield outcome
 
     def why(self, fault: NotTaken | Away) -> str:
-        """A refusal, a fault or a silence, with what it found or what to do."""
+        """The message for a refusal, a fault or a silence: the cause that was found, or what to do."""
         if isinstance(fault, NotNow):
             return f"the server answers {explained(fault, {})}"
         if isinstance(fault, Away):

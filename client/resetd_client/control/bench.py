@@ -16,17 +16,17 @@ from . import ranges
 from .base import DONE, REFUSED, Command, Control, add_json, complain, print_json
 
 ORDERS, TOGETHER, WAVES = 200, 1_000, 9
-WAVE_SECONDS = 60.0  # after which a wave that is not over is told
+WAVE_SECONDS = 60.0  # after which an unfinished wave is reported
 
 
 def bench(control: Control) -> int:
-    """Adds and removes a node again and again, and has resets made. Refused where services are there, which would all begin
-    anew. One that is broken off may leave a node without links."""
+    """Adds and removes a node repeatedly, and asks for resets. Refused if there are services, since all would begin again. An
+    interrupted run may leave a node without links."""
     words = control.words
     view = control.show()
     if (served := [node.node for node in view.nodes if node.confirmed]) and not words.with_services:
-        complain(f"services have confirmed epochs of nodes {', '.join(map(str, served))}: each would begin anew at each of "
-                 f"{words.waves} resets; --with-services does it all the same")
+        complain(f"services have confirmed epochs of nodes {', '.join(map(str, served))}: each would begin again at each of "
+                 f"{words.waves} resets; --with-services does it anyway")
         return REFUSED
     with control.orders() as book:
         control.settle(book)
@@ -40,7 +40,7 @@ def bench(control: Control) -> int:
 
 
 def measured_orders(control: Control, book: Orders, view: View) -> dict[str, float]:
-    """Orders a second, one after the other and together; none where all nodes are there."""
+    """Orders a second, one after the other and together; none if all nodes exist."""
     node = next((node for node in reversed(NODES) if view.node(node) is None), None)
     if node is None:
         complain(f"all {len(NODES)} nodes are there: no orders are measured, since they would add and remove one")
@@ -76,7 +76,7 @@ def wave(control: Control, book: Orders, node: int) -> None:
 
 
 def carried_out(control: Control, book: Orders, orders: list[Order]) -> None:
-    """Has orders carried out. Raises what was not taken."""
+    """Submits the orders and waits for all replies. Raises the first rejection."""
     for outcome in control.patient(lambda: book.order_all(orders)):
         if isinstance(outcome, NotTaken):
             raise outcome
@@ -94,8 +94,8 @@ def add_bench_words(parser: argparse.ArgumentParser) -> None:
     parser.add_argument("--orders", type=ranges.some_orders, default=ORDERS, metavar="N",
                         help=f"how many orders one after the other, 2 at least ({ORDERS})")
     parser.add_argument("--waves", type=ranges.amount, default=WAVES, metavar="N", help=f"how many resets ({WAVES})")
-    parser.add_argument("--with-services", action="store_true", help="also where services are there, which then begin anew")
+    parser.add_argument("--with-services", action="store_true", help="also if there are services, which then begin again")
 
 
-COMMANDS = (Command("bench", "measures orders a second and a wave of this server; refused where nodes have services", bench,
+COMMANDS = (Command("bench", "measures orders a second and a wave of this server; refused if nodes have services", bench,
                     add_bench_words),)

@@ -30,8 +30,8 @@ def order(control: Control) -> int:
 def say_what_becomes_of_files(control: Control, nodes: list[int]) -> None:
     """Tells a person what the services of nodes that were removed do with their files."""
     if nodes and not control.words.quiet:
-        complain(f"removed: {', '.join(map(str, nodes))}. A service may keep its files: where its node is added again it asks for one "
-                 "reset. When it goes for good, remove its files with it")
+        complain(f"removed: {', '.join(map(str, nodes))}. A service may keep its files: if its node is added again it asks for one "
+                 "reset. When it is removed for good, remove its files too")
 
 
 def resend(control: Control) -> int:
@@ -99,7 +99,7 @@ def apply(control: Control) -> int:
         for each, reply in zip(orders, control.carry_out_all(book, lines, view.accepted)):
             print(f"{told_reply(reply)}: {each}", flush=True)
     say_what_becomes_of_files(control, [each.members["node"] for each in orders if each.op == "remove"])
-    print(f"{len(orders)} orders; the network is what {control.words.topology} wants")
+    print(f"{len(orders)} orders; the network is as in {control.words.topology} wants")
     return DONE
 
 
@@ -130,12 +130,12 @@ COMMANDS = (
     Command("remove", "removes a node that has no links", order, numbers("node")),
     Command("join", "links two nodes", order, numbers("a", "b")),
     Command("drop", "takes the link of two nodes away", order, numbers("a", "b")),
-    Command("resend", "has what is on its way sent again, where a wave stands still", resend),
+    Command("resend", "sends the packets in transit again, if a wave stands still", resend),
     Command("close", "ends the server in order", close),
-    Command("count", "finds the number of this client's last order where it was lost", count, add_count_words),
-    Command("diff", "prints the orders that would make the network what a topology file wants; status 1 where there are some",
+    Command("count", "recovers the number of this client's last order if it was lost", count, add_count_words),
+    Command("diff", "prints the orders that would make the network match a topology file; status 1 if there are some",
             diff, add_diff_words, is_look=True),
-    Command("check-topology", "judges a topology file, as `resetd init` does, without a store; status 2 where it is none",
+    Command("check-topology", "checks a topology file, like `resetd init`, without a store; status 2 if it is invalid",
             check_topology, add_topology_words, is_look=True),
     Command("apply", "makes these orders, each once", apply, add_topology_words),
 )

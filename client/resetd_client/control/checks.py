@@ -17,7 +17,7 @@ from .base import DONE, Command, Control, add_json, print_json
 
 
 def health(control: Control) -> int:
-    """Prints what is wrong, or `well`."""
+    """Prints the findings, or `well`."""
     words = control.words
     try:
         os.makedirs(control.folder, exist_ok=True)
@@ -66,14 +66,14 @@ def add_health_words(parser: argparse.ArgumentParser) -> None:
     parser.add_argument("--wave", type=ranges.span, default=5.0, metavar="SECONDS", help="how long a wave may stand still (5)")
     parser.add_argument("--unconfirmed", type=ranges.span, default=60.0, metavar="SECONDS",
                         help="how long an epoch may be unconfirmed (60)")
-    parser.add_argument("--signals", metavar="FILE", help="warns where the server's file of signals lacks lines")
-    parser.add_argument("--store", metavar="FILE", help="critical where that is not the store of the server")
+    parser.add_argument("--signals", metavar="FILE", help="warns if the server's file of signals lacks lines")
+    parser.add_argument("--store", metavar="FILE", help="critical if that is not the store of the server")
     parser.add_argument("--close-stopped", action="store_true",
                         help="closes a server that answers Stopped, so that its service manager starts it again")
 
 
 def add_metrics_words(parser: argparse.ArgumentParser) -> None:
-    parser.add_argument("--store", metavar="STORE", help="tells also whether that is the store of the server")
+    parser.add_argument("--store", metavar="STORE", help="also says whether that is the store of the server")
     parser.add_argument("file", metavar="FILE", nargs="?", default="-",
                         help="a file, which is replaced as a whole (standard output)")
 

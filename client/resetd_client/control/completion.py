@@ -58,7 +58,7 @@ class Option(NamedTuple):
     """A word of a command: an option with its names, or one by its place, which has none."""
 
     names: tuple[str, ...]
-    value: str  # what stands for its value, empty if it takes none
+    value: str  # the name of its value, empty if it has none
     about: str
     choices: tuple[str, ...]
 
@@ -73,7 +73,7 @@ def options(parser: argparse.ArgumentParser) -> Iterator[Option]:
 
 
 def commands(top: argparse.ArgumentParser) -> Iterator[tuple[str, str, argparse.ArgumentParser]]:
-    """Each command's name, what it is for, and its parser."""
+    """Each command's name, its purpose, and its parser."""
     for action in top._actions:
         if isinstance(action, argparse._SubParsersAction):
             abouts = {str(each.dest): str(each.help) for each in action._choices_actions}
@@ -86,7 +86,7 @@ def names_of(found: list[Option]) -> list[str]:
 
 
 def bash(top: argparse.ArgumentParser) -> str:
-    """The script for bash. After an option that takes a value, and where a command takes a file, bash completes files."""
+    """The script for bash. After an option with a value, and for a command with a file, bash completes files."""
     every, taking, cases = list(options(top)), set[str](), list[str]()
     for name, _, parser in commands(top):
         found = list(options(parser))

@@ -18,7 +18,7 @@ from . import ranges
 from .base import DONE, Command, Control, add_json, print_json
 
 MARKS = {"ready": "·", "abort": "A", "converge": "C"}
-FRONT_SECONDS = 30.0  # between two looks where a front tells of changes
+FRONT_SECONDS = 30.0  # between two looks if a front reports changes
 LEGEND = "· through  o to be confirmed  A abort  C converge; epoch/confirmed"
 
 
@@ -82,7 +82,7 @@ def looked(control: Control) -> list[str]:
 
 
 def draw(picture: list[str], before: list[str] | None) -> None:
-    """Draws over what was drawn before; a line that the terminal would break can't be drawn over."""
+    """Draws over the previous picture; a line that the terminal would wrap can't be drawn over."""
     width = shutil.get_terminal_size().columns - 1
     up = f"\x1b[{len(before) + 1}A\x1b[J" if before is not None else ""
     print(up + "\n".join(line[:width] for line in [picture[0], LEGEND, *picture[1:]]), flush=True)
@@ -94,12 +94,12 @@ def note(picture: list[str]) -> None:
 
 def add_watch_words(parser: argparse.ArgumentParser) -> None:
     parser.add_argument("--every", type=ranges.some_seconds, default=0.2, metavar="SECONDS",
-                        help="how often it looks where no front tells it (0.2)")
+                        help="how often it looks if no front notifies it (0.2)")
     parser.add_argument("--for", dest="for_seconds", type=ranges.span, metavar="SECONDS", help="ends after so long (never)")
 
 
 COMMANDS = (
     Command("show", "prints the nodes and links", show, add_json, is_look=True),
-    Command("watch", "draws the modes of the nodes as they change; where the output is no terminal, a line a change", watch,
+    Command("watch", "draws the modes of the nodes as they change; if the output is not a terminal, a line for each change", watch,
             add_watch_words, is_look=True),
 )

@@ -19,7 +19,7 @@ def span(text: str) -> float:
     except ValueError:
         seconds = -1.0
     if not 0 <= seconds <= MOST_SECONDS:
-        raise argparse.ArgumentTypeError(f"{text!r} is no number of seconds")
+        raise argparse.ArgumentTypeError(f"{text!r} is not a number of seconds")
     return seconds
 
 
@@ -45,14 +45,14 @@ def of(name: str) -> Callable[[str], int]:
 def count(text: str) -> int:
     """How many, one at least."""
     if not is_number(text, 1 << 64) or int(text) == 0:
-        raise argparse.ArgumentTypeError(f"{text!r} is no count")
+        raise argparse.ArgumentTypeError(f"{text!r} is not a count")
     return int(text)
 
 
 def amount(text: str) -> int:
     """How many, perhaps none."""
     if not is_number(text, 1_000_000):
-        raise argparse.ArgumentTypeError(f"{text!r} is no count")
+        raise argparse.ArgumentTypeError(f"{text!r} is not a count")
     return int(text)
 
 

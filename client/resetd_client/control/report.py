@@ -1,4 +1,4 @@
-"""A file for whoever looks into a fault: what the commands for a person on call find, and what the server stands on."""
+"""A file for an investigation: the results of the commands for a person on call, and the server's environment."""
 
 from __future__ import annotations
 
@@ -28,7 +28,7 @@ PACKAGE = os.path.dirname(os.path.dirname(os.path.abspath(__file__)))
 
 @dataclass(frozen=True)
 class Part:
-    """A file of the report: its name, what it is, and how it is found."""
+    """A file of the report: its name, its description, and how to get its content."""
 
     name: str
     about: str
@@ -39,7 +39,7 @@ def parts(control: Control) -> Iterator[Part]:
     words = control.words
     yield Part("why.txt", "what resetctl why prints", lambda: why_text(control))
     yield Part("show.json", "what the server shows", lambda: json.dumps(patiently(control.port.show, control.patience).members()))
-    yield Part("store", "a copy of the store, as resetctl backup makes it; of one that does not read, the file's bytes",
+    yield Part("store", "a copy of the store, as resetctl backup makes it; if the store can't be read, the file's bytes",
                lambda: copy_of(words.store))
     yield Part("steps.txt", "its steps since the last checkpoint", lambda: steps_text(words.store, False))
     yield Part("steps-before.txt", "the steps of the half before", lambda: steps_text(words.store, True))
@@ -95,7 +95,7 @@ def versions(path: str) -> str:
              "package " + said("dpkg-query", "--show", "resetd").strip()]
     for process in lock_holders(os.stat(path)):
         if program := program_of(process):
-            now = "it stands there now" if program.is_there else "another one stands there now"
+            now = "its path still has it" if program.is_there else "its path has another one now"
             lines.append(f"{program.checksum}  {program.path}, run by process {process}; {now}")
     for folder, _, names in sorted(os.walk(PACKAGE)):
         lines += [f"{checksum_of(os.path.join(folder, name))}  {os.path.relpath(os.path.join(folder, name), PACKAGE)}"
@@ -113,7 +113,7 @@ def process_text(path: str) -> str:
 
 
 def found(part: Part) -> bytes:
-    """What a part holds; where it can't be found, the reason."""
+    """The content of a part; if it can't be found, the reason."""
     try:
         content = part.find()
     except (Away, NotTaken, NoStore, Restless, OSError, ValueError) as fault:
@@ -122,7 +122,7 @@ def found(part: Part) -> bytes:
 
 
 def report(control: Control) -> int:
-    """Writes the report into a new file, which its owner alone may read, and prints what is in it."""
+    """Writes the report into a new file, readable by its owner only, and prints its contents."""
     out = control.words.out
     descriptor = os.open(out, os.O_WRONLY | os.O_CREAT | os.O_EXCL | os.O_CLOEXEC, 0o600)
     try:
@@ -145,7 +145,7 @@ def put_into(archive: tarfile.TarFile, name: str, content: bytes) -> None:
 
 
 def add_words(parser: argparse.ArgumentParser) -> None:
-    parser.add_argument("out", metavar="OUT.tar.gz", help="a file that is not there yet")
+    parser.add_argument("out", metavar="OUT.tar.gz", help="a file that does not exist yet")
     parser.add_argument("--store", metavar="FILE", default="/var/lib/resetd/store", help="the store (/var/lib/resetd/store)")
     parser.add_argument("--unit", metavar="NAME", default="resetd", help="the unit of the server (resetd)")
     parser.add_argument("--memory", metavar="FOLDER", default="/var/lib/resetd-health",

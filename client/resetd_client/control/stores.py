@@ -21,7 +21,7 @@ from .base import DONE, REFUSED, WRONG_WORDS, Command, Control, add_json, compla
 
 
 def why(control: Control) -> int:
-    """Prints what is after a fault of a start, of a store's file and of an address."""
+    """Prints the causes of a fault at the start, for a store's file and an address."""
     words = control.words
     findings = []
     for finding in looked_at(words.file, words.user, words.at, control.seconds, words.audit):
@@ -33,19 +33,19 @@ def why(control: Control) -> int:
         print_json({"findings": [asdict(finding) for finding in findings], "told": told.splitlines()})
         return REFUSED if told else DONE
     left_out = "".join(f"; {finding.left_out} is not known" for finding in findings if finding.left_out)
-    print(told or f"nothing seen here stands in the way of a start{left_out}")
+    print(told or f"nothing found here prevents a start{left_out}")
     return REFUSED if told else DONE
 
 
 def looked_at(path: str, user: Account | None, address: str | None, seconds: float, audit: str = AUDIT) -> Iterator[Finding]:
-    """What there is to say of a store's file, and of the server at an address, where one is given."""
+    """The findings about a store's file, and about the server at an address, if one is given."""
     yield from of_file(path, user)
     if address:
         yield from of_address(address, seconds, path, audit)
 
 
 def told_start(findings: list[Finding]) -> str:
-    """With which fault a start of the server would end now, and what a running server will meet; empty if neither."""
+    """With which fault a start of the server would end now, and which a running server will meet; empty if there is none."""
     faults = sorted((finding for finding in findings if finding.fault), key=lambda finding: finding.fault != "Usage")
     told = [f"a start now would end with {finding.fault}: {finding.about}: {finding.text}" for finding in faults[:1]]
     told += [f"a server that runs meets {finding.later}: {finding.about}: {finding.text}" for finding in findings if finding.later]
@@ -84,7 +84,7 @@ def store_rows(store: Store) -> Iterator[str]:
 
 
 def backup(control: Control) -> int:
-    """Copies a store that may be served meanwhile. If the copy's name is a link, the copy goes where it leads."""
+    """Copies a store that may be served meanwhile. If the copy's name is a link, the copy is written to its target."""
     words = control.words
     out = os.path.realpath(words.out)
     descriptor = open_store(words.file)
@@ -101,7 +101,7 @@ def backup(control: Control) -> int:
 
 
 def why_not(out: str, source: os.stat_result) -> str:
-    """Why a copy may not be put here: only what is absent, empty or another copy is replaced."""
+    """The reason why a copy may not be put here: only an absent or empty file or another copy is replaced."""
     try:
         descriptor = open_store(out)
     except FileNotFoundError:
@@ -115,13 +115,13 @@ def why_not(out: str, source: os.stat_result) -> str:
     if os.path.samestat(found, source):
         return "this is the store itself"
     if lock_holders(found):
-        return "a process has it locked: nothing is put onto a store that is served"
+        return "a process has locked it: a store that is served is not replaced"
     return "" if not head or head[1:9] == MAGIC else "it holds something else than a store"
 
 
 def put(path: str, data: bytes, like: os.stat_result) -> None:
-    """Puts a file in place as a whole, and on the disk, with the mode and, if this user may, the owner of another file.
-    If it can't, nothing new stands there."""
+    """Replaces a file as a whole, synced, with the mode and, if this user may, the owner of another file. If it fails, no new
+    file is left."""
     descriptor, new = tempfile.mkstemp(prefix=f".{os.path.basename(path)}-", dir=os.path.dirname(path))
     try:
         with open(descriptor, "wb") as file:
@@ -142,7 +142,7 @@ def add_why_words(parser: argparse.ArgumentParser) -> None:
     add_json(parser)
     add_file_words(parser)
     parser.add_argument("at", metavar="ADDRESS", nargs="?", help="the address of the server, A.B.C.D:P")
-    parser.add_argument("--audit", metavar="FILE", default=AUDIT, help=f"the audit of a front, which tells since when a group waits ({AUDIT})")
+    parser.add_argument("--audit", metavar="FILE", default=AUDIT, help=f"the audit of a front, which says since when a group waits ({AUDIT})")
     parser.add_argument("--user", type=ranges.account, metavar="NAME", help="the user as whom the server runs (who owns the folder)")
 
 
@@ -153,17 +153,16 @@ def add_file_words(parser: argparse.ArgumentParser) -> None:
 def add_steps_words(parser: argparse.ArgumentParser) -> None:
     add_json(parser)
     add_file_words(parser)
-    parser.add_argument("--before", action="store_true", help="the half of before the last checkpoint, which stands until the next one")
+    parser.add_argument("--before", action="store_true", help="the half from before the last checkpoint, which stays until the next one")
 
 
 def add_backup_words(parser: argparse.ArgumentParser) -> None:
     add_file_words(parser)
-    parser.add_argument("out", metavar="OUT", help="the copy; one that is there is replaced as a whole")
+    parser.add_argument("out", metavar="OUT", help="the copy; an older copy is replaced as a whole")
 
 
 COMMANDS = (
-    Command("why", "prints what stands after a fault of a start: of the store's file and of the address; status 1 where there "
-            "is a reason", why, add_why_words, is_look=True),
+    Command("why", "prints the cause of a fault at a start, for the store's file and the address; status 1 if there is one", why, add_why_words, is_look=True),
     Command("steps", "prints the steps of a store, each with its batch, the steps of which were settled together", steps,
             add_steps_words),
     Command("backup", "copies a store, which may be served meanwhile", backup, add_backup_words),

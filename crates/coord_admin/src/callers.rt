@@ -20,7 +20,7 @@ use std::net::{OpenListener, OpenStream, SocketAddr};
 use std::time::Clock;
 use std::{io, thread};
 
-/// Clients that come one after the other, each with a connection of its own.
+/// Clients that connect one after the other, each with its own connection.
 pub trait Callers {
     type Line: Duplex + Drop;
 

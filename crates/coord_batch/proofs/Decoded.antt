@@ -1,4 +1,4 @@
--- What all of the bytes are read as is what they spell.
+-- The value read from all of the bytes is the one that they encode.
 use Rattle.std.proofs.Common.{◌≡◌, ◌↔◌, ℕ, Bool, true, false, cond, List, length, Result, Ok, Err, ap, subst, ◌∙◌, IfOk, arith}
 use Rattle.coord_batch.specs.declared.fault.CodecFault.{CodecFault}
 use Rattle.coord_batch.specs.declared.fault.Flaw.{Flaw}
@@ -25,15 +25,15 @@ module _ {A : Type 0} (f : ℕ → Format A) (grammar : (v : ℕ) → IsGrammar 
       ap (λ (b : Bool). cond b (or_fault (length ((f version).text x)) (whole (f version) ((f version).text x))) (Err bad_version)) known ∙ ap (or_fault (length ((f version).text x))) (whole_again (f version) (grammar version) x fits)
 
   module _ {X : Type 0} (view : X → A) (bytes : List ℕ) where
-    -- what is read is spelled so
+    -- the bytes encode the value that was read
     pub answers_found : (result : Result X CodecFault) → IsBytes bytes → AnswersDecoded view result (decoded f version bytes) → IfOk result (λ v. (is_version version ≡ true) × (f version).Fits (view v) × (bytes ≡ (f version).text (view v)))
     answers_found (Ok v) fits answers = decoded_found bytes (view v) fits answers
     answers_found (Err e) fits answers = tt
 
-    -- what is spelled so is read, unless memory runs out
+    -- an encoding is read, unless memory runs out
     pub answers_only : (result : Result X CodecFault) (x : A) → is_version version ≡ true → (f version).Fits x → bytes ≡ (f version).text x → AnswersDecoded view result (decoded f version bytes) → AnswersDecoded view result (Ok x)
     answers_only result x known fits spelled answers = subst (AnswersDecoded view result) (ap (decoded f version) spelled ∙ decoded_again x known fits) answers
 
-    -- the version is told where it is none, and nowhere else
+    -- BadVersion is returned exactly if the version is unknown
     pub version_distinguished : (result : Result X CodecFault) → (is_version version ≡ false → result ≡ Err bad_version) → AnswersDecoded view result (decoded f version bytes) → (result ≡ Err bad_version) ↔ (is_version version ≡ false)
     version_distinguished result other answers = grind (arith, no_version)

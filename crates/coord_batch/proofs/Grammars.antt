@@ -1,4 +1,5 @@
--- What is read of a format is spelled so, what is spelled so is read, and what is cut is Short: laws of each way of making formats.
+-- The value read by a format is encoded by the bytes, an encoding is read, and a truncated one is Short: laws of each
+-- way of making formats.
 use Rattle.std.proofs.Common.{◌≡◌, ◌⊎◌, ℕ, zero, suc, ◌+◌, ◌^◌, ◌<◌, ◌≤◌, Bool, true, false, cond, ltb, eqb, List, [], ◌∷◌, ◌++◌, length, get_or, take, drop, Result, Ok, Err, refl, sym, ap, subst, ◌∙◌, append_assoc, arith, inl, inr}
 use Rattle.std.specs.List.{flat_map}
 use Rattle.std.specs.Int.{Width, w16, w64, byte_len, from_be_bytes, to_be_bytes}
@@ -13,13 +14,13 @@ use Rattle.coord_batch.specs.Format.{Format, ◌>>=◌, byte, u16, u64, nothing,
 abbrev pub IsBytes : List ℕ → Type 0
 IsBytes bytes = (i : ℕ) → get_or bytes i 0 < 256
 
--- what was read, and what is left
+-- the value that was read, and the rest
 pub record Takes {A : Type 0} (f : Format A) (bytes : List ℕ) (x : A) (rest : List ℕ) : Type 0 where
   pub parts : bytes ≡ f.text x ++ rest
   pub left : IsBytes rest
   pub fits : f.Fits x
 
--- what is read is spelled so, what is spelled is read whatever stands after it, and what is cut is Short
+-- the bytes encode the value that was read, an encoding is read whatever follows it, and a truncated one is Short
 pub record IsGrammar {A : Type 0} (f : Format A) : Type 0 where
   pub takes : (bytes : List ℕ) (x : A) (rest : List ℕ) → IsBytes bytes → f.read bytes ≡ Ok (x, rest) → Takes f bytes x rest
   pub again : (x : A) (rest : List ℕ) → f.Fits x → f.read (f.text x ++ rest) ≡ Ok (x, rest)
@@ -48,7 +49,7 @@ done x = Ok x
 ok_is : {A : Type 0} (x y : A) → done x ≡ done y → x ≡ y
 ok_is x y e = cc
 
--- ---- where a text is cut
+-- ---- truncated texts
 
 -- a text of two parts is cut in the first one, or after it
 cut_in_two : (a c front rest : List ℕ) (b : ℕ) → a ++ c ≡ front ++ b ∷ rest → ((more : List ℕ) × (a ≡ front ++ b ∷ more)) ⊎ ((behind : List ℕ) × (front ≡ a ++ behind) × (c ≡ behind ++ b ∷ rest))
@@ -62,7 +63,7 @@ cut_in_two (x ∷ a) c (y ∷ front) rest b is =
       | inr p ↦ let same : front ≡ a ++ p.0 = p.1 in inr (p.0, cc, p.2)
     ]
 
--- what is cut off has fewer bytes
+-- a truncated text has fewer bytes
 front_shorter : (a front rest : List ℕ) (b : ℕ) → a ≡ front ++ b ∷ rest → length front < length a
 front_shorter a front rest b is = omega (arith, ap length is, length-append front (b ∷ rest))
 
@@ -306,7 +307,7 @@ module _ {A : Type 0} (count : Format ℕ) (item : List A → Format A) (number 
 -- ---- all of the bytes
 
 module _ {A : Type 0} (f : Format A) (grammar : IsGrammar f) where
-  -- what is read is spelled by the bytes
+  -- the bytes encode the value that was read
   pub whole_found : (bytes : List ℕ) (x : A) → IsBytes bytes → whole f bytes ≡ Ok x → (bytes ≡ f.text x) × f.Fits x
   whole_found bytes x fits e =
       let a = bind_ok (f.read bytes) ended x e in

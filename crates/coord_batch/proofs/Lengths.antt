@@ -11,7 +11,7 @@ use Rattle.coord_types.specs.declared.steps.Step.{Step}
 use Rattle.coord_batch.specs.Fields.{at_most, node, group, client, distance, unless, message, message_case, from_one}
 use Rattle.coord_batch.specs.Steps.{command, command_case, data_packet, order, receipt_packet, step, step_case}
 
--- items of at most so many bytes each
+-- items of at most this many bytes each
 pub length-flat_map_most : {A : Type 0} (P : A → Type 0) (text : A → List ℕ) (most : ℕ) → ((x : A) → P x → length (text x) ≤ most) → (xs : List A) → AllByRecursion P xs → length (flat_map text xs) ≤ most * length xs
 length-flat_map_most P text most each [] all = omega arith
 length-flat_map_most P text most each (x ∷ xs) all =

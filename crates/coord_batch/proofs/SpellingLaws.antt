@@ -1,4 +1,4 @@
--- What stands after a spelling doesn't change what is read of it, and a spelling that is cut is Short.
+-- The bytes after an encoding don't change the value, and a truncated encoding is Short.
 use Rattle.std.proofs.Common.{◌≡◌, ℕ, ◌-◌, Bool, true, false, cond, eqb, List, ◌∷◌, ◌++◌, length, Err, refl, ap, ◌∙◌, length-append, arith}
 use Rattle.std.proofs.lemmas.Bool.Decides.{nat_tests}
 use Rattle.coord_batch.specs.declared.fault.FaultKind.TheVariants.{Short, Extra}
@@ -20,7 +20,7 @@ module _ {A : Type 0} (f : ℕ → Format A) (grammar : (v : ℕ) → IsGrammar 
   pub cut_short : (x : A) (front rest : List ℕ) (b : ℕ) → (f version).Fits x → (f version).text x ≡ front ++ b ∷ rest → decoded f version front ≡ Err (fault_at Short (length front))
   cut_short x front rest b fits is = decodes front ∙ ap (λ r. or_fault (length front) (r >>= ended)) ((grammar version).cut x front rest b fits is)
 
-  -- what stands after a spelling is Extra
+  -- bytes after an encoding are Extra
   pub more_extra : (x : A) (rest : List ℕ) (b : ℕ) → (f version).Fits x → decoded f version ((f version).text x ++ b ∷ rest) ≡ Err (fault_at Extra (length ((f version).text x)))
   more_extra x rest b fits =
       let bytes = (f version).text x ++ b ∷ rest in

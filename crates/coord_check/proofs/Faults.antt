@@ -1,4 +1,5 @@
--- The faults of a world: when nothing is told, the first fault of many places in turn, and that each fails where it says.
+-- The faults of a world: when there is none, the first fault of many places in turn, and that each fails at the
+-- reported place.
 use Rattle.std.proofs.Common.{◌≡◌, ℕ, zero, suc, ◌+◌, ◌-◌, ◌<◌, ◌≤◌, Bool, true, false, List, [], ◌∷◌, ◌++◌, refl, sym, ap, ◌∙◌, ◌⊎◌, inl, inr, arith, Option, Some, None, length, get_or, drop, if◌then◌else◌, IfSome}
 use Rattle.std.specs.List.{AllByRecursion, flat_map, range_with_len}
 use Rattle.std.proofs.lemmas.List.{drop_more}
@@ -16,7 +17,7 @@ use Rattle.coord_types.specs.Table.{has}
 use Rattle.coord_world.proofs.Facade.{lane-mirrored}
 use Rattle.coord_check.specs.declared.violation.Letter.TheVariants as letter
 
--- ---- when nothing is told
+-- ---- no fault
 
 pub unreported : (b : Bool) (v : Violation) → fault_unless b v ≡ [] → b ≡ true
 unreported true v is = refl
@@ -114,7 +115,7 @@ module _ {K X : Type 0} (f : K → List X) (ks : List K) (i : ℕ) (d : K) where
   pub met_at : (x : X) → i < length ks → first (f (get_or ks i d)) ≡ Some x → first (flat_map f (drop i ks)) ≡ Some x
   met_at x lt is = at_place lt ∙ first_here (f (get_or ks i d)) (flat_map f (drop (i + 1) ks)) x is
 
--- what is on the way on a lane, there or not
+-- the messages in transit on a lane, present or not
 way_is : (o : Option Lane) → transit_or_none o ≡ transit (lane_or_none o)
 way_is None = refl
 way_is (Some l) = refl
@@ -165,13 +166,13 @@ module _ (w : World) (a b : ℕ) where
     broken_back t s e not_here d is =
         met_letter _ (ap (λ l. first (l ++ end_faults w b a x)) (not_reported _ _ (here t true e not_here)) ∙ ap first (reported_false _ _ (back s false d is)))
 
-    -- neither does
+    -- both have none
     pub unbroken_letter : (t s : Bool) → t ≡ holds_of x near.lane (seen near far) → t ≡ true → s ≡ holds_of x far.lane (seen far near) → s ≡ true → first (flat_map (letter_faults w a b) (drop (i + 1) link_letters)) ≡ first (flat_map (letter_faults w a b) (drop i link_letters))
     unbroken_letter t s e not_here d not_back =
         let none : first (letter_faults w a b x) ≡ None = ap (λ l. first (l ++ end_faults w b a x)) (not_reported _ _ (here t true e not_here)) ∙ ap first (not_reported _ _ (back s true d not_back)) in
         sym (left_is (i + 1)) ∙ passed_at (letter_faults w a b) tried i letter.N lt (ap (λ y. first (letter_faults w a b y)) at ∙ none) ∙ left_is i
 
--- ---- each fails where it says
+-- ---- each fails at the reported place
 
 module _ {X : Type 0} (P : X → Type 0) where
   all_append : (xs ys : List X) → AllByRecursion P xs → AllByRecursion P ys → AllByRecursion P (xs ++ ys)
@@ -190,7 +191,7 @@ module _ {X : Type 0} (P : X → Type 0) where
   of_first [] all = tt
   of_first (x ∷ xs) all = all.0
 
--- what is told fails
+-- a reported predicate fails
 all_reported : (P : Violation → Type 0) (t : Bool) (v : Violation) → (t ≡ false → P v) → AllByRecursion P (fault_unless t v)
 all_reported P true v fails = tt
 all_reported P false v fails = (fails refl, tt)

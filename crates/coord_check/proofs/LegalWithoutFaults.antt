@@ -1,4 +1,4 @@
--- A world has no fault exactly where it is legal.
+-- A world has no fault exactly if it is legal.
 use Rattle.std.proofs.Common.{◌≡◌, ℕ, ◌+◌, ◌≤◌, ◌<◌, ◌⊎◌, inl, inr, Bool, true, false, List, [], Option, Some, None, refl, sym, ap, ◌∙◌, arith, is_some, IsNone, if◌then◌else◌}
 use Rattle.std.specs.List.{flat_map}
 use Rattle.coord_types.specs.Facade.{NodeState, get}
@@ -16,7 +16,7 @@ order : (u v : ℕ) → (u < v) ⊎ ((v < u) ⊎ (u ≡ v))
 order u v = grind arith
 
 module _ (w : World) (range : InRange w) where
-  -- what is told of a node, there or not
+  -- the faults of a node, present or not
   abbrev node_reported : ℕ → Option NodeState → List Violation
   node_reported u o = if is_some o then fault_unless (is_legal_node w.count (state_or_none o)) (record { a = u; b = u; letter = letter.N }) else []
 
@@ -26,7 +26,7 @@ module _ (w : World) (range : InRange w) where
       let named = range.nodes u found.0 found.1 in
       (named.least, named.greatest)
 
-  -- where nothing is told of a link, each letter holds as both ends see it
+  -- if a link has no fault, each letter holds as both ends see it
   clean_link : (a b : ℕ) → is_linked w a b ≡ true → link_faults w a b ≡ [] → (x : Letter) → (link_holds w a b x ≡ true) × (link_holds w b a x ≡ true)
   clean_link a b is none x =
       let each : letter_faults w a b x ≡ [] = no_letter (letter_faults w a b) refl (sym (there w a b is) ∙ none) x in
@@ -101,7 +101,7 @@ module _ (w : World) (range : InRange w) where
     pub clear_where_legal : faults w ≡ []
     clear_where_legal = grind (arith, empty_both, report_none, no_node_fault, no_link_fault)
 
-  -- no fault is the first one exactly where the world is legal
+  -- there is no first fault exactly if the world is legal
   pub clear_or_not : (o : Option Violation) → o ≡ first (faults w) → (IsNone o → Legal w) × (Legal w → IsNone o)
   clear_or_not None is = (λ _. legal_where_clear (no_first (faults w) (sym is)), λ _. refl)
   clear_or_not (Some v) is = (λ none. cc, λ legal. let e = ap first (clear_where_legal legal) in cc)

@@ -38,7 +38,7 @@ other : (x v : ℕ) (b : Bool) → x < v → b ≡ false → (nat_eq x v || b) �
 other x v b lt none = grind (arith, nat_tests)
 
 module _ {X : Type 0} (f : ℕ → List X) where
-  -- a range and the numbers of it that are listed lead to the same, where the others lead to nothing
+  -- a range and its listed numbers lead to the same, if the others lead to nothing
   sparse : (m u n : ℕ) (xs : List ℕ) → u + n ≡ m → RiseFrom u xs → AllByRecursion (λ x. x < m) xs → ((v : ℕ) → u ≤ v → v < m → list_any (λ y. nat_eq y v) xs ≡ false → f v ≡ []) → flat_map f (range_with_len u n) ≡ flat_map f xs
   sparse m u zero [] e rise below none = refl
   sparse m u zero (x ∷ xs) e rise below none = let least = rise.0 in let most = below.0 in absurd (omega arith)
@@ -92,7 +92,7 @@ nothing true l e = e
 nothing false l e = refl
 
 module _ (w : World) (a : ℕ) where
-  -- what is told of the link to a neighbour
+  -- the faults of the link to a neighbour
   abbrev pub reported_above : ℕ → List Violation
   reported_above = from_above (link_faults w a) a
 
@@ -117,7 +117,7 @@ module _ (w : World) (a : ℕ) where
     unfolding near
     stranger v is = nothing (nat_lt a v) (link_faults w a v) (unlinked w a v (is_linked w a v) (range.linked a v ∙ contains-items near v ∙ is))
 
-    -- the walk meets what is told of the links from a node upwards
+    -- the walk meets the faults of the links from a node upwards
     pub walk_is : a < 65 → flat_map reported_above (items (state w a).neighbours) ≡ faults_from w a
     unfolding near numbers
     walk_is lt =

@@ -102,6 +102,6 @@ module _ {X : Type 0} (m : Table nat_cmp_total X) (most : ℕ) (text : ℕ × X 
   pub all_written : (u : ℕ) (before out : List ℕ) → most < u → IsWrittenTo u before out → out ≡ written before
   all_written u before out past so_far = sym (append-nil out) ∙ ap (λ us. out ++ flat_map text (flat_map (entry_at m) us)) (sym (no_more_numbers most u past)) ∙ so_far
 
--- what is written of each entry is what is written of each row
+-- the bytes of each entry are those of each row
 pub rows_text : {X A : Type 0} (m : Table nat_cmp_total X) (row : ℕ × X → A) (text : A → List ℕ) → len m ∷ flat_map (λ e. text (row e)) (entries m) ≡ length (map row (entries m)) ∷ flat_map text (map row (entries m))
 rows_text m row text = grind (arith, len-entries, length-map, flat_map-map)

@@ -63,7 +63,7 @@ few_keys key last most (x ∷ xs) within below sorted all =
 
 -- ---- what one more row changes of the groups that the next one may have
 
--- what is there already, else this
+-- the present value, else this
 abbrev or_else : {A : Type 0} → Option A → Option A → Option A
 or_else None o = o
 or_else (Some x) o = Some x
@@ -95,7 +95,7 @@ module _ (groups : List (Option ℕ)) (rows : List NodeRow) (r : NodeRow) (least
   group_kept : (g : ℕ) → get_or groups (r.id - 1) None ≡ Some g → (u : ℕ) → 1 ≤ u → u ≤ 64 → get_or groups (u - 1) None ≡ group_of (rows ++ r ∷ []) u
   group_kept g some u low high = grind (arith, by_test, else_none, group_push)
 
-  -- the group of a node is known where it was noted, and where the node had it already
+  -- the group of a node is known if it was noted, and if the node had it already
   pub group_noted : (new : List (Option ℕ)) → (get_or groups (r.id - 1) None ≡ None → new ≡ set groups (r.id - 1) (Some r.group)) → (IsSome (get_or groups (r.id - 1) None) → new ≡ groups) → (u : ℕ) → 1 ≤ u → u ≤ 64 → get_or new (u - 1) None ≡ group_of (rows ++ r ∷ []) u
   group_noted new fresh kept u low high = grind (arith, group_set, group_kept)
 
@@ -125,7 +125,7 @@ pub degree_most : (u : ℕ) (rows : List LinkRow) → degree u rows ≤ length r
 degree_most u [] = omega arith
 degree_most u (x ∷ rows) = grind (arith, degree_most u rows)
 
--- what stands at each place then
+-- the value at each place then
 pub get_raised : (ds : List ℕ) (i j : ℕ) → i < length ds → get_or (raised ds i) j 0 ≡ get_or ds j 0 + one (eqb j i)
 get_raised ds i j within = grind (arith, by_test, get_or-set_same, get_or-set_other)
 

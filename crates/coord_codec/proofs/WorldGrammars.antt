@@ -31,7 +31,7 @@ use Rattle.coord_codec.specs.Laws.{BytesBehindWorldsAreExtra, CutWorldsAreShort,
 
 -- ---- how the parts of a world are spelled, whatever else is asked of them
 
--- how a distance is spelled does not depend on what it may be
+-- the encoding of a distance does not depend on its limit
 distance_text : (version most other n : ℕ) → (distance version most).text n ≡ (distance version other).text n
 unfolding distance unless at_most
 distance_text version most other n = grind arith
@@ -165,11 +165,11 @@ world_grammar version =
 
 -- ---- what spells a world is read as that world
 
--- what is read is in its ranges, and is spelled so
+-- a value that is read is in its ranges, and the bytes encode it
 pub world_found : (version : ℕ) (bytes : List ℕ) (result : Result World CodecFault) → IsBytes bytes → IfOk result InRange → AnswersDecoded rows_of result (decoded world version bytes) → IfOk result (λ v. (v.version ≡ version) × InRange v × (bytes ≡ (world version).text (rows_of v)))
 world_found version bytes result fits ranges answers = grind (arith, answers_found, world_grammar, version_fits)
 
--- what is said of every fault but out of memory, in other words
+-- the statement about every fault but OutOfMemory, in another form
 weaker : (k : FaultKind) (P Q : Type 0) → (P → Q) → Unless k P → Unless k Q
 weaker k P Q h1 h2 = grind arith
 

@@ -75,7 +75,7 @@ node_distance_fits version count n m h1 h2 h3 = grind (arith, distance_fits)
 
 -- ---- rows by number
 
--- a row fits after others where it is in its range and its number above theirs
+-- a row fits after others if it is in its range and its number above theirs
 module _ {Row : Type 0} (key : Row → ℕ) (row : List Row → Format Row) (IsRow : Row → Type 0) where
   abbrev IsAbove : List Row → Row → Type 0
   IsAbove front r = is_lt (nat_cmp (last_by key 0 front) (key r)) ≡ true
@@ -191,7 +191,7 @@ module _ (version count : ℕ) (small : count < 2 ^ 64) where
   queue_fits ms few carry = (how_many_fits PLACES (length ms) (omega arith) few, each_message [] ms carry)
 
 module _ (version count : ℕ) (listed : List NodeRow) (small : count < 2 ^ 64) where
-  -- what a link's row says, and what it says of those before it
+  -- the predicate on a link's row, and on those before it
   record LinkedRow (front : List LinkRow) (r : LinkRow) : Type 0 where
     pub range : LinkRowFits count listed r
     pub carried : LanesCarryWithin (farthest version count) r

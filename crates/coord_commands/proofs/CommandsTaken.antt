@@ -1,6 +1,6 @@
 -- The arguments of each command are taken.
 use Rattle.std.proofs.Common.{◌≡◌, true, [], ◌∷◌, codes, refl, None}
-use Rattle.clap.specs.Arguments.{Text, takes}
+use Rattle.clap.specs.Words.{Text, takes}
 use Rattle.clap.proofs.OnLiterals.{clap_on_literals}
 use Rattle.coord_commands.specs.Laws.{AreTakenAs, CommandsAreTaken}
 use Rattle.coord_commands.specs.Arguments.{resetd, task_of}

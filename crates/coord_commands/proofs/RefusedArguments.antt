@@ -1,7 +1,7 @@
 -- Arguments that are refused.
 use Rattle.std.proofs.Common.{◌≡◌, ◌⊎◌, inl, inr, refl, ℕ, List, Option, None, Result, Ok, Err, IfErr, IfOk, true}
 use Rattle.std.proofs.KnownBytes.{Keeps-refl}
-use Rattle.clap.specs.Arguments.{Text, takes}
+use Rattle.clap.specs.Words.{Text, takes}
 use Rattle.coord_disk.specs.Model.Present.{Present}
 use Rattle.coord_lines.specs.Written.{WritesFirstPart}
 use Rattle.coord_commands.specs.Faults.{fault_line, fault_status}

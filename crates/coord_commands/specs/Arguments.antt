@@ -1,6 +1,6 @@
 -- What the program's arguments ask for.
 use Rattle.std.specs.Prelude.{ℕ, ◌==◌, length, List, codes, bytes_eq, Option, Some, None, true, if◌then◌else◌, option_and_then, option_map}
-use Rattle.clap.specs.Arguments.{App, Row, Rule, Text, first_of, new_app, new_rule, subcommand_of, with_rule, with_subcommand}
+use Rattle.clap.specs.Words.{App, Row, Rule, Text, first_of, new_app, new_rule, subcommand_of, with_rule, with_subcommand}
 use Rattle.clap.specs.Simple.{on_top}
 use Rattle.clap.specs.declared.builder.action.ArgAction.TheVariants.{Set}
 use Rattle.coord_commands.specs.declared.arguments.Task.{Task}

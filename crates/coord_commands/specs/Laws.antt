@@ -1,6 +1,6 @@
 -- The law of the program's arguments.
 use Rattle.std.specs.Prelude.{◌≡◌, true, List, [], ◌∷◌, codes, None, Some}
-use Rattle.clap.specs.Arguments.{Text, takes}
+use Rattle.clap.specs.Words.{Text, takes}
 use Rattle.coord_commands.specs.Arguments.{AskedCommand, resetd, task_of}
 use Rattle.coord_commands.specs.Arguments as asked
 

@@ -1,7 +1,7 @@
 -- What a run of the program does, by its arguments.
 use Rattle.std.specs.Prelude.{◌≡◌, ◌⊎◌, ℕ, true, List, Option, Some, None}
 use Rattle.std.specs.Io.KnownBytes.{IsAtEnd, Keeps}
-use Rattle.clap.specs.Arguments.{Text, takes}
+use Rattle.clap.specs.Words.{Text, takes}
 use Rattle.coord_disk.specs.Model.DiskModel.{DiskModel}
 use Rattle.coord_disk.specs.Model.Present.{Present}
 use Rattle.coord_lines.specs.Written.{WritesFirstPart}

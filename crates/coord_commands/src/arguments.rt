@@ -1,7 +1,7 @@
 //! The program's arguments.
 
 ghost use Rattle.std.specs.Prelude.{◌≡◌, ◌⊎◌, false, true, map, option_and_then, option_map, IfOk, IfErr, Some, None, string_bytes};
-ghost use Rattle.clap.specs.Arguments.{app_of, found_of, new_app, rows_of, rule_of, subcommand_rows_of, takes, with_rule, with_subcommand};
+ghost use Rattle.clap.specs.Words.{app_of, found_of, new_app, rows_of, rule_of, subcommand_rows_of, takes, with_rule, with_subcommand};
 ghost use Rattle.coord_commands.specs.declared.fault.Fault.TheVariants.{Usage, OutOfMemory};
 ghost use Rattle.coord_commands.specs.Arguments.{asked_of, asked_of_file, asked_of_name, in_arguments, resetd, task_of, argument_named, arguments_for};
 

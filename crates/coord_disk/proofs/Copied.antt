@@ -1,4 +1,4 @@
--- What stands where after a part of one list was copied to the same place of another.
+-- The elements after a part of one list was copied to the same place of another.
 use Rattle.std.proofs.Common.{◌≡◌, ◌⊎◌, inl, inr, ℕ, ◌+◌, ◌-◌, ◌<◌, ◌≤◌, min, List, ◌++◌, length, take, drop, sym, ◌∙◌, ap, arith, length-append, length-take, length-drop, slice_get, false, nat_le, nat_lt, ◌&&◌}
 use Rattle.std.proofs.lemmas.Bool.{cases_lt}
 use Rattle.std.proofs.lemmas.Bool.Decides.{nat_tests}
@@ -43,7 +43,7 @@ module _ (to from : List ℕ) (start stop : ℕ) (size : length to ≡ length fr
 pub apart : (at len size start stop i : ℕ) → start ≡ min size at → stop ≡ start + min len (size - start) → i < size → (i < start) ⊎ (stop ≤ i) → (nat_le at i && nat_lt i (at + len)) ≡ false
 apart at len size start stop i start_is stop_is lt out = grind (arith, nat_tests, start_is, stop_is, lt, out)
 
--- the synced bytes once they are as long as what is read
+-- the synced bytes once they are as long as the current ones
 pub grown : (disk : Present) (read tail : List ℕ) → IsImage disk read → tail ≡ drop (length disk.synced) read → IsImage (record disk { synced = disk.synced ++ tail }) read
 grown disk read tail image is = record {
   no_shorter = omega (arith, length-append disk.synced tail, ap length is, length-drop (length disk.synced) read, image.no_shorter);

@@ -10,11 +10,11 @@ module _ {D : Type 0} (m : DiskModel D) where
   pub started : IsModel m → (old : D) (P : List ℕ → Type 0) → m.keeps_model old ≡ true → ((c : List ℕ) → IsImage (m.present old) c → P c) → LeavesOnly m old old P
   started laws old P keeps here = record { later = omega arith; each = λ c left. here c (laws.only_now old c keeps left); before = λ t c le left. inl left }
 
-  -- one call more, after which a crash leaves what has P
+  -- one more call, after which a crash leaves only bytes that have P
   pub goes_on : (old mid new : D) (P : List ℕ → Type 0) → LeavesOnly m old mid P → Passes m mid new → ((c : List ℕ) → IsImage (m.present new) c → P c) → LeavesOnly m old new P
   goes_on old mid new P so_far time here = grind arith
 
-  -- what has P has Q
+  -- P implies Q
   pub weaker : (old new : D) (P Q : List ℕ → Type 0) → LeavesOnly m old new P → ((c : List ℕ) → P c → Q c) → LeavesOnly m old new Q
   weaker old new P Q leaves implies = grind arith
 

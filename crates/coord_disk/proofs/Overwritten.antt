@@ -1,4 +1,4 @@
--- What stands where after a write.
+-- The bytes after a write.
 use Rattle.std.proofs.Common.{◌≡◌, ◌⊎◌, inl, inr, ℕ, zero, suc, ◌+◌, ◌-◌, ◌<◌, ◌≤◌, max, false, List, [], ◌∷◌, ◌++◌, length, take, drop, refl, sym, ◌∙◌, ap, arith, append_assoc, length-append, length-take, length-drop, slice_get, replicate, ◌||◌, Bool}
 use Rattle.std.proofs.lemmas.List.{append-nil, drop-drop, drop_all, length-replicate, take-replicate, take_all}
 use Rattle.std.proofs.lemmas.Bool.Decides.{nat_tests}
@@ -82,7 +82,7 @@ either_false a b e = grind (arith, nat_tests, e)
 outside : (at i : ℕ) (bytes : List ℕ) (written : List Range) → is_within (range_of at bytes ∷ written) i ≡ false → (i < at) ⊎ (at + length bytes ≤ i)
 outside at i bytes written out = grind (arith, nat_tests, out)
 
--- what is written is a write
+-- the written bytes are those of a write
 pub wrote : (at : ℕ) (bytes : List ℕ) (disk : Present) → WritesWithin at bytes disk (written_at at bytes disk)
 wrote at bytes disk = grind (arith, no_shorter, elsewhere)
 

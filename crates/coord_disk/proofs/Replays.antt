@@ -34,7 +34,7 @@ module _ (entries : List Entry) (n place : ℕ) (entry : Entry) (some : 0 < n) (
 pub present-push : (old new : Past) (entry : Entry) → new.first ≡ old.first → new.entries ≡ old.entries ++ entry ∷ [] → present_after new ≡ after (present_after old) entry
 present-push old new entry first entries = rw (entries, first) (replayed-push (whole old.first) old.entries entry)
 
--- the synced bytes once they are as long as what is read, where nothing was recorded since
+-- the synced bytes once they are as long as the current ones, if nothing was recorded since
 pub is_ready : (old : History) (read read_now tail synced : List ℕ) (entries : List Entry) → LedTo old read → read_now ≡ read → entries ≡ old.entries.items → tail ≡ drop (length old.synced.items) read → synced ≡ old.synced.items ++ tail
     → IsImage (record (replayed (whole old.first.items) entries) { synced = synced }) read_now
 is_ready old read read_now tail synced entries led read_is entries_is tail_is synced_is =

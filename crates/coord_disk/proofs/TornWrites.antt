@@ -1,4 +1,4 @@
--- What one write leaves where all was synced before it.
+-- The images of one write if everything before it was synced.
 use Rattle.std.proofs.Common.{◌≡◌, ◌≢◌, ◌⊎◌, inl, inr, ℕ, suc, ◌+◌, ◌-◌, ◌<◌, ◌≤◌, List, [], ◌∷◌, ◌++◌, length, take, drop, Some, refl, sym, ◌∙◌, ap, subst, arith, append_assoc, length-append, length-take, slice_get, replicate}
 use Rattle.std.proofs.lemmas.Bool.Decides.{nat_tests}
 use Rattle.std.proofs.lemmas.List.{append-nil, length-replicate, nil_from_length, take_at}
@@ -54,7 +54,7 @@ single [] one = absurd (omega (arith, one))
 single (x ∷ []) one = (x, refl)
 single (x ∷ (y ∷ l)) one = absurd (omega (arith, one))
 
--- One byte is written over another: whatever a crash leaves in its place, what stands before and after it stays.
+-- One byte is written over another: whatever a crash leaves at its place, the bytes before and after it stay.
 pub torn_byte : (front behind : List ℕ) (old new at : ℕ) → at ≡ length front → (c : List ℕ) → Torn (front ++ old ∷ behind) at (new ∷ []) c → (x : ℕ) × (rest : List ℕ) × (c ≡ front ++ x ∷ (behind ++ rest))
 torn_byte front behind old new at is c image =
     let long : length (front ++ old ∷ behind) ≡ length front + 1 + length behind = omega (arith, length-append front (old ∷ behind)) in
@@ -68,21 +68,21 @@ torn_byte front behind old new at is c image =
     elsewhere i (inl lt) = omega (arith, lt, is)
     elsewhere i (inr le) = omega (arith, le, is)
 
--- written over what stands behind a front
+-- written over the bytes after a front
 pub overwritten_behind : (front behind new : List ℕ) (at : ℕ) → at ≡ length front → 0 < length new → overwritten (front ++ behind) at new ≡ front ++ (new ++ drop (length new) behind)
 overwritten_behind front behind [] at is some = absurd (omega (arith, some))
 overwritten_behind front behind (b ∷ bs) at is some =
     let none : at - length (front ++ behind) ≡ 0 = omega (arith, is, length-append front behind) in
     rw (take_at front behind at (sym is), none, is, drop-append-add front behind (length (b ∷ bs)))
 
--- the bytes in front of a place, with zeros where there are too few
+-- the bytes before a place, padded with zeros
 abbrev pub padded : ℕ → List ℕ → List ℕ
 padded n bytes = take n bytes ++ replicate (n - length bytes) 0
 
 pub length_padded : (n : ℕ) (bytes : List ℕ) → length (padded n bytes) ≡ n
 length_padded n bytes = omega (arith, length-append (take n bytes) (replicate (n - length bytes) 0), length-take n bytes, length-replicate {A = ℕ} (n - length bytes) 0)
 
--- written behind a front, at a place of the rest
+-- written after a front, at a place of the rest
 pub overwritten_inside : (front behind new : List ℕ) (at n : ℕ) → at ≡ length front + n → 0 < length new → overwritten (front ++ behind) at new ≡ front ++ (padded n behind ++ (new ++ drop (n + length new) behind))
 overwritten_inside front behind [] at n is some = absurd (omega (arith, some))
 overwritten_inside front behind (b ∷ bs) at n is some =
@@ -90,7 +90,7 @@ overwritten_inside front behind (b ∷ bs) at n is some =
     let tail : at + length (b ∷ bs) ≡ length front + (n + length (b ∷ bs)) = omega (arith, is) in
     rw (gap, tail, is, take-append-add front behind n, drop-append-add front behind (n + length (b ∷ bs)), append_assoc, append_assoc)
 
--- where all is synced, a crash leaves it
+-- if everything is synced, a crash leaves it
 pub whole_image : (bytes : List ℕ) (p : Present) → p ≡ whole bytes → (c : List ℕ) → IsImage p c → c ≡ bytes
 whole_image bytes p is c image =
     let there = subst (λ q. IsImage q c) is image in

@@ -1,6 +1,6 @@
 //! Which of its images a crash of a disk in memory leaves.
 
-/// What a crash leaves: a test chooses it.
+/// The bytes that a crash leaves: a test chooses them.
 #[derive(Drop)]
 pub enum Choice {
     /// Exactly the synced bytes.

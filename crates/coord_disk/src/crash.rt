@@ -1,4 +1,4 @@
-//! What a crash leaves of a disk in memory.
+//! The bytes that a crash leaves of a disk in memory.
 
 ghost use Rattle.std.specs.Prelude.{◌≡◌, ◌+◌, ◌&&◌, nat_le, nat_lt, List, ℕ, Some};
 ghost use Rattle.coord_disk.specs.Model.Present.{is_within, whole};
@@ -9,7 +9,7 @@ ghost use Rattle.coord_disk.specs.Disks.Left.{IsLeft};
 use crate::Choice;
 use crate::history::{Entry, History};
 
-// Whether so many bytes from `at` on cover the place.
+// Whether this many bytes from `at` on cover the place.
 fn covers(at: u64, len: u64, place: u64) -> bool
     ensures { result ≡ (nat_le at place && nat_lt place (at + len)) }
 {
@@ -36,7 +36,7 @@ fn is_written(entries: &[Entry], place: u64) -> bool
     false
 }
 
-// The n-th byte of these, repeated.
+// The n-th byte of an infinite repetition of these.
 fn filling(filler: &[u8], n: usize) -> u8
     ensures { result ≡ repeated filler.now n }
 {

@@ -1,4 +1,4 @@
-//! A disk that fails calls of its own, and leaves the disk inside untouched then.
+//! A disk that fails some calls itself, and then leaves the disk inside untouched.
 
 ghost use Rattle.std.specs.Prelude.{◌≡◌, ◌+◌, ◌<◌, ◌^◌, Bool, ℕ, Option, None, length};
 ghost use Rattle.coord_disk.specs.Model.Calls.{Crashes, HasBytes, HasCause, Measures, Reads, Syncs, Writes};
@@ -16,22 +16,22 @@ pub enum Call {
     Sync,
 }
 
-/// Which calls a disk fails of itself.
+/// A rule that says which calls a disk fails.
 pub trait Rule: Drop {
     ghost use Rattle.coord_disk.specs.declared.failing.Call.{Call};
 
-    /// What it may say of a call, whether it is to fail, and the rule for the calls after it.
+    /// Decides whether a call fails, and returns the rule for the calls after it.
     ghost says: { Self → Call → Bool → Self → Type 0 };
 
-    /// How many bytes are written of a write that is to fail. Where there is none, that write does
-    /// not touch the disk inside.
+    /// How many bytes of a failing write are written. None: the write does not touch the disk
+    /// inside.
     ghost torn: { Self → Option ℕ } = { λ _. None };
 
-    /// Whether the disk is to fail this call.
+    /// Whether the disk fails this call.
     fn fails(&mut self, call: Call) -> bool
         ensures { says self.old call result self.new };
 
-    /// How it tears a write that is to fail.
+    /// How it tears a failing write.
     fn tears(&self) -> Option<usize>
         ensures { result ≡ torn self.now };
 }
@@ -48,7 +48,7 @@ pub struct FailingDisk<D, R> {
 impl<D: Disk, R: Rule> FailingDisk<D, R> {
     ghost use Rattle.coord_disk.specs.Disks.Failing.{IsOver, inner_of, rule_of, calls_of, failed_of, one_more};
 
-    /// Over this disk, by this rule.
+    /// Wraps this disk, with this rule.
     pub fn over(inner: D, rule: R) -> Self
         ensures { IsOver inner rule result }
     {
@@ -60,21 +60,21 @@ impl<D: Disk, R: Rule> FailingDisk<D, R> {
         }
     }
 
-    /// The calls so far. It stays at the greatest u64.
+    /// The number of calls so far. It stays at the greatest u64.
     pub fn calls(&self) -> u64
         ensures { result ≡ calls_of self.now }
     {
         self.calls
     }
 
-    /// Gives the disk inside back.
+    /// Returns the disk inside.
     pub fn into_inner(self) -> D
         ensures { result ≡ inner_of self }
     {
         self.inner
     }
 
-    // Counts a call, and says whether it is to fail.
+    // Counts a call, and returns whether it fails.
     fn counts(&mut self, call: Call) -> bool
         ensures inner { inner_of self.new ≡ inner_of self.old }
         ensures rule { R.says (rule_of self.old) call result (rule_of self.new) }
@@ -159,7 +159,7 @@ impl<D: CrashDisk, R: Rule> CrashDisk for FailingDisk<D, R> {
 
     ghost crashes = { λ f. CrashesInside D.crashes f };
 
-    /// The disk inside crashes. The rule and the counts go on.
+    /// Crashes the disk inside. The rule and the counts continue.
     fn crash(self) -> Self
         ensures crashes { CrashesInside D.crashes self result }
         ensures leaves { Crashes D.model (inner_of self) (inner_of result) }

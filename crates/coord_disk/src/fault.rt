@@ -1,4 +1,4 @@
-//! That a device failed.
+//! The failure of a device.
 
 ghost use Rattle.std.specs.Prelude.{◌≡◌, ◌+◌, IfOk, Ok, Some, codes, is_ok, length};
 ghost use Rattle.coord_disk.specs.Model.Calls.{HasCause};
@@ -11,7 +11,7 @@ use std::fmt;
 #[derive(Clone, Copy, Debug, PartialEq, Eq, Hash)]
 pub struct DiskFault;
 
-/// The answer of a call that is counted where it failed.
+/// The answer of a call that is counted if it failed.
 pub(crate) fn counted<T, E: Drop>(
     failed: &mut Log<u8, u8>,
     answer: Result<T, E>,

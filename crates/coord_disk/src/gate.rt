@@ -8,7 +8,7 @@ use crate::failing::{Call, FailingDisk, Rule};
 use std::sync::Arc;
 use std::sync::atomic::{AtomicBool, Ordering};
 
-/// How often a sync looks whether the gate is open.
+/// How often a sync checks whether the gate is open.
 const LOOKS: u64 = 100_000_000;
 
 /// Holds each sync until another thread opens the gate.
@@ -22,7 +22,7 @@ pub struct Gate {
 pub type GateDisk<D> = FailingDisk<D, Gate>;
 
 impl Gate {
-    // Says that a sync stands at the gate, and waits for it to open.
+    // Signals that a sync has reached the gate, and waits for the gate to open.
     fn opens(&self) -> bool {
         self.entered.store(true, Ordering::SeqCst);
         for _ in 0..LOOKS {
@@ -50,8 +50,8 @@ impl Rule for Gate {
 }
 
 impl<D: Disk> FailingDisk<D, Gate> {
-    /// Over this disk. Each sync sets the first flag, and reads the second up to 100,000,000 times:
-    /// once that is set the sync is passed on, and where it stays clear the sync fails.
+    /// Wraps this disk. Each sync sets the first flag, and reads the second up to 100,000,000
+    /// times: once that is set the sync is passed on; if it stays clear the sync fails.
     pub fn new(inner: D, entered: Arc<AtomicBool>, answered: Arc<AtomicBool>) -> Self
         ensures { IsOver inner (gate_of entered answered) result }
     {

@@ -1,4 +1,4 @@
-//! What was done to a disk in memory.
+//! The writes and syncs of a disk in memory.
 
 ghost use Rattle.std.specs.Prelude.{◌≡◌, ◌+◌, ◌<◌, ◌^◌, List, ℕ, length, Some, OnOk, OnErr};
 ghost use Rattle.coord_disk.specs.Model.Present.{IsImage, overwritten, whole, written_at};
@@ -13,7 +13,7 @@ pub enum Entry {
     Synced,
 }
 
-/// What was done to a disk since it was made or crashed.
+/// The writes and syncs of a disk since it was made or crashed.
 #[derive(Drop)]
 pub struct History {
     pub first: Vec<u8>,
@@ -21,7 +21,8 @@ pub struct History {
     pub entries: Vec<Entry>,
 }
 
-// Writes over the bytes, and past their end with zeros between. Without memory nothing changes.
+// Writes over the bytes, and past their end, filling a gap with zeros. If it runs out of memory
+// nothing changes.
 fn overwrite(bytes: &mut Vec<u8>, at: usize, new: &[u8]) -> Result<(), AllocError>
     requires { at + length new.now < 2 ^ 64 }
     ensures ok { OnOk result (bytes.new.items ≡ overwritten bytes.old.items at new.now) }
@@ -36,7 +37,7 @@ fn overwrite(bytes: &mut Vec<u8>, at: usize, new: &[u8]) -> Result<(), AllocErro
     Ok(())
 }
 
-/// Writes to what is read, and records it. Without memory nothing changes.
+/// Writes to the current bytes, and records the write. If it runs out of memory nothing changes.
 pub fn write(
     alloc: Global,
     read: &mut Vec<u8>,
@@ -63,7 +64,8 @@ pub fn write(
     Ok(())
 }
 
-// Copies to what is synced what was written since, and no more: all else is the same in both.
+// Copies to the synced bytes exactly the ranges written since the last sync: elsewhere both are
+// equal.
 fn copy_written(entries: &[Entry], read: &[u8], synced: &mut [u8])
     requires { length synced.old ≡ length read.now }
     ensures { (first : List ℕ) → IsImage (record (replayed (whole first) entries.now)
@@ -75,7 +77,7 @@ fn copy_written(entries: &[Entry], read: &[u8], synced: &mut [u8])
         match &entries[n] {
             Entry::Synced => return,
             Entry::Wrote { at, bytes } => {
-                // A write of no bytes may stand past the end.
+                // A write of no bytes may be past the end.
                 let start = read.len().min(*at as usize);
                 let end = start + bytes.len().min(read.len() - start);
                 synced[start..end].copy_from_slice(&read[start..end]);
@@ -84,7 +86,7 @@ fn copy_written(entries: &[Entry], read: &[u8], synced: &mut [u8])
     }
 }
 
-/// Syncs what is read, and records it. Without memory nothing changes.
+/// Syncs the current bytes, and records the sync. If it runs out of memory nothing changes.
 pub fn record_sync(read: &Vec<u8>, history: &mut History) -> Result<(), AllocError>
     requires led { LedTo history.old read.now.items }
     ensures led { LedTo history.new read.now.items }

@@ -3,12 +3,12 @@
 //!
 //! `Disk` is the trait that users see. `specs/Model` defines its meaning: `Present` says what a
 //! disk holds and which bytes a crash may leave of it, `Moments` what holds at each moment of a run
-//! of calls. A reader has to trust these definitions; `specs/Disks` only describes the disks in this crate.
-//! The main theorem is that `MemDisk` keeps the model, proved from its own record of its writes and
-//! syncs (`write_at` and `sync`, clauses `crash` and `time`); its `crash` leaves what was chosen.
-//! A `FailingDisk` is any disk with calls that fail by a `Rule`, as a fuse (`FuseDisk`), a blip
-//! (`BlipDisk`) or a gate at which syncs wait (`GateDisk`), and are passed on once otherwise. A
-//! `TornDisk` writes the first bytes of a write that fails.
+//! of calls. A reader has to trust these definitions; `specs/Disks` only describes the disks in
+//! this crate. The main theorem is that `MemDisk` keeps the model, proved from its record of its
+//! writes and syncs (`write_at` and `sync`, clauses `crash` and `time`); its `crash` leaves what
+//! was chosen. A `FailingDisk` is any disk with calls that fail by a `Rule`, as a fuse
+//! (`FuseDisk`), a blip (`BlipDisk`) or a gate at which syncs wait (`GateDisk`); all other calls
+//! are passed on once. A `TornDisk` writes the first bytes of a write that fails.
 //!
 //! `RawFile` is a file of the operating system: the calls that a disk makes, and the model that the file may keep.
 //! A `RawDisk` is the disk over such a file. It keeps the model if the file does, and its clauses

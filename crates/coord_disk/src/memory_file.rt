@@ -9,10 +9,10 @@ use crate::{Choice, CrashDisk, Disk, DiskFault, MemDisk, RawFile};
 use std::alloc::Global;
 use std::io;
 
-/// How many syncs of each kind there were. Each count stays at the greatest u64.
+/// The number of syncs of each kind. Each count stays at the greatest u64.
 #[derive(Clone, Copy, Debug, PartialEq, Eq)]
 pub struct Syncs {
-    /// Of the bytes alone.
+    /// Of the bytes only.
     pub bytes: u64,
     /// Of the bytes and the length.
     pub all: u64,
@@ -20,8 +20,8 @@ pub struct Syncs {
     pub folder: u64,
 }
 
-/// A raw file in memory. It syncs no more than it has to, counts its syncs, and fails a call where
-/// it finds no memory.
+/// A raw file in memory. It syncs only what it has to, counts its syncs, and fails a call if it
+/// runs out of memory.
 #[derive(Drop)]
 pub struct MemFile {
     disk: MemDisk,
@@ -35,7 +35,8 @@ impl MemFile {
     ghost use Rattle.coord_disk.specs.Disks.MemoryFile.{disk_of, has_entry, syncs_of};
     ghost use Rattle.coord_disk.specs.declared.choice.Choice.TheVariants.{Lost};
 
-    /// A new file with nothing in it, which its folder may lack, and which loses what is not synced.
+    /// An empty new file, whose folder may lack its entry, and which loses unsynced bytes in a
+    /// crash.
     pub fn new(alloc: Global) -> Self
         ensures present { present_of (disk_of result) ≡ whole [] }
         ensures choice { choice_of (disk_of result) ≡ Lost }
@@ -53,7 +54,7 @@ impl MemFile {
         }
     }
 
-    /// The bytes as a read gives them.
+    /// The bytes that a read gives.
     pub fn bytes(&self) -> &[u8]
         ensures { result.now ≡ (present_of (disk_of self.now)).read }
     {
@@ -67,7 +68,7 @@ impl MemFile {
         self.syncs
     }
 
-    /// Says what the next crash leaves.
+    /// Chooses the bytes that the next crash leaves.
     pub fn choose(&mut self, choice: Choice)
         ensures present { present_of (disk_of self.new) ≡ present_of (disk_of self.old) }
         ensures choice { choice_of (disk_of self.new) ≡ choice }
@@ -95,7 +96,7 @@ impl MemFile {
     }
 }
 
-/// A disk in memory fails for lack of memory alone.
+/// A disk in memory fails only if it runs out of memory.
 fn io_answer<T>(answer: Result<T, DiskFault>) -> io::Result<T>
     ensures ok { IfOk result (λ value. answer ≡ Ok value) }
     ensures same { is_ok result ≡ is_ok answer }
@@ -135,7 +136,7 @@ impl RawFile for MemFile {
         io_answer(self.disk.write_at(at, bytes))
     }
 
-    /// Does nothing where the length is not the one that is synced.
+    /// Does nothing if the length is not synced.
     fn sync_data(&mut self) -> io::Result<()> {
         self.syncs.bytes = self.syncs.bytes.saturating_add(1);
         if !self.entered || !self.disk.is_level() {
@@ -144,7 +145,7 @@ impl RawFile for MemFile {
         io_answer(self.disk.sync())
     }
 
-    /// Does nothing where the folder may lack the file.
+    /// Does nothing if the folder may lack the file.
     fn sync_all(&mut self) -> io::Result<()> {
         self.syncs.all = self.syncs.all.saturating_add(1);
         if !self.entered {

@@ -10,18 +10,18 @@ use crate::{Disk, DiskFault, RawFile, Takable};
 use http_server::Log;
 use std::io;
 
-/// One past the last place that a file can have.
+/// One past the last position that a file can have.
 const END: u64 = 1 << 63;
 
-/// A raw file as a disk. It keeps the model where the file does.
+/// A raw file as a disk. It keeps the model if the file does.
 ///
 /// After a failed sync each later one fails, since the system may call bytes synced that it has lost.
 #[derive(Drop)]
 pub struct RawDisk<F: RawFile> {
     file: F,
-    /// The file has at least so many bytes.
+    /// The file has at least this many bytes.
     size: u64,
-    /// Whether the length may be another one than at the last sync.
+    /// Whether the length may differ from that at the last sync.
     grown: bool,
     lost: bool,
     failed: Log<u8, u8>,
@@ -35,7 +35,7 @@ pub struct RawDisk<F: RawFile> {
 impl<F: RawFile> RawDisk<F> {
     ghost use Rattle.coord_disk.specs.Disks.Raw.{file_of, failures_of, has_grown, has_lost};
 
-    /// Over a file that another process may have made and not synced: the entry in its folder is
+    /// Wraps a file that another process may have made and not synced: the entry in its folder is
     /// synced here, and its length by the first sync.
     pub fn over(mut file: F) -> Result<Self, DiskFault>
         ensures calls { IfOk result (λ disk. (entered : F) × F.made file SyncFolder true entered ×
@@ -56,7 +56,7 @@ impl<F: RawFile> RawDisk<F> {
         }
     }
 
-    /// Gives the file back.
+    /// Returns the file.
     pub fn into_file(self) -> F
         ensures { result ≡ file_of self }
     {
@@ -64,7 +64,7 @@ impl<F: RawFile> RawDisk<F> {
     }
 }
 
-/// Syncs the file's entry in its folder, and gives its length.
+/// Syncs the file's entry in its folder, and returns its length.
 fn opened<F: RawFile>(file: &mut F) -> io::Result<u64>
     ensures calls { OnOk result ((entered : F) × F.made file.old SyncFolder true entered ×
         F.made entered Len true file.new) }
@@ -77,7 +77,7 @@ fn opened<F: RawFile>(file: &mut F) -> io::Result<u64>
     file.len()
 }
 
-/// The place after so many bytes from a place on, which a file has to have.
+/// The position this many bytes after another one, which a file has to have.
 fn end_of(at: u64, len: usize) -> io::Result<u64>
     ensures ok { IfOk result (λ end. (end ≡ at + len) × (end < 2 ^ 63)) }
     ensures within { at + len < 2 ^ 63 → IsOk result }
@@ -108,7 +108,7 @@ impl<F: RawFile> Disk for RawDisk<F> {
         counted(&mut self.failed, answer)
     }
 
-    /// Fails past the end of the file, and past place 2^63 - 1.
+    /// Fails past the end of the file, and past position 2^63 - 1.
     fn read(&mut self, at: u64, buf: &mut [u8]) -> Result<(), DiskFault>
         requires { HasBytes F.model (file_of self.old) at (length buf.old) }
         ensures bound { OnOk result (at + length buf.old < 2 ^ 63) }
@@ -123,7 +123,7 @@ impl<F: RawFile> Disk for RawDisk<F> {
         counted(&mut self.failed, answer)
     }
 
-    /// Fails past place 2^63 - 1.
+    /// Fails past position 2^63 - 1.
     fn write_at(&mut self, at: u64, bytes: &[u8]) -> Result<(), DiskFault>
         requires { at + length bytes.now < 2 ^ 64 }
         ensures bound { OnOk result (at + length bytes.now < 2 ^ 63) }
@@ -145,8 +145,8 @@ impl<F: RawFile> Disk for RawDisk<F> {
         Ok(())
     }
 
-    /// Syncs the length too where it may have changed. After a failure each later call fails, and makes
-    /// no call of the file.
+    /// Syncs the length too if it may have changed. After a failure each later call fails, and
+    /// makes no call of the file.
     fn sync(&mut self) -> Result<(), DiskFault>
         ensures ok { OnOk result ((has_lost self.old ≡ false) × (has_lost self.new ≡ false)) }
         ensures err { OnErr result (has_lost self.new ≡ true) }
@@ -160,7 +160,7 @@ impl<F: RawFile> Disk for RawDisk<F> {
         if self.lost {
             return Err(fail(&mut self.failed));
         }
-        // Whatever fails from here on, no later sync can make up for it.
+        // No later sync can make up for a failure from here on.
         self.lost = true;
         let answer = if self.grown {
             self.file.sync_all()

@@ -1,4 +1,4 @@
-//! A file as the system has it, and what it may keep of what was written and synced.
+//! A file of the system, and what it may keep of written and synced bytes.
 
 ghost use Rattle.std.specs.Prelude.{◌≡◌, ◌+◌, ◌<◌, ◌^◌, true, false, Bool, [], length, is_ok};
 ghost use Rattle.coord_disk.specs.Model.Calls.{HasBytes, Measures, Reads, Syncs, Writes};
@@ -8,22 +8,22 @@ ghost use Rattle.coord_disk.specs.Model.RawCalls.RawCall.{Len, Read, Write, Sync
 
 use std::io;
 
-/// A file, and its entry in a folder. Where the file does not keep the model, only the clauses on
+/// A file, and its entry in a folder. If the file does not keep the model, only the clauses on
 /// which call was made hold.
 ///
 /// A sync counts only once the folder has the file: before that a crash may leave no file, which is
 /// read as an empty one.
 pub trait RawFile: Drop {
-    /// What a file means as a disk. It need not count its failures.
+    /// The meaning of a file as a disk. It need not count its failures.
     ghost model: { DiskModel Self };
 
     /// Whether the folder's entry of the file is synced.
     ghost is_entered: { Self → Bool };
 
-    /// Whether a file may become another one by this call, which succeeds or fails.
+    /// Whether this call, which succeeds or fails, may turn one file into another.
     ghost made: { Self → RawCall → Bool → Self → Type 0 };
 
-    /// How many bytes it has.
+    /// Returns the number of bytes.
     fn len(&mut self) -> io::Result<u64>
         ensures call { Measures model self.old self.new result }
         ensures entered { StaysEntered model is_entered self.old self.new }
@@ -36,17 +36,16 @@ pub trait RawFile: Drop {
         ensures entered { StaysEntered model is_entered self.old self.new }
         ensures made { made self.old (Read at (length buf.old)) (is_ok result) self.new };
 
-    /// Writes over what is there, and past the end, with zeros between.
+    /// Writes over the present bytes, and past the end, filling a gap with zeros.
     ///
-    /// Until a sync a crash may leave any bytes in the range, also where the write failed.
+    /// Until a sync a crash may leave any bytes in the range, also if the write failed.
     fn write_at(&mut self, at: u64, bytes: &[u8]) -> io::Result<()>
         requires { at + length bytes.now < 2 ^ 64 }
         ensures call { Writes model at bytes.now self.old self.new result }
         ensures entered { StaysEntered model is_entered self.old self.new }
         ensures made { made self.old (Write at bytes.now) (is_ok result) self.new };
 
-    /// Syncs the bytes. After it a crash leaves what a read gives, where the length is the one that
-    /// is synced.
+    /// Syncs the bytes. After it a crash leaves what a read gives, if the length is synced.
     fn sync_data(&mut self) -> io::Result<()>
         ensures call { SyncsBytes model ((is_entered self.old ≡ true) ×
             (length (model.present self.old).synced ≡ length (model.present self.old).read))
@@ -65,7 +64,7 @@ pub trait RawFile: Drop {
         ensures call { Enters model is_entered self.old self.new result }
         ensures made { made self.old SyncFolder (is_ok result) self.new };
 
-    /// The past of a file fits its present.
+    /// The past of a file agrees with its present.
     ghost laws: { IsModel model };
 
     /// As long as its folder may lack the file, nothing of it is synced.

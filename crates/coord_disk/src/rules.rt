@@ -18,14 +18,14 @@ pub struct Blip {
     left: Option<u64>,
 }
 
-/// Fails one call. Where that is a write, its first bytes are written before.
+/// Fails one call. If that is a write, its first bytes are written before.
 #[derive(Drop)]
 pub struct Tear {
     blip: Blip,
     kept: usize,
 }
 
-/// A disk whose calls all fail once so many have passed.
+/// A disk whose calls all fail after this many.
 pub type FuseDisk<D> = FailingDisk<D, Fuse>;
 
 /// A disk that fails one call.
@@ -77,7 +77,7 @@ impl Rule for Tear {
 }
 
 impl<D: Disk> FailingDisk<D, Fuse> {
-    /// Over this disk, with so many calls to pass.
+    /// Wraps this disk, and passes this many calls.
     pub fn new(inner: D, passes: u64) -> Self
         ensures { IsOver inner (fuse_of passes) result }
     {
@@ -86,7 +86,7 @@ impl<D: Disk> FailingDisk<D, Fuse> {
 }
 
 impl<D: Disk> FailingDisk<D, Blip> {
-    /// Over this disk, with the number of the call to fail, counted from 0.
+    /// Wraps this disk. `fails` is the index of the call that fails, from 0.
     pub fn new(inner: D, fails: u64) -> Self
         ensures { IsOver inner (blip_at fails) result }
     {
@@ -95,8 +95,8 @@ impl<D: Disk> FailingDisk<D, Blip> {
 }
 
 impl<D: Disk> FailingDisk<D, Tear> {
-    /// Over this disk, with the number of the call to fail, counted from 0, and how many bytes of it
-    /// are written where it is a write.
+    /// Wraps this disk. `fails` is the index of the call that fails, and `kept` how many bytes of
+    /// it are written if it is a write.
     pub fn new(inner: D, fails: u64, kept: usize) -> Self
         ensures { IsOver inner (tear_at fails kept) result }
     {

@@ -11,14 +11,14 @@ use std::io;
 use std::os::unix::fs::FileExt;
 use std::rt::Files;
 
-/// A file of the system, and its folder. Each call is one of the system, or one after the other until
-/// all bytes are read or written.
+/// A file of the system, and its folder. Each call is one system call, or several until all bytes
+/// are read or written.
 ///
 /// It claims no model: that a file keeps it is a premise.
 #[derive(Drop)]
 pub struct SystemFile<F> {
     file: F,
-    /// None where there is no entry to sync.
+    /// None if there is no entry to sync.
     folder: Option<F>,
 }
 
@@ -26,24 +26,23 @@ pub struct SystemFile<F> {
 pub type FileDisk = RawDisk<SystemFile<File>>;
 
 impl<F: OpenFile + FileExt + Drop> SystemFile<F> {
-    /// A file that is open, and its folder where the entry there is to be synced.
+    /// An open file, and its folder if its entry there has to be synced.
     pub fn over(file: F, folder: Option<F>) -> Self {
         SystemFile { file, folder }
     }
 
-    /// Gives both back.
+    /// Returns both.
     pub fn into_parts(self) -> (F, Option<F>) {
         (self.file, self.folder)
     }
 }
 
 impl RawDisk<SystemFile<File>> {
-    /// Opens a file for reading and writing. Where there is none, an empty one is made, which just
-    /// its owner may read and write. Its entry in its folder is synced.
+    /// Opens a file for reading and writing. If it does not exist, an empty one is created, which
+    /// only its owner may read and write. Its entry in its folder is synced.
     ///
     /// The file is locked until the disk is dropped, and nothing is read of it before that. It is a
-    /// fault where another process holds that lock, and where something other than a regular file
-    /// stands at the path.
+    /// fault if another process holds that lock, or if the path does not name a regular file.
     pub fn open<R: Files<File = File>>(rt: &R, path: &str) -> Result<FileDisk, DiskFault>
         ensures failures { IfOk result (λ disk. failures_of disk ≡ 0) }
         ensures whole { IfOk result (λ disk. has_lost disk ≡ false) }
@@ -54,8 +53,8 @@ impl RawDisk<SystemFile<File>> {
         }
     }
 
-    /// Opens a file for reading alone, without a lock: writes fail. Where there is none, an empty
-    /// one is made, as by `open`.
+    /// Opens a file read-only, without a lock: writes fail. If it does not exist, an empty one is
+    /// created, as by `open`.
     pub fn open_to_read<R: Files<File = File>>(rt: &R, path: &str) -> Result<FileDisk, DiskFault>
         ensures failures { IfOk result (λ disk. failures_of disk ≡ 0) }
         ensures whole { IfOk result (λ disk. has_lost disk ≡ false) }

@@ -1,4 +1,4 @@
--- What a request makes of the drill, and what is printed of it.
+-- The effect of a request on the drill, and its output.
 pub mod Does
 pub mod HandedTo
 pub mod FlownTo

@@ -1,4 +1,4 @@
--- What is printed of all that was read.
+-- The output for the whole input.
 pub mod FirstParts
 pub mod Pieces
 pub mod Prints

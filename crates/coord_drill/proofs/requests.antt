@@ -1,3 +1,3 @@
--- What is spelled of a request is read so.
+-- The spelling of a request is read as that request.
 pub mod Spelled
 pub mod Formats

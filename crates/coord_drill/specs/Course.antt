@@ -49,7 +49,7 @@ pub record Place (D : Type 0) : Type 0 where
   pub machine : Machine  -- since the drill began, or since its line `version 2`
   pub disk : D
 
--- the place where a drill begins, after its store was created on this disk
+-- the state in which a drill begins, after its store was created on this disk
 abbrev pub start : {D : Type 0} → D → Place D
 start disk = record { state = drill_over (no_world 1); lines = 0; printed = []; reported = []; machine = adopted (no_world 1); disk = disk }
 
@@ -68,8 +68,8 @@ abbrev pub reported_in : DrillState → Option Asked → List Answer → List �
 reported_in s None given = []
 reported_in s (Some a) given = reported_by s a given
 
--- Events with answers that the machine may give are a run of it on a disk, from one state of the disk to another. The disk
--- has failed exactly where a commit reports it.
+-- Events with answers that the machine may give are a run of it on a disk, from one state of the disk to another. The
+-- disk has failed exactly in the commits that report it.
 pub record RunsOn {D : Type 0} (disk : DiskModel D) (crashes : D → D → Type 0) (s : Machine) (events : List Event) (given : List Answer) (old new : D) : Type 0 where
   pub in_range : AllByRecursion EventInRange events
   pub answered : Answered s events given

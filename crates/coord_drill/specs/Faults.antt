@@ -59,7 +59,8 @@ failed_by fault = 0
 abbrev pub IsPassingFault : Fault → Type 0
 IsPassingFault fault = IsOfMemory fault ⊎ (fault ≡ Store store.Device)
 
--- on a disk that keeps the model only these faults cut a line short, and the disk does so only if the line migrates a store or opens one again
+-- on a disk that keeps the model only these faults cut a line short, and the disk only if the line migrates a store
+-- or opens one again
 abbrev pub MayCutShort : Bool → Fault → Type 0
 MayCutShort true why = IsPassingFault why
 MayCutShort false why = IsOfMemory why

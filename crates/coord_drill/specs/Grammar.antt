@@ -49,7 +49,7 @@ group = number_to MAX_GROUPS
 unfoldable pub client : Format ℕ
 client = number_to MAX_CLIENTS
 
--- the distance of an Abort: a number in version 2, and no word in version 1, where it is 0
+-- the distance of an Abort: a number in version 2; nothing in version 1, where it is 0
 unfoldable pub distance : ℕ → Format ℕ
 distance version = record {
   spell = λ k. if version == 2 then number.spell k else (if k == 0 then Some [] else None);

@@ -32,8 +32,8 @@ CarriesOut {D} disk crashes c lines text new = (p : Place D) → StandsAt disk c
 abbrev pub EndsWith : {D : Type 0} → DiskModel D → (D → D → Type 0) → Console D → List Line → List ℕ → D → Type 0
 EndsWith {D} disk crashes c lines text last = (p : Place D) → StandsAt disk c p → (q : Place D) × (last ≡ q.disk) × (q.printed ≡ p.printed ++ text) × Goes disk crashes p lines q
 
--- A prefix of these lines was carried out, and no more, for a reason that names the place where the drill then
--- is, the remaining lines and everything that was written.
+-- Exactly a prefix of these lines was carried out, for a reason that names the state in which the drill then is, the
+-- remaining lines and everything that was written.
 pub record Breaks {D : Type 0} (disk : DiskModel D) (crashes : D → D → Type 0) (c : Console D) (lines : List Line) (text : List ℕ) (Why : Place D → List Line → List ℕ → Type 0) : Type 0 where
   pub ended : List Line
   pub others : List Line

@@ -34,7 +34,7 @@ use Rattle.coord_drill.specs.declared.fault.Fault.{Fault}
 
 -- ---- events
 
--- events have led from one driver to another, where the first represents this machine
+-- events have led from one driver to another, and the first represents this machine
 pub record Led {D : Type 0} (disk : DiskModel D) (crashes : D → D → Type 0) (s : Machine) (events : List Event) (given : List Answer) (d new : DriverState D) : Type 0 where
   pub in_range : AllByRecursion EventInRange events
   pub answered : Answered s events given

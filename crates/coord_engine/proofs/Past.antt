@@ -43,7 +43,7 @@ module _ {D : Type 0} (m : DiskModel D) where
     before = λ t c le is. ⊎_elim (λ early. inl (past.no_more t c early)) (λ late. inr late) (left.before t c (omega (arith, past.clock, le)) is);
   }
 
-  -- what was left since then, was left over one run of calls more
+  -- what left since then, left after one run of calls more
   pub and_on : (first : Past) (mid new : D) (P Q R : List ℕ → Type 0) → HasLeft m first mid P → LeavesOnly m mid new Q → ((c : List ℕ) → P c → R c) → ((c : List ℕ) → Q c → R c) → HasLeft m first new R
   and_on first mid new P Q R so_far run early late = grind arith
 
@@ -124,7 +124,7 @@ module _ {D : Type 0} (m : DiskModel D) where
 
   -- ---- flights
 
-  -- a flight that left over these settled steps, with its own
+  -- a flight that left after these settled steps, with its own
   module _ (first : Past) (base : World) (settled steps : List Step) where
     abbrev left_from : World
     left_from = fold base settled
@@ -247,7 +247,7 @@ module _ {D : Type 0} (m : DiskModel D) where
         along = here;
       })
 
-  -- a flight that comes back left over the steps that are settled still
+  -- a flight that comes back left after the steps that are settled still
   pub is_behind : (first : Past) (base : World) (l : LedgerState D) (f : FlightState D) (written read : List Step) → l.log.base ≡ base → IsOut l f → FliesFrom m first base read f → StartsWith (settled_steps l.log) written → StartsWith written read → read ≡ settled_steps l.log
   is_behind first base l f written read same own flies grown begins =
       let starts : StartsWith (settled_steps l.log) read = first_of_first read written (settled_steps l.log) begins grown in

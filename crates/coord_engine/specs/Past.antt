@@ -81,13 +81,13 @@ flown_steps New settled steps = settled
 flown_steps Good settled steps = settled ++ steps
 flown_steps Torn settled steps = settled ++ steps
 
--- A flight left over these settled steps, and its disk has left only worlds after the first of the steps that may be on it.
+-- A flight left after these settled steps, and its disk has left only worlds after the first of the steps that may be on it.
 pub record FliesFrom {D : Type 0} (m : DiskModel D) (first : Past) (base : World) (settled : List Step) (f : FlightState D) : Type 0 where
   pub number : f.first ≡ base.count + length settled + 1
   pub world : f.world ≡ fold base settled
   pub along : StaysAlong m first base (flown_steps f.mark settled f.steps) f.disk
 
--- A flight left over settled steps that were read, which come after earlier ones in this history.
+-- A flight left after settled steps that were read, which come after earlier ones in this history.
 pub record FliesBehind {D : Type 0} (m : DiskModel D) (history : TableId) (earlier : List Step) (first : Past) (base : World) (read : Beginning) (f : FlightState D) : Type 0 where
   pub settled : List Step
   pub read_them : HasReadSettled history earlier settled read

@@ -13,7 +13,7 @@ use std::marker::{Model, PhantomData};
 
 /// A flight of the engine that `L` names, with what it has read of the engine's history: after those
 /// of earlier instances the steps that were settled when it left. Contracts see the flight. Its type keeps
-/// that it left over these steps, and that a crash at any moment since the engine was made left only
+/// that it left after these steps, and that a crash at any moment since the engine was made left only
 /// worlds after the first of them and of its own.
 pub struct OwnFlight<D: Disk, L: Origin> {
     pub(crate) flight: Flight<D>,

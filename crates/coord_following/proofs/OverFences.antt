@@ -23,7 +23,7 @@ never_fewer w zero turns = omega arith
 never_fewer w (suc k) [] = omega arith
 never_fewer w (suc k) (t ∷ turns) = let one = counts_more w t in let rest = never_fewer (turned w t) k turns in omega (arith, one, rest)
 
--- a node of the same life, as it was
+-- a node of the same instance, as it was
 record IsSame (first second : ℕ) (s r : NodeState) : Type 0 where
   life : first ≡ second
   row : s ≡ r

@@ -73,7 +73,7 @@ settles_more s (suc t) (suc u) [] given named is answered le = omega arith
 settles_more s (suc t) (suc u) (e ∷ events) [] named is answered le = omega arith
 settles_more s (suc t) (suc u) (e ∷ events) (a ∷ given) named is answered le = settles_more (after s e a) t u events given named.1 (stays_consistent s e a named.0 is answered.0) answered.1 (omega (arith, le))
 
--- ---- what is shown
+-- ---- shown worlds
 
 module _ (s : Machine) (events : List Event) (given : List Answer) (named : AllByRecursion EventInRange events) (is : IsConsistent s) (answered : Answered s events given) where
   abbrev end : Machine

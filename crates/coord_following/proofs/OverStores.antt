@@ -25,7 +25,7 @@ later_by last life confirmed row same (inl less) = inl less
 later_by last life confirmed row same (inr at) = inr (at.0, let le = at.1 in omega (arith, le, same))
 
 module _ (w : World) (turns : List Turn) (sound : IsSound w) (history : IsHistory w turns) where
-  -- whatever a node is from some turn on, it is no earlier than what was shown of it
+  -- whatever a node is from some turn on, it is no earlier than its last shown row
   abbrev FollowsOn : ℕ → Shown → ℕ → Type 0
   FollowsOn i last from = (m : ℕ) → from ≤ m → has (world_at w m turns).nodes i ≡ true → IsFurther last.life last.confirmed (life_at m turns i) (state (world_at w m turns) i).confirmed
 

@@ -76,7 +76,7 @@ takes_lane w p fresh = of (lane w p.from p.to p.inc) refl (passed w (Take p) fre
 
 -- ---- nodes
 
--- what holds of every node, with its number
+-- a predicate on every node, with its number
 abbrev AllRows : (ℕ → NodeState → Type 0) → Table nat_cmp_total NodeState → Type 0
 AllRows P rows = (x : ℕ) (r : NodeState) → get rows x ≡ Some r → P x r
 

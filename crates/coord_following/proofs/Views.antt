@@ -1,4 +1,4 @@
--- What is shown of a world of a history is a view as honest members need it.
+-- The view of a world of a history is one that honest members need.
 use Rattle.std.proofs.Common.{◌≡◌, ◌⊎◌, ℕ, ◌<◌, ◌≤◌, eqb, nat_lt, Bool, true, false, List, [], ◌∷◌, Option, Some, None, is_some, refl, sym, ap, subst, ◌∙◌, arith, inl, inr}
 use Rattle.std.proofs.lemmas.Bool.Decides.{nat_tests}
 use Rattle.coord_types.specs.Table.{has}
@@ -86,7 +86,7 @@ itself_alone : (w : World) (i n : ℕ) (now : List Entry) → IsSound w → IsPa
 itself_alone w i n now sound party none [] same = same
 itself_alone w i n now sound party none (x ∷ path) links = absurd (let link = linked_shown w i x now sound party links.0 in none link.0 link.1 link.2)
 
--- all that stand in a list are this one, and it stands there once
+-- all elements of a list are this one, and it occurs once
 only : {A : Type 0} (x : A) (xs : List A) → IsOneOf x xs → AllDistinct xs → ((y : A) → IsOneOf y xs → y ≡ x) → xs ≡ x ∷ []
 only x [] in_xs once all = absurd in_xs
 only x (y ∷ []) in_xs once all = ap (λ z. z ∷ []) (all y (inl refl))

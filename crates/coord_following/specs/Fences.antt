@@ -11,7 +11,7 @@ use Rattle.coord_member.specs.Fence.{Fence, Resource, accepts, behind, behind_al
 use Rattle.coord_look.specs.Shown.{IsShownTo}
 use Rattle.coord_following.specs.Histories.{IsHistory, Turn, life_at, world_at}
 
--- the tag of a party that was fixed where so many steps were settled
+-- the tag of a party that was fixed after this many settled steps
 abbrev pub Tags : Type 0
 Tags = List Entry → ℕ → List ℕ
 
@@ -19,8 +19,8 @@ Tags = List Entry → ℕ → List ℕ
 abbrev pub NamesRuns : Tags → Type 0
 NamesRuns tag = (p q : List Entry) (m n : ℕ) → tag p m ≡ tag q n → (p ≡ q) × (is_alone p ≡ true → m ≡ n)
 
--- a start of node i fixes its party where it is shown the world after so many turns: all are through, its own node too. Its fence
--- has the count of that world
+-- a start of node i fixes its party when it is shown the world after this many turns: all are through, its own node
+-- too. Its fence has the count of that world
 pub record Fixes (w : World) (turns : List Turn) (tag : Tags) (i : ℕ) (f : Fence) : Type 0 where
   pub turn : ℕ
   pub row : Row

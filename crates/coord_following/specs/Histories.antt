@@ -15,7 +15,7 @@ abbrev pub turned : World → Turn → World
 turned w (Takes s) = next w s
 turned w Raises = raised w
 
--- a step is one that the world takes, and a store is raised where no node is in a reset
+-- a step is one that the world accepts, and a store is migrated only if no node is in a reset
 abbrev pub IsTurn : World → Turn → Type 0
 IsTurn w (Takes s) = IsFresh w w s × StepInRange s
 IsTurn w Raises = (w.version ≡ 1) × AllReady w
@@ -24,7 +24,7 @@ abbrev pub IsHistory : World → List Turn → Type 0
 IsHistory w [] = Unit {0}
 IsHistory w (t ∷ turns) = IsTurn w t × IsHistory (turned w t) turns
 
--- the world after the first k turns, or after all where there are fewer
+-- the world after the first k turns, or after all if there are fewer
 abbrev pub world_at : World → ℕ → List Turn → World
 world_at w zero turns = w
 world_at w (suc k) [] = w

@@ -7,8 +7,9 @@ use Rattle.coord_member.specs.NoMix.{IsUnmixed}
 use Rattle.coord_look.specs.Shown.{IsShownTo}
 use Rattle.coord_following.specs.Histories.{IsHistory, Turn, world_at}
 
--- each look is shown the world after some first turns, no fewer than the same member was shown last. Members need not be shown the
--- same worlds, nor the newest. All else happens as it likes: files are lost, messages come late, again or never
+-- each look is shown the world after a prefix of the turns, at least as long as at the same member's previous look.
+-- Members need not be shown the same worlds, or the newest. Everything else is arbitrary: files are lost, messages
+-- come late, repeatedly or never
 abbrev pub AreShown : World → List Turn → (ℕ → ℕ) → List Event → Type 0
 AreShown w turns last [] = Unit {0}
 AreShown w turns last (Look i row now ∷ events) = (k : ℕ) × ((last i ≤ k) × (IsShownTo (world_at w k turns) i row now × AreShown w turns (λ j. if j == i then k else last j) events))

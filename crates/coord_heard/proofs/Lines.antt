@@ -76,7 +76,7 @@ quoted_lexed s r =
     ap (λ l. lex between (34 ∷ l)) (append_assoc (escape s) (34 ∷ []) r)
     ∙ ap₂ (λ content rest. lexeme.token (string_token content) ∷ rest) (content-escape s r) (lex-escape s r)
 
--- what stands after a value ends it
+-- the bytes after a value end it
 each_ends : (ds : Items) (r : List ℕ) → ends_word (items_text true ds ++ r) ≡ true
 each_ends no_items r = refl
 each_ends (item d ds) r = refl

@@ -23,7 +23,7 @@ use Rattle.coord_wire.specs.OrderLine.{add_line, command_line, confirm_line, hea
 use Rattle.coord_heard.specs.Heard.{IsCommand, IsIn, IsWord, OrderIsRead}
 use Rattle.coord_heard.proofs.Lines.{IsPlain, IsSame, number_same, text_read}
 
--- an order as it is printed, with one more member, and with two
+-- a printed order, with one more member, and with two
 abbrev pub with_one : List ℕ → Data → Data → List ℕ → Data → Data
 with_one op c n k v = object (member (codes "op") (string op) (member (codes "client") c (member (codes "number") n (member k v no_members))))
 
@@ -75,7 +75,7 @@ link_sorted op c n a b ec en ea eb = rw (ec, en, ea, eb) refl
 confirm_sorted : (c n u e : Data) → IsSame c → IsSame n → IsSame u → IsSame e → of_json (outline (with_two (codes "confirm") c n (codes "node") u (codes "epoch") e)) ≡ Some (confirm_value c n u e)
 confirm_sorted c n u e ec en eu ee = rw (ec, en, eu, ee) refl
 
--- ---- what it asks for
+-- ---- its request
 
 within : (most n : ℕ) → IsIn most n → from_1_to most n ≡ Some n
 within most n is = grind arith

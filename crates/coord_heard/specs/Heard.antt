@@ -48,7 +48,7 @@ pub record IsView (v : Shown) : Type 0 where
   pub nodes : AllByRecursion IsNodeRow v.nodes
   pub links : AllByRecursion IsLink v.links
 
--- ---- what is read
+-- ---- reading
 
 -- of each view
 abbrev pub ShownIsRead : Type 0

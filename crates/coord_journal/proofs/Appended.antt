@@ -53,7 +53,7 @@ module _ {bytes : List ℕ} {content : Content} {half_size half used : ℕ} (tex
   split : bytes ≡ before ++ 0 ∷ text.holds.behind
   split = text.header.spelled ∙ ap (λ (l : List ℕ). lead text.selector half_size text.skipped l) text.holds.spelled ∙ lead_push text.selector half_size text.skipped front (0 ∷ text.holds.behind)
 
-  -- that gate stands where the used bytes end
+  -- that gate is at the end of the used bytes
   gate : length before ≡ gate_place half_size half used
   gate = omega (arith, text.holds.used_is, text.skips, length-append (text.selector ∷ magic) (to_be_bytes w64 half_size ++ (text.skipped ++ front)), length-append (to_be_bytes w64 half_size) (text.skipped ++ front), length-append text.skipped front)
 
@@ -100,7 +100,7 @@ module _ {bytes : List ℕ} {content : Content} {half_size half used : ℕ} (tex
   length_more : (open_gate : ℕ) → length (more open_gate) ≡ 5 + length batch
   length_more open_gate = omega (arith, length_sized batch, ap length (append-nil (sized batch)))
 
-  -- behind an open gate the block adds the batch
+  -- after an open gate the block adds the batch
   pub opens : (c rest : List ℕ) (open_gate total : ℕ) → open_gate ≢ 0 → total ≡ used + 5 + length batch → c ≡ lead_of ++ open_gate ∷ ((sized batch ++ 0 ∷ []) ++ rest) → IsTextAt c (with_batch content batch) half_size half total
   opens c rest open_gate total is_open total_is is =
       let opened : List ℕ = text.holds.opened ++ more open_gate in
@@ -138,7 +138,7 @@ module _ {bytes : List ℕ} {content : Content} {half_size half used : ℕ} (tex
   place_is = gate text
 
   module _ (at place : ℕ) (at_is : at ≡ gate_place half_size half used + 1) (gate_is : place ≡ gate_place half_size half used) where
-    -- the block is put behind the gate
+    -- the block is written after the gate
     staged : overwritten bytes at block ≡ lead_of ++ 0 ∷ (block ++ rest)
     staged =
         ap (λ (l : List ℕ). overwritten l at block) (split text ∙ sym (append_assoc lead_of (0 ∷ []) text.holds.behind))
@@ -156,7 +156,7 @@ module _ {bytes : List ℕ} {content : Content} {half_size half used : ℕ} (tex
         let found = torn_byte lead_of (block ++ rest) 0 1 place (gate_is ∙ sym place_is) c (subst (λ (l : List ℕ). Torn l place (1 ∷ []) c) staged other) in
         either c found.0 (rest ++ found.1) (found.2 ∙ ap (λ (l : List ℕ). lead_of ++ found.0 ∷ l) (append_assoc block rest found.1))
 
-    -- what stands there once it is done
+    -- the bytes after it is done
     pub appended : (c : List ℕ) (total : ℕ) → total ≡ used + 5 + length batch → c ≡ overwritten (overwritten bytes at block) place (1 ∷ []) → IsTextAt c (with_batch content batch) half_size half total
     appended c total total_is is =
         opens c rest 1 total (omega arith) total_is

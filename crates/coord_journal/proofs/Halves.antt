@@ -1,4 +1,4 @@
--- A half, and where it stands in a text.
+-- A half, and its place in a text.
 use Rattle.std.proofs.Common.{◌≡◌, ℕ, ◌+◌, ◌-◌, ◌<◌, ◌≤◌, ◌^◌, List, [], ◌∷◌, ◌++◌, length, take, drop, get_or, refl, sym, ◌∙◌, ap, arith, append_assoc, length-append}
 use Rattle.std.proofs.lemmas.Bool.Decides.{nat_tests}
 use Rattle.std.proofs.lemmas.List.{take-append-drop}
@@ -26,13 +26,13 @@ pub length_opened : (batches : List (List ℕ)) (opened : List ℕ) → IsOpened
 length_opened [] opened is = ap length is
 length_opened (b ∷ bs) opened is = omega (arith, ap length is.3.1, length-append (sized b) is.1, length_sized b, length_opened bs is.1 is.4)
 
--- a half is refused where what is after its snapshot is
+-- a half is refused if the bytes after its snapshot are
 pub half_refused : (bytes snapshot rest : List ℕ) (version : ℕ) → BeginsWithBody MAX_SNAPSHOT version snapshot rest bytes → ((batches : List (List ℕ)) (size : ℕ) → ReadsAs batches size rest → ⊥) → (content : Content) (used : ℕ) → IsHalf bytes content used → ⊥
 half_refused bytes snapshot rest version body bad content used half =
     let behind = same_behind MAX_SNAPSHOT small_snapshot content.version version content.snapshot snapshot _ rest bytes (begins bytes content used half) body in
     bad content.batches (length half.opened) (rw (sym behind) (reads bytes content used half))
 
--- how much a half uses is told by its content
+-- the content of a half determines how much it uses
 pub half_used : (bytes : List ℕ) (content : Content) (used : ℕ) → IsHalf bytes content used → used ≡ used_by content
 half_used bytes content used half = omega (arith, half.used_is, length_front content.version content.snapshot half.opened, length_opened content.batches half.opened half.batches)
 
@@ -52,11 +52,11 @@ half_same bytes c d m n one other =
     (same_body MAX_SNAPSHOT small_snapshot c.version d.version c.snapshot d.snapshot _ _ bytes here there)
     batches.0
 
--- what is used of it is there
+-- the used bytes of it are there
 pub half_long : (bytes : List ℕ) (content : Content) (used : ℕ) → IsHalf bytes content used → used ≤ length bytes
 half_long bytes content used half = omega (arith, half.used_is, ap length half.spelled, length-append (half_front content.version content.snapshot half.opened) (0 ∷ half.behind))
 
--- a half that is cut off after what it uses is the same half
+-- a half that is cut off after its used bytes is the same half
 pub half_cut : (bytes : List ℕ) (content : Content) (used n : ℕ) → IsHalf bytes content used → used ≤ n → IsHalf (take n bytes) content used
 half_cut bytes content used n half fits =
     let front = half_front content.version content.snapshot half.opened in

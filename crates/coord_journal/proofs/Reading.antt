@@ -13,14 +13,14 @@ empty [] none = refl
 empty (x ∷ l) none = absurd (omega (arith, none))
 
 module _ (limit : ℕ) (small : limit < 2 ^ 32) where
-  -- the size that stands in front
+  -- the size at the beginning
   pub size_read : (first : ℕ) (body behind l : List ℕ) → BeginsWithBody limit first body behind l → from_be_bytes w32 (take 4 (drop 1 l)) ≡ length body
   size_read first body behind l h1 = grind (arith, nat_tests, h1)
 
   after_read : (first : ℕ) (body behind l : List ℕ) → BeginsWithBody limit first body behind l → drop 5 l ≡ body ++ behind
   after_read first body behind l h1 = grind (arith, nat_tests, h1)
 
-  -- the body and what is after it are the same, however they are read
+  -- the body and the bytes after it are the same, however they are read
   same_size : (first first' : ℕ) (body body' behind behind' l : List ℕ) → BeginsWithBody limit first body behind l → BeginsWithBody limit first' body' behind' l → length body ≡ length body'
   same_size first first' body body' behind behind' l one other = sym (size_read first body behind l one) ∙ size_read first' body' behind' l other
 
@@ -70,7 +70,7 @@ first b bs size l reads =
 pub closed : (size : ℕ) (l : List ℕ) → ReadsAs [] size l → (behind : List ℕ) × (l ≡ 0 ∷ behind) × (size ≡ 0)
 closed size l reads = (reads.1, reads.2 ∙ ap (λ (k : List ℕ). k ++ 0 ∷ reads.1) reads.3, omega (arith, reads.4, ap length reads.3))
 
--- nothing is read where there is nothing
+-- nothing is read from an empty text
 pub nothing : (batches : List (List ℕ)) (size : ℕ) → ReadsAs batches size [] → ⊥
 nothing [] size reads = let e = ap length (closed size [] reads).1 in omega (arith, e)
 nothing (b ∷ bs) size reads = let e = ap length (first b bs size [] reads).begins.1 in omega (arith, e)

@@ -47,7 +47,7 @@ module _ {bytes : List ℕ} {content : Content} {half_size half used : ℕ} (tex
   abbrev start : ℕ
   start = half_start (1 - half) half_size
 
-  -- a write into what stands before the selected half leaves the text, however it is torn
+  -- a write before the selected half leaves the text, however it is torn
   torn_before : (new c : List ℕ) → length new ≤ length text.skipped → Torn bytes 17 new c → IsTextAt c content half_size half used
   torn_before new c few image =
       let behind : List ℕ = text.holds.behind in
@@ -136,7 +136,7 @@ module _ {bytes : List ℕ} {content : Content} {half_size half used : ℕ} (tex
         let found = torn_byte [] tail text.selector y 0 refl c (subst (λ (l : List ℕ). Torn l 0 (y ∷ []) c) staged_is other) in
         named c found.1 found.0 found.2
 
-    -- what stands there once it is done
+    -- the bytes after it is done
     pub replaced : (y other total : ℕ) (c : List ℕ) → other ≡ 1 - half → total ≡ 6 + length snapshot → y % 2 ≡ other → c ≡ overwritten staged 0 (y ∷ []) → IsTextAt c (without_batch version snapshot) half_size other total
     replaced y other total c other_is total_is names is =
         let new = new_text y [] (names ∙ other_is) in

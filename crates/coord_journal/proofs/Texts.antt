@@ -11,7 +11,7 @@ use Rattle.coord_journal.specs.declared.fault.JournalFault.TheVariants.{BadRecor
 use Rattle.coord_journal.proofs.Appended.{length_sized}
 use Rattle.coord_journal.proofs.Halves.{half_cut, half_long, half_same, half_used, half_whole}
 
--- what a header says is told by the bytes
+-- the bytes determine the header
 selector_read : (bytes : List ℕ) (selector half_size : ℕ) (rest : List ℕ) → HasHeader bytes selector half_size rest → get_or bytes 0 0 ≡ selector
 selector_read bytes selector half_size rest header = ap (λ (l : List ℕ). get_or l 0 0) header.spelled
 
@@ -79,7 +79,7 @@ module _ (bytes : List ℕ) (selector half_size half : ℕ) (rest : List ℕ) (h
   in_text content text =
       rw starts (half_in bytes content text.0 text.1 text.2 text.3 selector half_size half rest named header)
 
-  -- there is no text where the half does not begin, or is refused
+  -- there is no text if the half does not begin, or is refused
   pub cut_short : length rest < start → (content : Content) → IsText content bytes → ⊥
   cut_short short content text = grind (arith, nat_tests, short, text, length-drop start rest, in_text content text)
 

@@ -53,7 +53,7 @@ pub record HasHeader (bytes : List ℕ) (selector half_size : ℕ) (rest : List 
   pub spelled : bytes ≡ (selector ∷ magic) ++ (to_be_bytes w64 half_size ++ rest)
   pub size : IsHalfSize half_size
 
--- where a half begins after the header; the first half has number 0, the second 1
+-- the offset of a half after the header; the first half has number 0, the second 1
 abbrev pub half_start : ℕ → ℕ → ℕ
 half_start half half_size = half * half_size
 

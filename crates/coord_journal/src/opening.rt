@@ -18,7 +18,8 @@ use crate::{Contents, Journal, JournalFault};
 use coord_disk::Disk;
 use std::alloc::Global;
 
-/// Where a text ends on its device: the size of a half, the selected half, and the number of bytes used in it.
+/// The end of a text on its device: the size of a half, the selected half, and the number of bytes
+/// used in it.
 #[derive(Clone, Copy)]
 struct Place {
     half_size: u64,
@@ -58,8 +59,8 @@ fn read_text(alloc: Global, bytes: &[u8]) -> Result<(Place, Contents<'_>), Journ
     Ok((place, contents))
 }
 
-/// Opens the journal on a device and returns its content, which borrows from `bytes`, where the device was read into. It
-/// syncs, reads, and writes nothing.
+/// Opens the journal on a device and returns its content, which borrows from `bytes`, into which
+/// the device was read. It syncs, reads, and writes nothing.
 ///
 /// A refusal returns the disk.
 pub fn open<'b, D: Disk>(

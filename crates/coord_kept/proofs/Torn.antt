@@ -10,7 +10,7 @@ use Rattle.serde_json.specs.Read.{read}
 use Rattle.coord_kept.specs.Start.{begun_text, carried_at, carried_in, count_text, is_whole, lines_text, nothing, party_text, quoted}
 use Rattle.coord_kept.specs.Torn.{IsNumber, IsParty, are_in_line, is_in_line, is_one_line, LoadedIsOneLine, StartIsOneLine, TornSaysNothing, WrittenIsOneLine}
 
--- ---- what is torn
+-- ---- torn texts
 
 both : (b c : Bool) → (b && c) ≡ true → (b ≡ true) × (c ≡ true)
 both true true e = (refl, refl)
@@ -38,7 +38,7 @@ unfolding carried_in
 torn_says_nothing boot node text k e less =
     ap (λ (b : Bool). if b then option_and_then (carried_at boot node) (read (take k text)) else Some nothing) (cut text k e less)
 
--- ---- what is written
+-- ---- written texts
 
 in_front : (c : ℕ) (text : List ℕ) → is_in_line c ≡ true → is_one_line text ≡ true → is_one_line (c ∷ text) ≡ true
 in_front c [] e one = absurd (cc)

@@ -37,6 +37,6 @@ is_among h line (suc k) = is_among h line k || bytes_eq (line_at h k) line
 abbrev pub is_history : List ℕ → Bool
 is_history h = (size_of h % 65 == 0) && are_lines h (size_of h / 65)
 
--- None where it is no history
+-- None if it is not a history
 abbrev pub looked_up : List ℕ → List ℕ → Option Found
 looked_up h line = if is_history h then Some (record { size = size_of h; has = is_among h line (size_of h / 65) }) else None

@@ -12,12 +12,12 @@ use Rattle.serde_json.specs.Find.{as_array, as_null, as_number, as_object, as_st
 use Rattle.serde_json.specs.Read.{read}
 use Rattle.coord_kept.specs.declared.start.Start.{Start}
 
--- ---- what it says
+-- ---- its meaning
 
 abbrev pub Line : Type 0
 Line = List ℕ
 
--- the epoch that is begun, the lines of the party, and how many steps were settled where the start first talked with it
+-- the begun epoch, the lines of the party, and the number of settled steps when the start first talked with it
 abbrev pub Seen : Type 0
 Seen = Option ℕ × Option (List Line) × Option ℕ
 
@@ -60,7 +60,7 @@ abbrev pub is_named : List ℕ → Option Line → Bool
 is_named boot None = false
 is_named boot (Some name) = bytes_eq name boot
 
--- what is written with the name of a boot counts in that boot alone
+-- a row with the name of a boot is valid in that boot only
 abbrev pub is_of_boot : List ℕ → Data → Bool
 is_of_boot boot d = not (length boot == 0) && is_named boot (option_and_then as_str (get (codes "boot") d))
 
@@ -75,7 +75,7 @@ abbrev pub at_boot : List ℕ → Data → Option Seen → Option Seen
 at_boot boot d None = None
 at_boot boot d (Some known) = if is_of_boot boot d then loaded_in (loaded_of d) else Some known
 
--- where the node is not in it, nothing is begun
+-- nothing is begun if the node has no row
 abbrev pub carried_of : List ℕ → Option Data → Option Seen
 carried_of boot None = Some nothing
 carried_of boot (Some d) = at_boot boot d (seen_with (option_and_then begun_of (get (codes "begun") d)) (option_and_then party_of (get (codes "party") d)) (count_of (get (codes "count") d)))

@@ -14,7 +14,7 @@ fn push_line(text: &mut String, line: &str) -> Result<(), AllocError>
     text.push_str("\n")
 }
 
-/// The text of which the digest is taken: the word as its first line, if it is not empty, and these.
+/// The text to be digested: the word as its first line, if it is not empty, and these lines.
 fn text_of(alloc: Global, word: &str, lines: &[String]) -> Result<String, AllocError>
     ensures { IfOk result (λ text. string_bytes text ≡ text_of word.now lines.now) }
 {
@@ -28,7 +28,7 @@ fn text_of(alloc: Global, word: &str, lines: &[String]) -> Result<String, AllocE
     Ok(text)
 }
 
-/// The digest of these lines below a word, in 64 hexadecimal digits.
+/// The digest of the word and these lines, in 64 hexadecimal digits.
 pub fn digest_of(alloc: Global, word: &str, lines: &[String]) -> Result<String, AllocError>
     ensures { IfOk result (λ digest. string_bytes digest ≡ digest_of word.now lines.now) }
 {
@@ -46,8 +46,8 @@ fn half_of(alloc: Global, word: &str, lines: &[String]) -> Result<String, AllocE
     hex::encode(alloc, &digest[..16])
 }
 
-/// The tag of a start that first talked with these and is shown those now. One that was alone has
-/// none: the empty text.
+/// The tag of a start that first talked with these and is shown those now. A start that was alone
+/// has none: the empty text.
 pub fn tag_of(
     alloc: Global,
     word: &str,
@@ -65,7 +65,8 @@ pub fn tag_of(
     Ok(tag)
 }
 
-/// The tag of a start's fence, where it first talked with these, and its fence has this count.
+/// Returns the tag of the fence of a start that first talked with these and whose fence has this
+/// count.
 pub fn fence_tag(
     alloc: Global,
     word: &str,

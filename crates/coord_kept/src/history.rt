@@ -4,16 +4,15 @@ ghost use Rattle.std.specs.Prelude.{◌≡◌, ◌<◌, ◌≤◌, ◌/◌, ◌*
 ghost use Rattle.std.specs.List.{list_all};
 ghost use Rattle.coord_kept.specs.History.{are_lines, is_among, is_digit, is_line, line_at, looked_up, size_of};
 
-/// What a history says of a line.
+/// The answer of a history about a line.
 #[derive(Clone, Copy, Debug, PartialEq, Eq)]
 pub struct Found {
-    /// The bytes of its whole lines: the next line goes after them, in the place of what a power cut
-    /// may have left there.
+    /// The bytes of its whole lines: the next line goes after them, in the place of a torn one.
     pub size: usize,
     pub has: bool,
 }
 
-/// How many bytes a line has.
+/// The number of bytes of a line.
 const LINE: usize = 65;
 
 /// The bytes of the whole lines.
@@ -40,7 +39,7 @@ fn are_digits(text: &[u8]) -> bool
     text.iter().all(|byte| is_digit(*byte))
 }
 
-/// Whether this is a digest with its line feed.
+/// Whether this is a digest followed by its line feed.
 #[tactic(auto, unfolding(crate::specs::History::is_line))]
 fn is_line(line: &[u8]) -> bool
     requires { length line.now ≡ 65 }
@@ -87,7 +86,7 @@ fn is_among(history: &[u8], line: &[u8], count: usize) -> bool
     is
 }
 
-/// Whether a history has this line, and where the next one goes. None: it is no history.
+/// Whether a history has this line, and where the next one goes. None: it is not a history.
 pub fn look_up(history: &[u8], line: &[u8]) -> Option<Found>
     ensures { result ≡ looked_up history.now line.now }
 {

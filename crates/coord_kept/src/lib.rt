@@ -1,11 +1,11 @@
-//! What a member keeps as its files have it, and the tag of its messages: the same bytes as those of
-//! the client library.
+//! The stored state of a member as its files have it, and the tag of its messages: the same bytes
+//! as those of the client library.
 //!
-//! [`lines_of`] makes the lines of a party in the order of their bytes, [`digest_of`] their digest,
-//! and [`tag_of`] the tag. [`read_start`], [`carried_start`], [`start_text`] and [`loaded_text`] are the
-//! file of a start, of which a power cut leaves a part that says nothing ([`laws`]), [`look_up`] and
-//! [`history_line`] that of the history. [`is_same_run`] and [`are_parted`] judge a tag that came.
-//! The definitions stand in `specs/`, one file for each.
+//! [`lines_of`] makes the lines of a party, sorted by their bytes, [`digest_of`] their digest, and
+//! [`tag_of`] the tag. [`read_start`], [`carried_start`], [`start_text`] and [`loaded_text`] are
+//! the file of a start, of which a power cut leaves a part that says nothing ([`laws`]),
+//! [`look_up`] and [`history_line`] that of the history. [`is_same_run`] and [`are_parted`] compare
+//! a received tag. `specs/` has a file of definitions for each.
 #![tactic(auto)]
 
 mod digest;

@@ -128,7 +128,7 @@ fn count_in(row: &Value) -> Option<Option<u64>>
     }
 }
 
-/// What a row with this start says: in the boot that it names, what was loaded.
+/// The start of a row: the loaded one, in the boot that the row names.
 fn at_boot(known: Start, row: &Value, boot: &str) -> Option<Start>
     ensures { option_map seen result ≡ at_boot boot.now (view row.now) (Some (seen known)) }
 {

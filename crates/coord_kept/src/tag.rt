@@ -4,7 +4,7 @@ ghost use Rattle.std.specs.Prelude.{◌≡◌, ◌≤◌, length};
 ghost use Rattle.std.specs.List.{position_or_len};
 ghost use Rattle.coord_kept.specs.Tag.{are_parted, is_dash, is_same_run, run_of, shown_of};
 
-/// Where the dash of a tag stands; after its end, where it has none.
+/// The position of the dash of a tag; the tag's end, if it has none.
 #[tactic(auto, using(crate::proofs::Dashes::first_dash))]
 fn dash_in(tag: &[u8]) -> usize
     ensures is { result ≡ position_or_len is_dash tag.now }

@@ -102,7 +102,7 @@ module _ {D : Type 0} (d : DriverState D) (f : FlightState D) (holds : d.flight 
   pub simulates_back : (back : LedgerState D) → back ≡ taken_back d.ledger (length f.steps) f.mark f.disk → Simulates d Finish (Finished (settled_count back.log)) (at_home back)
   simulates_back back taken = grind (arith, nat_tests, same, may_finish, counted)
 
--- ---- the disk crashes, and a ledger is made anew: an event of the driver's machine
+-- ---- the disk crashes, and a ledger is made again: an event of the driver's machine
 
 pub simulates_opened : {D : Type 0} (d : DriverState D) (l : LedgerState D) (model : DiskModel D) (crashes : D → D → Type 0) (before : D) → IsConsistent (machine_of d (started d.ledger)) →
     ImagesGiveOneOf (model.keeps_model before) (model.present before) d.ledger.log (kept_by d.ledger.log.settled (option_map flight_out d.flight) d.ledger.log.doubt) → model.keeps_model before ≡ true → IsReopened model crashes before l → Simulates d Crash (Opened (settled_world l.log).count) (at_home l)
@@ -139,7 +139,7 @@ module _ {D : Type 0} (d new : DriverState D) (s : Machine) (is : IsConsistent s
   pub represents_allowed : (e : Event) (a : Answer) → Simulates d e a new → IsOneOf a (answers s e)
   represents_allowed e a simulates = subst (IsOneOf a) (ap (λ m. answers m e) represents.is ∙ rebased_answers_alike s represents.by e is represents.within) (simulates.allowed s)
 
-  -- where the machine goes
+  -- the machine's next state
   goes : (e : Event) (a : Answer) (t : Machine) → Simulates d e a new → goes_to (rebased_machine s represents.by) e a ≡ t → machine_of new t ≡ t
   goes e a t simulates to = rw (sym (ap (λ m. goes_to m e a) represents.is ∙ to)) (simulates.leaves s)
 

@@ -1,4 +1,4 @@
--- What holds of the event machine, whatever its events are answered.
+-- Invariants of the event machine, for all answers to its events.
 pub mod Lists
 pub mod Verdicts
 pub mod Logs

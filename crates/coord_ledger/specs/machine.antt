@@ -1,4 +1,4 @@
--- The event machine: what a ledger is, what it may answer to each event, and what it is after that.
+-- The event machine: what a ledger is, its possible answers to each event, and its state after that.
 pub mod Log
 pub mod Submits
 pub mod Machine

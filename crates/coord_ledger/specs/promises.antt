@@ -1,4 +1,4 @@
--- What is promised of a run of events.
+-- The promises for a run of events.
 pub mod Parts
 pub mod Moments
 pub mod Headline

@@ -12,14 +12,14 @@ use crate::{Flight, Ledger};
 use coord_disk::{CrashDisk, Disk};
 use std::marker::Model;
 
-/// A ledger, and the flight that is out of it: all of a run that touches the store. Its holder
-/// keeps the tickets, what was shown and what was released, so nothing grows in here but the
-/// ledger. `into_disk` ends it.
+/// A ledger and its flight: everything in a run that touches the store. Its holder keeps the
+/// tickets, the views and the releases, so only the ledger grows in here. `into_disk` ends it.
 ///
-/// Each call is an event of the event machine, whatever its holder has given out (`simulates`): its
-/// answer is one that the machine may give in this state, and the driver is then where the machine
-/// goes with that answer. The clause `disk` says what the call does to the disk at each of its
-/// moments. Replies, resends and views change nothing: for these call [`Driver::ledger`].
+/// Each call is an event of the event machine, whatever its holder has released (`simulates`): its
+/// answer is one that the machine may give in this state, and the driver is then in the state that
+/// the machine enters with that answer. The clause `disk` says what the call does to the disk at
+/// each of its moments. Replies, resends and views change nothing: for these call
+/// [`Driver::ledger`].
 ///
 /// Contracts see `DriverState` (`specs/ledger/DriverState.antt`), and the machine of it
 /// (`specs/ledger/Simulates.antt`); its type keeps that the flight is the ledger's own.
@@ -59,7 +59,7 @@ impl<D: CrashDisk> Driver<D> {
     }
 
     /// Does nothing. Its contract says what a crash may leave between two events: a legal world,
-    /// after a prefix of the accepted steps that holds all that was released. The types of its
+    /// after a prefix of the accepted steps that includes every released one. The types of its
     /// parts keep that.
     pub fn lemma_survives(&self)
         ensures { (s : Machine) → IsConsistent s → Represents self.now s →
@@ -71,8 +71,9 @@ impl<D: CrashDisk> Driver<D> {
         }
     }
 
-    /// Does nothing. Its contract says that a run of events may begin here, where no flight is out:
-    /// what a run keeps (`RunSoFar`) holds of the run of no event, from the ledger's disk on.
+    /// Does nothing. Its contract says that a run of events may begin here, if no flight is out:
+    /// the invariant of a run (`RunSoFar`) holds for the run without events, from the ledger's disk
+    /// on.
     pub fn lemma_begins(&self)
         requires { self.now.flight ≡ None }
         ensures { MayBegin D.model D.crashes self.now }
@@ -81,7 +82,7 @@ impl<D: CrashDisk> Driver<D> {
         self.lemma_survives();
     }
 
-    /// Gives the ledger up, where no flight is out of it.
+    /// Returns the ledger, if no flight is out.
     pub fn into_ledger(self) -> Ledger<D>
         requires { self.flight ≡ None }
         ensures { result ≡ self.ledger }
@@ -93,7 +94,7 @@ impl<D: CrashDisk> Driver<D> {
         }
     }
 
-    /// Gives the disk up, the ledger's or that of the flight that is out.
+    /// Returns the disk of the ledger, or of the flight that is out.
     pub fn into_disk(self) -> D
         ensures disk { disk_held self ≡ Some result }
         ensures images { ImagesGiveOneOf (D.model.keeps_model result) (D.model.present result) self.ledger.log
@@ -118,8 +119,8 @@ impl<D: CrashDisk> Driver<D> {
         }
     }
 
-    /// Takes back the flight that is out, and drops what it releases. Where there is no memory for
-    /// that, the ledger is given up too, and the disk is left.
+    /// Takes back the flight that is out, and drops what it releases. If it runs out of memory, the
+    /// ledger is dropped too, and the disk is left.
     pub(crate) fn bring_home(self) -> Result<Ledger<D>, D>
         ensures home { IfOk result (λ home. home ≡ brought_home self.ledger self.flight) }
         ensures disk { IfErr result (λ disk. disk_held self ≡ Some disk) }

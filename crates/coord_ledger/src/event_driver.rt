@@ -16,24 +16,24 @@ use coord_disk::{CrashDisk, Disk};
 use run::Run;
 use std::alloc::Global;
 
-/// Runs events on a ledger in one thread, and gives an answer to each, all that was released, and
-/// the ledger. Tickets are numbered from 0 as they are given. A crash forgets the tickets, the
-/// flight and what was shown, crashes the disk and opens it again. At the end a flight that is out
-/// comes back, and what it releases is lost.
+/// Runs events on a ledger in one thread, and returns an answer to each, all releases, and the
+/// ledger. Tickets are numbered from 0 in the order of their submits. A crash forgets the tickets,
+/// the flight and the views, crashes the disk and opens it again. At the end a flight that is out
+/// comes back, and its releases are lost.
 ///
 /// The main theorem: wherever the run is stopped, before, within or after any write, opening
 /// whatever the disk may then hold gives the world after a prefix of the accepted steps, none
 /// skipped and none in part. That prefix holds every step whose reply, packet or signal had been
 /// released, and every link predicate holds in that world.
 ///
-/// It says so of each moment of the run, between two events and inside each of them. `EachMoment`
-/// tells what the run does to its disk, event by event: each event begins with the disk that the
-/// one before it left, and the last one leaves the disk of the ledger that is given back.
+/// This holds at each moment of the run, between two events and inside each of them. `EachMoment`
+/// states the effect of the run on its disk, event by event: each event begins with the disk that
+/// the previous one left, and the last one leaves the disk of the returned ledger.
 ///
 /// A fault names the event at which the run ended, and has the answers to the events before it and
-/// all that was released until then. The ledger, its flight and its tickets are given up. The disk
-/// is given back: as those events have left it, or, where the run ended in a crash, as the opening
-/// after the crash has left it (`EndedEarly`).
+/// all releases until then. The ledger, its flight and its tickets are dropped. The disk is
+/// returned: as those events have left it, or, if the run ended in a crash, as the opening after
+/// the crash has left it (`EndedEarly`).
 pub fn run_events<D: CrashDisk>(
     alloc: Global,
     ledger: Ledger<D>,
@@ -41,7 +41,7 @@ pub fn run_events<D: CrashDisk>(
 ) -> Result<(Trace, Ledger<D>), (RunFault, D)>
     requires home { ledger.out ≡ None }
 
-    // A run that is answered: the main theorem, and the ledger that is left.
+    // A run with all its answers: the main theorem, and the ledger that is left.
     ensures ran { IfOk result (λ r. (before : D) → (after : D) → ledger.disk ≡ Some before →
         r.1.disk ≡ Some after
         → Promised (D.model.keeps_model before) events.now (Completed D.model D.crashes

@@ -1,4 +1,4 @@
-//! What may happen to a ledger in one thread, and what each event is answered.
+//! The events of a ledger in one thread, and their answers.
 
 use coord_store::CommitFault;
 use coord_types::{Refusal, Reply, Step};
@@ -7,30 +7,30 @@ use coord_view::View;
 /// One call on a ledger or its flight, or a crash of the disk.
 #[derive(Clone, Copy)]
 pub enum Event {
-    /// A step is handed in.
+    /// Submit a step.
     Submit(Step),
-    /// A flight goes out with the next steps.
+    /// Send out a flight with the next steps.
     Begin,
-    /// The flight that is out is committed.
+    /// Commit the flight that is out.
     Commit,
-    /// The flight that is out comes back.
+    /// Take back the flight that is out.
     Finish,
-    /// The ticket with this index is collected. Tickets are counted from 0 since the last crash.
+    /// Collect the ticket with this index. Tickets are counted from 0 since the last crash.
     Collect(usize),
-    /// What may have been lost is released again.
+    /// Release again the packets that may have been lost.
     Resend,
-    /// The settled world is shown.
+    /// Show the settled world.
     Show,
-    /// The disk crashes and is opened again; tickets and the flight are gone.
+    /// Crash the disk and open it again; tickets and the flight are gone.
     Crash,
 }
 
 /// The answer to an event.
 #[derive(Debug, Drop)]
 pub enum Answer {
-    /// The number of the step that was taken.
+    /// The number of the accepted step.
     Accepted(u64),
-    /// The number of the step that the client's last order was.
+    /// The number of the step of the client's last order.
     Repeated(u64),
     /// Nothing changed.
     Refused(Refusal),
@@ -42,7 +42,7 @@ pub enum Answer {
     Committed,
     /// The flight was not committed.
     Failed(CommitFault),
-    /// The settled count once the flight is back.
+    /// The settled count after the flight is back.
     Finished(u64),
     /// No flight is out.
     NoFlight,
@@ -56,6 +56,6 @@ pub enum Answer {
     Resent(u64),
     /// The settled world's rows.
     Shown(View),
-    /// The count of the world that was opened.
+    /// The count of the opened world.
     Opened(u64),
 }

@@ -1,4 +1,4 @@
-//! Flights: steps on their way to the disk.
+//! Flights: steps that are being committed.
 
 ghost use Rattle.std.specs.Prelude.{◌≡◌, ◌⊎◌, ◌+◌, ◌≤◌, true, List, ℕ, length, Err, OnOk, IsErrOf, MatchResult};
 ghost use Rattle.coord_types.specs.declared.limits.TheConstants.{MAX_BATCH_STEPS};
@@ -19,19 +19,18 @@ use coord_types::Step;
 use coord_world::World;
 use std::marker::Model;
 
-/// The store of a ledger, with the next 1 to 256 steps that are to be committed to it. A ledger's
-/// `end_flush` takes it back; nothing else may drop it. Contracts see `FlightState`
-/// (`specs/ledger/State.antt`). Its type keeps what each image of its disk gives: while the flight
-/// is new, the world from before its steps; once it is good, the world after them; where it is
-/// torn, one of both.
+/// The store of a ledger, with the next 1 to 256 steps to commit. A ledger's `end_flush` takes it
+/// back; nothing else may drop it. Contracts see `FlightState` (`specs/ledger/State.antt`). Its
+/// type keeps the world that each image of its disk encodes: while the flight is new, the world
+/// before its steps; once it is committed, the world after them; if it is torn, one of both.
 pub struct Flight<D: Disk> {
     pub(crate) first: u64,
     pub(crate) steps: Vec<Step>,
     /// Once the store has the world after the steps: the settled world of when the flight went out.
     pub(crate) before: Option<World>,
-    /// The world after the steps, until it is the store's. Where the flight has all that is
-    /// pending, it is a copy of the front world. A commit that found no memory may have used it up:
-    /// the next try makes it anew.
+    /// The world after the steps, until it is the store's. If the flight has all pending steps, it
+    /// is a copy of the front world. A commit that ran out of memory may have used it up: the next
+    /// try makes it again.
     pub(crate) next: Option<World>,
     pub(crate) mark: Mark,
     pub(crate) store: Store<D>,
@@ -62,19 +61,20 @@ impl<D: Disk> Flight<D> {
     /// Commits the steps. It takes no lock and never waits.
     ///
     /// After `OutOfMemory` it may be tried again. After `Device` the flight is torn, and each later
-    /// call answers `Stopped`; a flight that was committed answers `Again`.
+    /// call returns `Stopped`; a committed flight returns `Again`.
     pub fn commit(&mut self) -> Result<(), CommitFault>
-        // A crash at any moment of the call leaves what gives the world from before the steps or from after them.
+        // A crash at any moment of the call leaves bytes of the world before the steps or after
+        // them.
         ensures any_moment { D.model.keeps_model self.old.disk ≡ true → self.old.mark ≡ New
             → LeavesOnly D.model self.old.disk self.new.disk
             (GivesEither self.old.world (fold self.old.world self.old.steps)) }
-        // Where it is refused for memory, the world from before them alone.
+        // If it runs out of memory, only the world before them.
         ensures any_moment_refused { D.model.keeps_model self.old.disk ≡ true → self.old.mark ≡ New →
             IsErrOf result CommitFault.OutOfMemory
             → LeavesOnly D.model self.old.disk self.new.disk
             (IsOnlyWorld self.old.world) }
 
-        // What it answers, and what the flight is then.
+        // Its answer, and the flight after it.
         ensures tried { self.old.mark ≡ New →
             MatchResult result (λ _. self.new.mark ≡ Good) (λ fault. ((fault ≡ Device) ×
             (self.new.mark ≡ Torn)) ⊎ ((fault ≡ OutOfMemory) × (self.new.mark ≡ New))) }
@@ -86,13 +86,13 @@ impl<D: Disk> Flight<D> {
         ensures same_steps { self.new.steps ≡ self.old.steps }
         ensures same_world { self.new.world ≡ self.old.world }
 
-        // What it does to the disk.
+        // Its effect on the disk.
         ensures failures { D.model.failures self.new.disk ≡
             D.model.failures self.old.disk + failures_in result }
         ensures calls { D.model.keeps_model self.old.disk ≡ true →
             D.model.clock self.new.disk ≤ D.model.clock self.old.disk + 8 }
 
-        // Where the body of the batch fits after what is there, no checkpoint is made.
+        // If the body of the batch fits after the present text, no checkpoint is made.
         ensures calls_where_it_fits { (half : ℕ) (body : List ℕ) →
             D.model.keeps_model self.old.disk ≡ true → self.old.mark ≡ New →
             IsBody self.old.world body self.old.steps →
@@ -133,7 +133,7 @@ impl<D: Disk> Flight<D> {
         }
     }
 
-    // Taken apart: how many steps it carried, what became of it, and the store.
+    // Takes the flight apart: the number of its steps, whether it was committed, and the store.
     pub(crate) fn into_parts(self) -> (usize, Mark, Store<D>)
         ensures size { result.0 ≡ length self.steps }
         ensures mark { result.1 ≡ self.mark }
@@ -156,7 +156,7 @@ impl<D: Disk> Flight<D> {
 }
 
 impl<D: Disk + Takable> Flight<D> {
-    // Gives the disk back, and loses what it carried: its ledger stays without its store.
+    // Returns the disk, and loses its steps: the ledger stays without its store.
     pub(crate) fn into_disk(self) -> D
         ensures { result ≡ self.disk }
     {
@@ -168,7 +168,7 @@ impl<D: Disk + Takable> Flight<D> {
 impl<D: Disk> Flight<D> {
     ghost use Rattle.coord_ledger.specs.ledger.Calls.{FlightGives};
 
-    /// Does nothing: its contract is what the type keeps of every flight.
+    /// Does nothing: its contract is the invariant of the type.
     pub fn lemma_images_give_world(&self)
         ensures some { 1 ≤ length self.now.steps }
         ensures most { length self.now.steps ≤ MAX_BATCH_STEPS }

@@ -1,14 +1,13 @@
-//! What became of a step that was handed in.
+//! The result of a submitted step.
 
 use crate::Ticket;
 
-/// A ticket for the reply to a step that was handed in, and whether it was a new one. It has to be
-/// spent, as its ticket.
+/// A ticket for the reply to a submitted step, and whether the step is new. It must be consumed,
+/// like its ticket.
 pub enum Handed {
     /// The step was accepted.
     Accepted(Ticket),
-    /// The step is a client's last order, which came again: the ticket is for the reply that was
-    /// kept.
+    /// The step is a client's last order, sent again: the ticket is for the kept reply.
     Repeated(Ticket),
 }
 

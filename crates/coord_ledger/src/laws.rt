@@ -32,13 +32,13 @@ pub fn settled_stays()
     ensures { SettledStays }
 {}
 
-/// A ledger that was just made of a store is consistent.
+/// A ledger that was just made over a store is consistent.
 #[tactic(auto, using(crate::proofs::machine::Consistent::adopted_is_consistent))]
 pub fn adopted_is_consistent()
     ensures { AdoptedIsConsistent }
 {}
 
-/// An event leaves a ledger consistent, whatever it is answered.
+/// An event leaves a ledger consistent, whatever the answer.
 #[tactic(auto, using(crate::proofs::machine::Consistent::stays_consistent))]
 pub fn stays_consistent()
     ensures { StaysConsistent }
@@ -50,22 +50,21 @@ pub fn run_is_consistent()
     ensures { RunIsConsistent }
 {}
 
-/// A run with one more event is the run, and then that event with one of the answers that it may
-/// have.
+/// A run with one more event is the run, followed by that event with one of its possible answers.
 #[tactic(auto, using(crate::proofs::machine::Consistent::run_goes_on))]
 pub fn run_goes_on()
     ensures { RunGoesOn }
 {}
 
-/// Whatever a crash may keep is a legal world, with every step of which anything was told, and with
-/// no step that was not accepted.
+/// Whatever a crash may keep is a legal world, with every step of which anything was released or
+/// returned, and only accepted steps.
 #[tactic(auto, using(crate::proofs::machine::Safe::kept_is_safe))]
 pub fn kept_is_safe()
     ensures { KeptIsSafe }
 {}
 
-/// While a flight is committed, the worlds from before its steps and from after them are both legal,
-/// each with every step of which anything was told, and with no step that was not accepted.
+/// While a flight is committed, the worlds before its steps and after them are both legal, each
+/// with every step of which anything was released or returned, and only accepted steps.
 pub fn commit_is_safe()
     ensures { CommitIsSafe }
 {}
@@ -88,31 +87,31 @@ pub fn finish_keeps_kept()
     ensures { FinishKeepsKept }
 {}
 
-/// The headline, from what a store says of its images.
+/// The headline, from the store's statement about its images.
 pub fn prefix_from_images()
     ensures { PrefixFromImages }
 {}
 
-/// A log stays consistent where its base moves along its settled steps.
+/// A log stays consistent if its base moves along its settled steps.
 #[tactic(auto, using(crate::proofs::machine::Logs::rebased_is_consistent))]
 pub fn rebased_is_consistent()
     ensures { RebasedIsConsistent }
 {}
 
-/// A ledger whose base is moved along the settled steps, as it is after a crash, gives the same
+/// A ledger whose base is moved along the settled steps, like after a crash, gives the same
 /// answers.
 #[tactic(auto, using(crate::proofs::machine::Rebased::rebased_answers_alike))]
 pub fn rebased_answers_alike()
     ensures { RebasedAnswersAlike }
 {}
 
-/// After each of these answers too it is the same ledger with its base moved, until a crash.
+/// After each of these answers it is still the same ledger with its base moved, until a crash.
 #[tactic(auto, using(crate::proofs::machine::Rebased::rebased_goes_on))]
 pub fn rebased_goes_on()
     ensures { RebasedGoesOn }
 {}
 
-/// After a crash it is as one that was just made of a store of the kept world.
+/// After a crash it is like one that was just made over a store of the kept world.
 pub fn crash_reopens()
     ensures { CrashReopens }
 {}

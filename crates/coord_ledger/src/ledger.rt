@@ -1,5 +1,5 @@
-//! The ledger: a base world, the steps that were accepted since, how many of them are settled, and
-//! the store, at home or out with a flight.
+//! The ledger: a base world, the steps accepted since, how many of them are settled, and the store,
+//! at home or out with a flight.
 
 ghost use Rattle.std.specs.Prelude.{◌≡◌, ◌≤◌, false, true, is_some, None, Some, IfErr, IfOk, IfSome};
 ghost use Rattle.coord_types.specs.declared.limits.TheConstants.{MAX_STEPS};
@@ -22,18 +22,18 @@ use std::alloc::{AllocError, Global};
 use std::collections::VecDeque;
 use std::marker::Model;
 
-/// For so many steps a ledger takes room when it is made. A trail that stays within it never moves.
-/// The room is more than 32 MiB, so that the C library takes it from the system by itself and gives
-/// it back when the ledger ends: smaller blocks stay with the thread that took them.
+/// A ledger allocates room for this many steps when it is made. A trail that stays within it never
+/// moves. The room is more than 32 MiB, so that the C library maps it separately and returns it to
+/// the system when the ledger ends: smaller blocks stay with the thread that allocated them.
 const TRAIL_ROOM: usize = 700_000;
 
-/// What was accepted since a base world, and how much of that is settled on the disk. Contracts see
-/// `LedgerState` (`specs/ledger/State.antt`): the log, with the steps in doubt once the ledger has
-/// stopped; how many steps are out; and the disk, while the store is at home.
+/// The steps accepted since a base world, and how many of them are settled on the disk. Contracts
+/// see `LedgerState` (`specs/ledger/State.antt`): the log, with the steps in doubt once the ledger
+/// has stopped; how many steps are out; and the disk, while the store is at home.
 ///
-/// It keeps every step since it was made of a store. At most 1,024 of them may be unsettled. Beside
-/// them it keeps the world after all steps (front), the world after the settled ones, and what each
-/// unsettled step gave out.
+/// It keeps every step since it was made. At most 1,024 of them may be unsettled. It also keeps the
+/// world after all steps (front), the world after the settled ones, and the outputs of each
+/// unsettled step.
 #[derive(Drop)]
 pub struct Ledger<D: Disk> {
     alloc: Global,
@@ -42,8 +42,8 @@ pub struct Ledger<D: Disk> {
     /// The kinds of the replies to the steps of the trail, so that `collect` compares exactly and
     /// takes no memory.
     kinds: Vec<Kind>,
-    /// What each unsettled step gave out when it was accepted, at `hand_in`. It is released once
-    /// the step is settled, so this list does not grow with the settled steps.
+    /// The outputs of each unsettled step, from `hand_in`. They are released once the step is
+    /// settled, so this list does not grow with the settled steps.
     given: VecDeque<Vec<Output>>,
     /// How many steps of the trail are settled.
     done: usize,
@@ -80,7 +80,7 @@ impl<D: Disk> Model for Ledger<D> {
     }) l.kinds.items (listed l.given.items) l.front l.settled l.out l.store };
 }
 
-/// Three copies of a world: what is the base, the front and the settled world at first.
+/// Three copies of a world: initially the base, the front and the settled world.
 fn copies(world: &World) -> Result<(World, World, World), AllocError>
     ensures base { IfOk result (λ r. r.0 ≡ world.now) }
     ensures front { IfOk result (λ r. r.1 ≡ world.now) }
@@ -156,7 +156,7 @@ impl<D: Disk> Ledger<D> {
         &self.settled
     }
 
-    /// How many steps are settled, those before the base counted.
+    /// The number of settled steps, including those before the base.
     pub fn settled_count(&self) -> u64
         ensures value { result ≡ settled_count self.now.log }
         ensures bounded { result ≤ MAX_STEPS }
@@ -165,7 +165,7 @@ impl<D: Disk> Ledger<D> {
         self.settled.count()
     }
 
-    /// How many steps are accepted, those before the base counted.
+    /// The number of accepted steps, including those before the base.
     pub fn accepted_count(&self) -> u64
         ensures value { result ≡ accepted_count self.now.log }
         ensures bounded { result ≤ MAX_STEPS }
@@ -174,15 +174,15 @@ impl<D: Disk> Ledger<D> {
         self.front.count()
     }
 
-    /// Whether the ledger has stopped: the device failed in a flight that has come back, so it
-    /// accepts and flushes nothing more.
+    /// Whether the ledger has stopped: the device failed in a returned flight, so it accepts and
+    /// flushes nothing more.
     pub fn stopped(&self) -> bool
         ensures { result ≡ is_some self.now.log.doubt }
     {
         self.doubt.is_some()
     }
 
-    /// The number of a client's last accepted order, 0 at first.
+    /// The number of a client's last accepted order, initially 0.
     pub fn last(&self, client: Client) -> u64
         ensures { result ≡ last_number (get (front_world self.now.log).sessions client) }
     {
@@ -192,7 +192,7 @@ impl<D: Disk> Ledger<D> {
         }
     }
 
-    /// Gives the store back, unless it is out with a flight. Pending steps are lost.
+    /// Returns the store, unless it is out with a flight. Pending steps are lost.
     pub fn close(self) -> Result<Store<D>, Self>
         ensures home { IfOk result (λ store. self.disk ≡ Some store.disk) }
         ensures world { IfOk result (λ store. store.world ≡ settled_world self.log) }
@@ -203,7 +203,7 @@ impl<D: Disk> Ledger<D> {
         Ok(store)
     }
 
-    /// Does nothing: its contract is what the type keeps of every ledger.
+    /// Does nothing: its contract is the invariant of the type.
     pub fn lemma_images_give_settled(&self)
         ensures { IfSome self.now.disk (λ disk. D.model.keeps_model disk ≡ true →
             LedgerGives D.model.present self.now disk) }

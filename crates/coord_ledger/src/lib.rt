@@ -1,27 +1,26 @@
 //! A ledger accepts steps, settles them on the disk in flights, and releases a step's outputs only
 //! once it is settled. A crash loses what was not settled, and nothing that was released.
 //!
-//! `specs/machine` defines what a ledger is, as a machine of events: `Log` is what was accepted and
-//! how much of it is settled, `Submits` what is said to a step, `Answers` all that each event may
-//! be answered, `After` what becomes of it with an answer, `Runs` lists of events. Memory, the
-//! device and crashes choose among the answers.
-//! `specs/promises/Headline.antt` states the main theorem in plain words and then formally: wherever
-//! a run is stopped, the disk gives the world after a prefix of the accepted steps that holds all
-//! that was released. `specs/ledger` is what contracts see of a ledger, a flight and a ticket, and
-//! how they follow the machine.
+//! `specs/machine` defines a ledger as a machine of events: `Log` is the accepted steps and how
+//! many of them are settled, `Submits` the answer to a submitted step, `Answers` the possible
+//! answers to each event, `After` the state after an answer, `Runs` lists of events. Memory, the
+//! device and crashes choose among the answers. `specs/promises/Headline.antt` states the main
+//! theorem in plain words and then formally: wherever a run is stopped, the disk holds the world
+//! after a prefix of the accepted steps that includes every released one. `specs/ledger` is what
+//! contracts see of a ledger, a flight and a ticket, and how they follow the machine.
 //!
-//! `Ledger` is the code: `submit` accepts a step and gives a `Ticket` for its reply, `begin_flush`
-//! sends the store out with the next steps as a `Flight`, `Flight::commit` writes them, `end_flush`
-//! takes the flight back and gives the `Releases` of what it settled, and `collect` gives the reply.
-//! `show` gives the settled world as coord_view's `View`. Contracts see `LedgerState`,
-//! `FlightState` and a `Claim` (`specs/ledger/State.antt`), and what each call makes of them
-//! (`specs/ledger/Calls.antt`).
+//! `Ledger` is the code: `submit` accepts a step and returns a `Ticket` for its reply,
+//! `begin_flush` sends the store out with the next steps as a `Flight`, `Flight::commit` writes
+//! them, `end_flush` takes the flight back and returns the `Releases` of the steps that it settled,
+//! and `collect` returns the reply. `show` returns the settled world as coord_view's `View`.
+//! Contracts see `LedgerState`, `FlightState` and a `Claim` (`specs/ledger/State.antt`), and how
+//! each call changes them (`specs/ledger/Calls.antt`).
 //!
-//! [`run_events`] runs a list of events in one thread, with crashes in between: the main
-//! theorem is its contract, and `specs/promises/Broken.antt` has what it says of a run that ends
-//! early. `specs/ledger/Follows.antt` says where a run is between two events.
+//! [`run_events`] runs a list of events in one thread, with crashes in between: the main theorem is
+//! its contract, and `specs/promises/Broken.antt` has the statement for a run that ends early.
+//! `specs/ledger/Follows.antt` says in which state a run is between two events.
 //!
-//! [`laws`] proves of the machine what the main theorem stands on.
+//! [`laws`] proves the laws of the machine on which the main theorem rests.
 #![tactic(auto)]
 
 mod driver;

@@ -1,4 +1,4 @@
-//! What became of a flight.
+//! The state of a flight.
 
 /// Whether a flight was committed.
 #[derive(Clone, Copy, PartialEq, Eq)]
@@ -7,6 +7,6 @@ pub enum Mark {
     New,
     /// The flight's steps are on the disk.
     Good,
-    /// The device failed: its steps are on the disk or not.
+    /// The device failed: its steps may or may not be on the disk.
     Torn,
 }

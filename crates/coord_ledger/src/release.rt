@@ -1,8 +1,8 @@
-//! What is released.
+//! Released outputs.
 
 use coord_types::Output;
 
-/// An output, and the number of the step that gave it out; 0 where it is sent again.
+/// An output, and the number of its step; 0 if it is sent again.
 #[derive(Clone, Copy, Debug, PartialEq, Eq)]
 pub struct Release {
     pub step: u64,

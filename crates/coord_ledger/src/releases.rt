@@ -7,8 +7,8 @@ use coord_types::Output;
 use std::alloc::AllocError;
 use std::marker::Model;
 
-/// What is left to hand out. It has to be spent, by `lose_rest`. Contracts see the list of what is
-/// left.
+/// The releases that are not handed out yet. It must be consumed, by `lose_rest`. Contracts see the
+/// list of the remaining ones.
 pub struct Releases {
     rows: Vec<Release>,
     given: usize,
@@ -33,14 +33,14 @@ impl Releases {
         Releases { rows, given: 0 }
     }
 
-    /// How many are left.
+    /// The number of remaining ones.
     pub fn len(&self) -> u64
         ensures { result ≡ length self.now }
     {
         (self.rows.len() - self.given) as u64
     }
 
-    /// The next one, where there is one.
+    /// The next one, if there is one.
     pub fn next(&mut self) -> Option<Release>
         ensures first { result ≡ slice_get self.old 0 }
         ensures rest { self.new ≡ drop 1 self.old }
@@ -53,7 +53,7 @@ impl Releases {
         Some(release)
     }
 
-    /// How many were not handed out. They are lost.
+    /// Drops the remaining ones, and returns how many there were.
     pub fn lose_rest(self) -> u64
         ensures { result ≡ length self }
     {

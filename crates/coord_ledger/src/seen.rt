@@ -1,4 +1,4 @@
-//! What a caller has seen of a ledger.
+//! The settled steps that a caller has seen of a ledger.
 
 ghost use Rattle.std.specs.Prelude.{◌≡◌, max, nat_le};
 
@@ -27,7 +27,7 @@ impl Seen {
         Seen { count: 0 }
     }
 
-    /// Notes that this step is settled. It never lowers what was seen.
+    /// Notes that this step is settled. It never lowers the seen count.
     pub fn note(&mut self, step: u64)
         ensures { self.new ≡ max self.old step }
     {

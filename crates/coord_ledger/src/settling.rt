@@ -1,4 +1,4 @@
-//! What steps release, and whether they are the same.
+//! The releases of steps, and comparisons.
 
 ghost use Rattle.std.specs.Prelude.{◌≡◌, ◌+◌, ◌<◌, ◌≤◌, ◌^◌, ◌++◌, ◌↔◌, drop, length, map, take, IsTrue, OnOk, IfOk};
 ghost use Rattle.coord_ledger.specs.code.Holding.{listed, released_from};
@@ -44,7 +44,8 @@ pub fn push_all(rows: &mut Vec<Release>, step: u64, outputs: &[Output]) -> Resul
     Ok(())
 }
 
-/// The releases of the first `size` steps, which are numbered from `first` on and gave out `given`.
+/// The releases of the first `size` steps, which are numbered from `first` on; `given` are the
+/// outputs of all.
 pub fn released(
     alloc: Global,
     first: u64,
@@ -63,7 +64,7 @@ pub fn released(
     Ok(rows)
 }
 
-/// Drops what the first `size` steps gave out.
+/// Drops the outputs of the first `size` steps.
 pub fn drop_first(given: &mut VecDeque<Vec<Output>>, size: usize)
     ensures { listed given.new.items ≡ drop size (listed given.old.items) }
 {

@@ -1,4 +1,4 @@
-//! What callers hold of the steps that they submitted.
+//! The callers' claims on the steps that they submitted.
 
 ghost use Rattle.std.specs.Prelude.{◌≡◌};
 
@@ -13,8 +13,8 @@ pub struct Note {
     pub kind: Kind,
 }
 
-/// Stands for the reply to a step until the step is settled. It has to be spent, by `forget` or by
-/// a ledger's `collect`. Contracts see what it claims (`specs/ledger/State.antt`).
+/// Represents the reply to a step until the step is settled. It must be consumed, by `forget` or by
+/// a ledger's `collect`. Contracts see its claim (`specs/ledger/State.antt`).
 pub struct Ticket {
     pub(crate) step: u64,
     pub(crate) what: Step,
@@ -33,7 +33,7 @@ impl Ticket {
     ghost use Rattle.coord_ledger.specs.ledger.Calls.{claimed};
     ghost use Rattle.coord_ledger.specs.ledger.State.{reply_of};
 
-    // For a step that has this reply.
+    // Makes a ticket for a step with this reply.
     pub(crate) fn of(what: Step, reply: Reply) -> Self
         ensures { result ≡ claimed what reply }
     {
@@ -44,7 +44,7 @@ impl Ticket {
         }
     }
 
-    // The reply that it stands for.
+    // The reply that it represents.
     pub(crate) fn reply(&self) -> Reply
         ensures { result ≡ reply_of self.now }
     {
@@ -74,7 +74,7 @@ impl Ticket {
         }
     }
 
-    /// Gives up the reply. It leaves nothing of which a clause could speak.
+    /// Gives up the reply. (No postcondition: nothing remains.)
     pub fn forget(self) {
         let Ticket {
             step: _,

@@ -1,4 +1,4 @@
--- The lines of a text that goes on a line so far, where a piece of it is taken.
+-- The lines of a text that continues a line so far, after a piece of it.
 use Rattle.std.proofs.Common.{◌≡◌, ◌+◌, length-drop, ℕ, ◌<◌, ◌≤◌, Bool, true, false, cond, leb, ltb, List, [], ◌∷◌, ◌++◌, length, get_or, option_map, Option, Some, None, refl, sym, ap, ◌∙◌, append_assoc, append-nil, arith, map, length-append}
 use Rattle.std.specs.List.{All, slice_split, onto_first, position, position_or_len, after_first}
 use Rattle.std.proofs.lemmas.Bool.Decides.{nat_tests}
@@ -91,7 +91,7 @@ found : (text behind : List ℕ) (place : Option ℕ) → position is_line_feed 
 found text behind None e f = absurd cc
 found text behind (Some place) e f = let at = at_line_feed text place e in (omega arith, cc)
 
--- a piece with a line feed ends the line, and what stands after that begins the next one
+-- a piece with a line feed ends the line, and the bytes after that begin the next one
 pub lines_on-ended : (line : Line) (piece more behind : List ℕ) → behind_line_feed piece ≡ Some behind → lines_on line (piece ++ more) ≡ extended line (before_line_feed piece) ∷ lines_on (Some []) (behind ++ more)
 lines_on-ended line piece more behind e =
     let at = found piece behind _ refl e in

@@ -8,21 +8,21 @@ use Rattle.coord_types.specs.Messages.{begins_with, same_msg, behind_front}
 use Rattle.coord_link.specs.LaneMachine.{Lane, new_lane, sent, took, cleared, judged_take, judged_clear}
 use Rattle.coord_link.specs.Moves.{Move, Send, Take, Clear, moved, run, sent_by, taken_by, handed, message_of, InOrder, LaneLaw}
 
--- where a list goes on with m after its first n, its first n + 1 end with m
+-- if a list continues with m after its first n, its first n + 1 end with m
 taken_more : (n : ℕ) (all rest : List Msg) (m : Msg) → drop n all ≡ m ∷ rest → take (suc n) all ≡ take n all ++ m ∷ []
 taken_more zero [] rest m goes_on = cc
 taken_more zero (a ∷ all) rest m goes_on = cc
 taken_more (suc n) [] rest m goes_on = cc
 taken_more (suc n) (a ∷ all) rest m goes_on = let shorter = taken_more n all rest m goes_on in cc
 
--- without its front, what stands after the first n is what stands after the first n + 1
+-- without its front, the part after the first n is the part after the first n + 1
 behind_more : (n : ℕ) (all : List Msg) → behind_front (drop n all) ≡ drop (suc n) all
 behind_more zero [] = refl
 behind_more zero (a ∷ all) = refl
 behind_more (suc n) [] = refl
 behind_more (suc n) (a ∷ all) = behind_more n all
 
--- where a list goes on after its first n, it is longer than n
+-- if a list continues after its first n, it is longer than n
 more_left : (n : ℕ) (all rest : List Msg) (m : Msg) → drop n all ≡ m ∷ rest → n < length all
 more_left zero [] rest m goes_on = absurd (cc)
 more_left zero (a ∷ all) rest m goes_on = omega arith
@@ -35,7 +35,7 @@ same_is msg.Ack msg.Ack e = refl
 same_is msg.Ready msg.Ready e = refl
 same_is a b e = cc
 
--- a queue that begins with m is m and what stands after it
+-- a queue that begins with m is m and the rest
 begins : (queue : List Msg) (m : Msg) → begins_with queue m ≡ true → queue ≡ m ∷ behind_front queue
 begins [] m e = cc
 begins (front ∷ rest) m e = let same = same_is front m e in cc

@@ -1,4 +1,4 @@
--- What stands in a list, in the entries of a table, and in what is made of them.
+-- Elements of a list, of the entries of a table, and of lists made of them.
 use Rattle.std.proofs.Common.{◌≡◌, ◌⊎◌, ℕ, ◌&&◌, Bool, false, true, List, [], ◌∷◌, ◌++◌, Option, Some, None, Ordering, cond, map, flat_map, refl, sym, ap, subst, ◌∙◌, inl, inr}
 use Rattle.std.specs.Cmp.{IsTotalOrder}
 use Rattle.std.specs.FinMap.Entries.{below_all, find, is_sorted}
@@ -92,7 +92,7 @@ once_both (x ∷ xs) ys first second apart =
 -- ---- the entries of a table
 
 module _ {K X : Type 0} {R : K → K → Ordering} (o : IsTotalOrder R) (same : (p q : K) → eq_by_cmp R p q ≡ true → p ≡ q) where
-  -- what stands in a list in order is found there
+  -- each element of a list in order is found there
   pub stands_found : (es : List (K × X)) (e : K × X) → is_sorted R es ≡ true → IsOneOf e es → find R e.0 es ≡ Some e.1
   stands_found es e sorted one = one_all (λ e. find R e.0 es ≡ Some e.1) es e (each_entry o same (λ e. find R e.0 es ≡ Some e.1) es sorted (λ k x is. is)) one
 
@@ -110,7 +110,7 @@ module _ {K X : Type 0} {R : K → K → Ordering} (o : IsTotalOrder R) (same : 
   pub is_there : (m : Table o X) (q : K) (x : X) → get m q ≡ Some x → IsOneOf (q, x) (entries m)
   is_there m q x e = found_stands (entries m) q x (sym (get-entries m q) ∙ e)
 
-  -- what is made of the entries of a table stands once, where it tells the key
+  -- each item made of the entries of a table occurs once, if it determines the key
   module _ {E : Type 0} (g : K × X → List E) (HasKey : E → K → Type 0) (one_key : (n : E) (k l : K) → HasKey n k → HasKey n l → k ≡ l) (keys : (e : K × X) (n : E) → IsOneOf n (g e) → HasKey n e.0) (once : (e : K × X) → AllDistinct (g e)) where
     once_flat : (es : List (K × X)) → is_sorted R es ≡ true → AllDistinct (flat_map g es)
     once_flat [] sorted = tt

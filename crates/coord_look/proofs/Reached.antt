@@ -144,7 +144,7 @@ reaches_more links u s l e reaches = record { itself = more_with_ends s l u reac
     of v (inl was) = reaches.ways v was
     of v (inr at) = over (contains s l.a) (contains s l.b) refl refl known.1 v at
 
--- ---- where no link crosses, all are reached
+-- ---- if no link crosses, all are reached
 
 same_side : (a b : Bool) → not (beq a b) ≡ false → a ≡ b
 same_side true true e = refl

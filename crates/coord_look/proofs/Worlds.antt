@@ -1,4 +1,4 @@
--- What is read in the view of a world is what a member is shown of that world.
+-- A member reads in the view of a world exactly what it is shown of that world.
 use Rattle.std.proofs.Common.{◌≡◌, ◌≢◌, ◌⊎◌, ◌↔◌, ℕ, ◌<◌, ◌≤◌, ◌&&◌, ◌||◌, not, nat_lt, eqb, ◌==◌, Bool, false, true, List, [], ◌∷◌, ◌++◌, Option, Some, None, cond, find, flat_map, is_some, map, refl, sym, ap, subst, ◌∙◌, arith, inl, inr, if◌then◌else◌}
 use Rattle.std.specs.Cmp.{nat_cmp_total}
 use Rattle.std.specs.List.{list_all}
@@ -260,7 +260,7 @@ module _ (w : World) (range : InRange w) (accepted : ℕ) where
         (one_flat (link_entries s) links (seen_link ((a, b), link.lanes)) (Link a b incarnation) (link_shown a b link.lanes link.there)
         (subst (λ n. IsOneOf (Link a b n) (link_entries s (seen_link ((a, b), link.lanes)))) made (alone_one (contains s a) (Link a b link.lanes.forth.inc) (is_reached a path))))
 
-    -- what stands in the party is of a node, or of a link
+    -- each entry of the party is of a node, or of a link
     of_nodes : (n e : ℕ) → IsOneOf (Node n e) (party_in s (shown accepted w)) → IsOneOf (Node n e) (flat_map (node_entries s) nodes)
     of_nodes n e one = elim (one_of_both (Node n e) (flat_map (node_entries s) nodes) (flat_map (link_entries s) links) one) [
       | inl k ↦ k

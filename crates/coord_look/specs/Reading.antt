@@ -1,4 +1,4 @@
--- What is read in the rows of a view.
+-- Reading the rows of a view.
 use Rattle.std.specs.Prelude.{◌≡◌, ◌⊎◌, ◌↔◌, ℕ, ◌==◌, ◌&&◌, ◌||◌, not, Bool, false, true, List, [], ◌∷◌, ◌++◌, Option, Some, None, find, if◌then◌else◌}
 use Rattle.std.specs.Bool.{beq}
 use Rattle.std.specs.List.{list_all, flat_map}
@@ -48,7 +48,7 @@ is_ready_mode Converge = false
 abbrev pub is_quiet : NodeSet → NodeView → Bool
 is_quiet reached row = not (contains reached row.node) || is_ready_mode row.mode
 
--- a node that is one of these is in no reset, nor awaited: its epoch is confirmed
+-- a node that is one of these is in no reset, and its epoch is confirmed
 abbrev pub is_through : NodeSet → NodeView → Bool
 is_through reached row = not (contains reached row.node) || (is_ready_mode row.mode && (row.epoch == row.confirmed))
 

@@ -1,4 +1,4 @@
--- What is read in the view of a world is what a member is shown of that world.
+-- A member reads in the view of a world exactly what it is shown of that world.
 use Rattle.std.specs.Prelude.{◌≡◌, ℕ, false, List, Option, Some, None, find}
 use Rattle.coord_types.specs.Table.{has}
 use Rattle.coord_view.specs.Shown.{shown}
@@ -13,6 +13,6 @@ use Rattle.coord_look.specs.Shown.{IsShownTo}
 abbrev pub LookIsShown : Type 0
 LookIsShown = (w : World) (accepted i : ℕ) (own : NodeView) (row : Row) (party : List Entry) → InRange w → find (is_of i) (shown accepted w).nodes ≡ Some own → IsReadOf (shown accepted w) i own row party → IsShownTo w i row party
 
--- where no row is read, the node is not there
+-- if no row is read, the node is not there
 abbrev pub NoLookIsAbsent : Type 0
 NoLookIsAbsent = (w : World) (accepted i : ℕ) → find (is_of i) (shown accepted w).nodes ≡ None → has w.nodes i ≡ false

@@ -2,13 +2,13 @@
 
 ghost use Rattle.coord_look.specs.Worlds.{LookIsShown, NoLookIsAbsent};
 
-/// What is read in the view of a world in its ranges is what a member is shown of that world: of its
-/// node, of all that a path of links connects with it, and of the links between them.
+/// A member reads in the view of a world in its ranges exactly what it is shown of that world: its
+/// node, all nodes that a path of links connects with it, and the links between them.
 pub fn look_is_shown()
     ensures { LookIsShown }
 {}
 
-/// Where no row is read, the node is not there.
+/// If no row is read, the node is not there.
 pub fn no_look_is_absent()
     ensures { NoLookIsAbsent }
 {}

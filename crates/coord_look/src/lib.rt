@@ -1,11 +1,11 @@
 //! What the member of a node reads in a view: its node's row, how those that links connect with it
 //! stand, and who they are.
 //!
-//! [`look_of`] makes that of a coord_view `View`. `specs/Shown.antt` says over worlds what a member is
-//! shown, by the same `Connected` that the law of waves speaks of, and `specs/Reading.antt` what is
-//! read in the rows of a view, as the contract of [`look_of`] does. The main theorem is the contract of
-//! [`laws::look_is_shown`]: what is read in the view of a world is what a member is shown of that
-//! world. [`connected`] finds those that links connect.
+//! [`look_of`] makes a look from a coord_view `View`. `specs/Shown.antt` says over worlds what a
+//! member is shown, by the same `Connected` as the law of waves, and `specs/Reading.antt` what is
+//! read in the rows of a view, which is the contract of [`look_of`]. The main theorem is the
+//! contract of [`laws::look_is_shown`]: a member reads in the view of a world exactly what it is
+//! shown of that world. [`connected`] finds the nodes that links connect.
 #![tactic(auto)]
 
 pub mod laws;

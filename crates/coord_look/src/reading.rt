@@ -84,7 +84,7 @@ fn party_in(alloc: Global, view: &View, reached: NodeSet) -> Result<Vec<Entry>, 
     Ok(party)
 }
 
-/// What the member of a node reads in a view; None where the node is not there.
+/// Returns what the member of a node reads in a view; None if the node is not there.
 pub fn look_of(alloc: Global, view: &View, node: NodeId) -> Result<Option<Look>, AllocError>
     ensures absent { IfOk result (λ found. IfNone found (find (is_of node) view.now.nodes ≡ None)) }
     ensures read { IfOk result (λ found. IfSome found (λ look. (own : NodeView) × ((find (is_of node) view.now.nodes ≡ Some own) × IsReadOf view.now node own look.row look.party.items))) }

@@ -1,4 +1,4 @@
--- What an honest coordinator shows rules out that a start is taken for one before it, also where files were lost.
+-- The views of an honest coordinator rule out that a start is taken for one before it, also if files were lost.
 use Rattle.std.proofs.Common.{◌≡◌, ℕ, ◌<◌, ◌≤◌, ◌==◌, true, false, List, Option, Some, None, refl, sym, ap, subst, ◌∙◌, arith, ◌⊎◌, inl, inr, if◌then◌else◌}
 use Rattle.std.proofs.lemmas.Bool.Decides.{nat_tests}
 use Rattle.coord_member.specs.declared.view.Entry.{Entry}
@@ -21,7 +21,7 @@ pub record IsOver (made : ℕ → Entry → ℕ) (last : Shown) (kept : Kept) (l
 
 -- ---- each event keeps the claim
 
--- what is shown of a node, and of another one
+-- the shown rows of a node, and of another one
 pub shown_of : (last : ℕ → Shown) (i life : ℕ) (row : Row) → with_shown last i life row i ≡ record { life = life; confirmed = row.confirmed }
 shown_of last i life row =
     elim (i == i) as (λ b. ((i == i) ≡ b) → (if b then (record { life = life; confirmed = row.confirmed }) else last i) ≡ record { life = life; confirmed = row.confirmed }) [
@@ -36,7 +36,7 @@ shown_of_others last i life row j away =
       | false ↦ λ e. refl
     ] refl
 
--- what is shown later rules out no less
+-- later views rule out at least as much
 no_earlier : (last : Shown) (life : ℕ) (row : Row) → IsLater last life row → last.life ≤ life
 no_earlier last life row (inl less) = omega (arith, less)
 no_earlier last life row (inr same) = omega (arith, same.0)

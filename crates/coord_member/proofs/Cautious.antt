@@ -10,7 +10,7 @@ use Rattle.coord_member.specs.Members.{MemberWorld, Look}
 use Rattle.coord_member.specs.Cautious.{MoreOnlyForbids, due_with, happens_with}
 use Rattle.coord_member.proofs.Holding.{Claim, Past, Holds, Rules, looks, looks_less}
 
--- ---- what is due
+-- ---- the due action
 
 more_were : (now : List Entry) (more history : List (List Entry)) → was_before now history ≡ true → was_before now (more ++ history) ≡ true
 more_were now [] history e = e
@@ -37,7 +37,7 @@ asks_or_waits : (quiet : Bool) → IsLess (if quiet then Reset else Wait)
 asks_or_waits true = inr refl
 asks_or_waits false = inl refl
 
--- the parts of due_of, where a start has a party, and where it has none
+-- the parts of due_of, if a start has a party, and if it has none
 abbrev due_by : Bool → Bool → Bool → Bool → Bool → Bool → Due
 due_by newer begun through admitted quiet was =
     if newer && not was then Begin else (if begun && not through then Wait else (if begun && admitted then Talk else (if quiet then Reset else Wait)))

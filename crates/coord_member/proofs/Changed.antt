@@ -1,4 +1,4 @@
--- What is kept for what is due is a change of what was kept.
+-- The stored values for the due action are a change of the values before.
 use Rattle.std.proofs.Common.{◌≡◌, ℕ, Bool, true, false, List, [], ◌∷◌, ◌++◌, Option, Some, None, refl, is_some, if◌then◌else◌}
 use Rattle.coord_member.specs.declared.view.Entry.{Entry}
 use Rattle.coord_member.specs.declared.rule.Change.TheVariants.{NotesAlone, NotesFirst}

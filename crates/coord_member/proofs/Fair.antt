@@ -1,4 +1,4 @@
--- No start hears of two starts of one member, where some keep their files, whatever is shown, and others may lose them.
+-- No start hears of two starts of one member, if some keep their files, whatever is shown, and others may lose them.
 use Rattle.std.proofs.Common.{◌≡◌, ℕ, suc, Bool, true, false, List, [], ◌∷◌, ◌++◌, Option, Some, None, refl, sym, ap, subst, ◌∙◌, arith, inl, inr, slice_get}
 use Rattle.std.proofs.lemmas.Bool.Decides.{nat_tests}
 use Rattle.coord_member.specs.declared.view.Entry.{Entry}
@@ -16,7 +16,8 @@ use Rattle.coord_member.proofs.Unmixed.{by_party, unmixed}
 use Rattle.coord_member.proofs.Cautious.{looks_with}
 use Rattle.coord_member.proofs.Besides.{IsOver, begun_over, none_again, shown_of, shown_of_others, stays_over}
 
--- the party of a start is in its node's history, if the node keeps its files, and otherwise ruled out by what is shown
+-- the party of a start is in its node's history, if the node keeps its files, and otherwise ruled out by the shown
+-- view
 abbrev by_files : Bool → (ℕ → Entry → ℕ) → Shown → Kept → Option ℕ → Talked → Type 0
 by_files true made last kept loading t = IsOneOf t.party kept.history
 by_files false made last kept loading t = IsOver made last kept loading t
@@ -65,7 +66,7 @@ rules_kept keeps made last w i row now h keep =
       );
     }
 
--- the rules hold of a member that may lose its files
+-- the rules hold for a member that may lose its files
 rules_over : (keeps : ℕ → Bool) (made : ℕ → Entry → ℕ) (last : ℕ → Shown) (w : MemberWorld) (i life : ℕ) (row : Row) (now : List Entry) → Holds by_party (is_fair keeps made last) w → keeps i ≡ false → IsLater (last i) life row → IsView made i life row.epoch now →
     Rules by_party (is_fair keeps made last) (is_fair keeps made (with_shown last i life row)) w i row now
 rules_over keeps made last w i life row now h loses later view =
@@ -135,7 +136,7 @@ runs keeps made last more w (Hear i k ∷ events) fair h = runs keeps made last 
 pub no_mix_with_more : NoMixWithMore
 no_mix_with_more keeps made more events fair = runs keeps made nothing_shown more new_world events fair (nothing_yet by_party (is_fair keeps made nothing_shown))
 
--- ---- no more than they talked with
+-- ---- at most those that they talked with
 
 same_event : (w : MemberWorld) (event : Event) → happens_with w [] event ≡ happens w event
 same_event w (Look i row now) = refl

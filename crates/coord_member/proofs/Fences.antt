@@ -68,7 +68,7 @@ when_accepted r f e = ap (λ b. if b then held_by (is_own r f) r f else r) e
 when_refused : (r : Resource) (f : Fence) → accepts r f ≡ false → behind r f ≡ r
 when_refused r f e = ap (λ b. if b then held_by (is_own r f) r f else r) e
 
--- ---- what is kept out
+-- ---- rejected fences
 
 -- this fence was accepted
 record Knows (g : Fence) (r : Resource) : Type 0 where
@@ -120,7 +120,7 @@ no_start_returns r f g between later other e_f e_g = of (accepts (behind_all (be
           | inr more ↦ elim first [ inl tag ↦ absurd (other (sym tag)) | inr fewer ↦ absurd (omega (arith, more, fewer)) ]
         ]
 
--- ---- what is let in
+-- ---- accepted fences
 
 -- no other run has come as far as this fence
 record Awaits (f : Fence) (r : Resource) : Type 0 where

@@ -1,4 +1,4 @@
--- What every event keeps true of members, whatever rules out that two starts are taken for one.
+-- The invariant of all events of members, whatever rules out that two starts are taken for one.
 use Rattle.std.proofs.Common.{◌≡◌, ◌≢◌, ℕ, zero, suc, ◌+◌, ◌<◌, ◌≤◌, ◌==◌, ◌&&◌, not, nat_lt, Bool, true, false, List, [], ◌∷◌, ◌++◌, Option, Some, None, refl, sym, ap, subst, ◌∙◌, arith, ◌⊎◌, inl, inr, if◌then◌else◌, unwrap_or, slice_get}
 use Rattle.std.specs.List.{AllByRecursion}
 use Rattle.std.proofs.lemmas.Bool.Decides.{nat_tests}
@@ -61,7 +61,7 @@ pub same_party_itself : (xs : List Entry) → same_party xs xs ≡ true
 same_party_itself [] = refl
 same_party_itself (x ∷ xs) = let a = same_entry_itself x in let b = same_party_itself xs in grind (arith, a, b)
 
--- what is in the history is found there
+-- each element of the history is found there
 pub found : (now : List Entry) (history : List (List Entry)) → IsOneOf now history → was_before now history ≡ true
 found now [] h = absurd h
 found now (p ∷ ps) (inl e) = let a : same_party now p ≡ true = subst (λ q. same_party now q ≡ true) e (same_party_itself now) in grind (arith, a)
@@ -74,7 +74,7 @@ one_before x (a ∷ xs) ys (inr h) = inr (one_before x xs ys h)
 
 -- ---- what holds
 
--- what is true of a member, where these have talked, and the next start has this number
+-- the invariant of a member, if these have talked, and the next start has this number
 pub record IsMember (talked : List Talked) (serial i : ℕ) (m : Member) : Type 0 where
   pub works : (s : Start) → m.work ≡ Some s → (s.node ≡ i) × (m.kept.begun ≡ Some s.epoch) × (s.serial < serial)
   pub begun : (e : ℕ) → m.kept.begun ≡ Some e → (s : Start) × (m.work ≡ Some s)
@@ -85,12 +85,12 @@ pub record IsMember (talked : List Talked) (serial i : ℕ) (m : Member) : Type 
   pub alone : (s : Start) → run_of m.kept.party ≡ None → IsOneOf s m.causal_past → m.work ≡ Some s
   pub fresh : (s : Start) (t : Talked) → run_of m.kept.party ≡ None → m.work ≡ Some s → IsOneOf t talked → t.start ≡ s → ⊥
 
--- what rules out, for a start that talked, that its node (which keeps this, and loads for this epoch) goes on as another one that is
--- taken for it
+-- the reason why, for a start that talked, its node (which keeps this, and loads for this epoch) does not go on as
+-- another one that is taken for it
 abbrev pub Past : Type 1
 Past = (node : ℕ) → Kept → Option ℕ → Talked → Type 0
 
--- which starts that talked might be taken for one another, and what is true of these
+-- which starts that talked might be taken for one another, and the invariant of these
 pub record Claim : Type 1 where
   pub same : Talked → Talked → Type 0
   pub alike : Talked → Talked → Type 0
@@ -104,7 +104,7 @@ pub record Holds (c : Claim) (past : Past) (w : MemberWorld) : Type 0 where
   pub runs : (t u : Talked) → IsOneOf t w.talked → IsOneOf u w.talked → t.start ≡ u.start → t ≡ u
   pub starts : (t u : Talked) → IsOneOf t w.talked → IsOneOf u w.talked → c.same t u → c.alike t u
 
--- what a member does beside its looks takes nothing away from what is ruled out
+-- the actions of a member besides its looks leave everything ruled out
 pub record Lasts (past : Past) : Type 0 where
   pub silent : (i : ℕ) (k : Kept) (l : Option ℕ) (t : Talked) → past i k l t → past i k None t
   pub forgets : (i : ℕ) (k : Kept) (l : Option ℕ) (t : Talked) → past i k l t → past i (without_work k) None t
@@ -190,7 +190,7 @@ same_kept c past w i m h is same loading =
     replaced c past past w i m [] h is (nobody_new c w i) (λ j k l t away is. is)
     (λ t in_t e. subst (λ l. past i m.kept l t) (sym loading) (subst (λ (k : Kept). past i k (w.member i).loading t) (sym same) (past_at c past w i t h in_t e)))
 
--- ---- a member falls silent, or tells what it has heard
+-- ---- a member falls silent, or reports what it has heard
 
 pub crashed : (c : Claim) (past : Past) (w : MemberWorld) (i : ℕ) → Lasts past → Holds c past w → Holds c past (with_member w i (record (w.member i) { tag = None; loading = None }))
 crashed c past w i lasts h =
@@ -347,15 +347,15 @@ forgets c past w i lasts h =
     drops c past past w i (without_work (w.member i).kept) None h refl (λ e f. absurd (cc)) (λ j k l t away is. is)
     (λ t in_t e. lasts.forgets i (w.member i).kept (w.member i).loading t (past_at c past w i t h in_t e))
 
--- what is asked of the rules: for node i, which has been shown these
+-- the requirements on the rules: for node i, to which these have been shown
 pub record Rules (c : Claim) (past later : Past) (w : MemberWorld) (i : ℕ) (row : Row) (now : List Entry) : Type 0 where
   pub others : StaysFor past later i
   pub stays : (t : Talked) → IsOneOf t w.talked → t.start.node ≡ i → later i (w.member i).kept (w.member i).loading t
-  -- what is claimed of a start stays as the member begins
+  -- a claim on a start stays true as the member begins
   pub begins : (t : Talked) → IsOneOf t w.talked → t.start.node ≡ i → nat_lt row.confirmed row.epoch ≡ true → later i (record (w.member i).kept { party = None; begun = None }) (Some row.epoch) t
-  -- what is claimed of a start stays as the member talks for the first time, alone
+  -- a claim on a start stays true as the member talks for the first time, alone
   pub settles : (t : Talked) → IsOneOf t w.talked → t.start.node ≡ i → later i (record (w.member i).kept { party = Some now }) (w.member i).loading t
-  -- what is claimed of a start stays as the member talks for the first time, with others
+  -- a claim on a start stays true as the member talks for the first time, with others
   pub talks : (t : Talked) → IsOneOf t w.talked → t.start.node ≡ i → later i (record (w.member i).kept { party = Some now; history = (w.member i).kept.history ++ (now ∷ []) }) (w.member i).loading t
   pub first : (s : Start) → s.node ≡ i → s.epoch ≡ row.epoch → row.epoch ≡ row.confirmed → (w.member i).loading ≡ None →
       later i (record (w.member i).kept { party = Some now; history = (w.member i).kept.history ++ (now ∷ []) }) (w.member i).loading (record { start = s; party = now })
@@ -378,7 +378,7 @@ again c past w t h in_t =
       starts = λ u v in_u in_v e. h.starts u v (one_of_more u t w.talked in_t in_u) (one_of_more v t w.talked in_t in_v) e;
     }
 
--- nothing of what is kept changes, but what was shown may
+-- the stored values are unchanged, but the shown view may change
 shown_more : (c : Claim) (past later : Past) (w : MemberWorld) (i : ℕ) (row : Row) (now : List Entry) → Holds c past w → Rules c past later w i row now → Holds c later w
 shown_more c past later w i row now h rules =
     record {

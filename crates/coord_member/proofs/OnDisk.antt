@@ -1,4 +1,4 @@
--- What is left on the disk is enough.
+-- The bytes left on the disk are enough.
 use Rattle.std.proofs.Common.{◌≡◌, ◌==◌, ◌&&◌, not, nat_lt, ◌||◌, Bool, true, false, List, [], ◌∷◌, ◌++◌, Option, None, refl, sym, ap, ◌∙◌, inl, inr, if◌then◌else◌}
 use Rattle.coord_member.specs.declared.view.Entry.{Entry}
 use Rattle.coord_member.specs.declared.view.Row.{Row}
@@ -42,7 +42,7 @@ abbrev due_where : Bool → Bool → Row → Bool → Due
 due_where begun admitted row was =
     if nat_lt row.confirmed row.epoch && not was then Begin else (if begun && not row.through then Wait else (if begun && admitted then Talk else (if row.quiet then Reset else Wait)))
 
--- where nothing is begun, the party of a start does not count
+-- if nothing is begun, the party of a start does not count
 nothing_begun : (party other : Option (List Entry)) (was : Bool) (row : Row) (now : List Entry) → due_of None party was row now ≡ due_of None other was row now
 nothing_begun party other was row now =
     ap (λ b. due_where b (admits party was now) row was) (never (row.epoch == row.confirmed))

@@ -6,7 +6,7 @@ use Rattle.coord_member.specs.declared.view.Entry.{Entry}
 use Rattle.coord_member.specs.declared.view.Entry.TheVariants.{Node, Link}
 use Rattle.coord_member.specs.Text.{entry_line, party_text, IsWritten, PartyTextInjective}
 
--- ---- digits, and what stands after them
+-- ---- digits, and the text after them
 
 -- no space and no line feed
 abbrev IsDigit : ℕ → Type 0

@@ -1,4 +1,4 @@
--- What holds of all members leaves no mix.
+-- The invariant of all members excludes mixed runs.
 use Rattle.std.proofs.Common.{◌≡◌, ℕ, List, Option, Some, None, refl, ap}
 use Rattle.coord_member.specs.declared.view.Entry.{Entry}
 use Rattle.coord_member.specs.Rule.{run_of}

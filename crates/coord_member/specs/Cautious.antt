@@ -1,7 +1,7 @@
 -- Members whose histories have more parties than their starts have talked with.
 --
--- A member writes the party that is shown into its history before it knows whether its start will talk with it, and forgets which of
--- them were written so if the power is cut. Such a party is taken for one that a start talked with.
+-- A member writes the shown party into its history before it knows whether its start will talk with it, and forgets
+-- which of them were written in advance if the power is cut. Such a party counts as one that a start talked with.
 use Rattle.std.specs.Prelude.{◌≡◌, ◌⊎◌, ℕ, suc, Bool, List, [], ◌∷◌, ◌++◌}
 use Rattle.coord_member.specs.declared.view.Entry.{Entry}
 use Rattle.coord_member.specs.declared.view.Row.{Row}
@@ -13,15 +13,16 @@ use Rattle.coord_member.specs.NoMix.{IsUnmixed}
 use Rattle.coord_member.specs.Honest.{nothing_shown}
 use Rattle.coord_member.specs.Fair.{IsFair}
 
--- what is due where the history has these parties too
+-- the due action if the history has these parties too
 abbrev pub due_with : List (List Entry) → Kept → Row → List Entry → Due
 due_with more kept row now = due_of kept.begun kept.party (was_before now (more ++ kept.history)) row now
 
--- they turn what is due into waiting or a reset, or change nothing: it is as if the member had not looked, or had crashed
+-- they turn the due action into waiting or a reset, or change nothing: it is as if the member had not looked, or had
+-- crashed
 abbrev pub MoreOnlyForbids : Type 0
 MoreOnlyForbids = (more : List (List Entry)) (kept : Kept) (row : Row) (now : List Entry) → (due_with more kept row now ≡ due kept row now) ⊎ ((due_with more kept row now ≡ Wait) ⊎ (due_with more kept row now ≡ Reset))
 
--- what happens, where the history of a member that looks has these parties too
+-- the event that happens if the history of a member that looks has these parties too
 abbrev pub happens_with : MemberWorld → List (List Entry) → Event → MemberWorld
 happens_with w more (Look i row now) =
     let m = w.member i in let d = due_with more m.kept row now in looked w i (member_for m (kept_for m.kept now d) row d)

@@ -1,7 +1,7 @@
 -- The fence of a start, and the gate of a resource that starts of several runs use.
 --
--- A start may be paused at any moment, and what it sent may come late. So a resource is told by each request whose it is, and keeps
--- who came before.
+-- A start may be paused at any moment, and its requests may arrive late. So each request to a resource names its
+-- start, and the resource remembers which came before.
 use Rattle.std.specs.Prelude.{◌≡◌, ℕ, ◌<◌, ◌⊎◌, ◌&&◌, ◌||◌, nat_lt, Bool, true, false, List, [], ◌∷◌, if◌then◌else◌}
 use Rattle.std.specs.List.{AllByRecursion}
 use Rattle.std.specs.Str.{bytes_eq}

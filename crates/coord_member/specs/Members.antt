@@ -1,4 +1,4 @@
--- Members, what is shown to them, and the messages between them.
+-- Members, the views that are shown to them, and the messages between them.
 use Rattle.std.specs.Prelude.{ℕ, ◌+◌, ◌==◌, Bool, false, List, [], ◌∷◌, ◌++◌, Option, Some, None, if◌then◌else◌, slice_get}
 use Rattle.coord_member.specs.declared.view.Entry.{Entry}
 use Rattle.coord_member.specs.declared.view.Row.{Row}
@@ -45,8 +45,8 @@ new_world = record { member = λ i. idle new_kept; messages = []; talked = []; s
 pub data Event : Type 0 where
   Look : (i : ℕ) → Row → List Entry → Event  -- it is shown a row of its node and those that are connected
   Load : (i : ℕ) → Event  -- it has loaded the common start for the epoch that it begins
-  Crash : (i : ℕ) → Event  -- what is on the disk stays
-  Forget : (i : ℕ) → Event  -- its work is gone, and what is kept beside it stays
+  Crash : (i : ℕ) → Event  -- its files stay
+  Forget : (i : ℕ) → Event  -- its work is gone, and its other files stay
   Lose : (i : ℕ) → Event  -- all its files are gone
   Send : (i : ℕ) → Event
   Hear : (i k : ℕ) → Event  -- the k-th message comes, late, again or for the first time
@@ -60,7 +60,7 @@ abbrev pub talked_by : Option Start → Option (List Entry) → List Talked
 talked_by (Some start) (Some party) = record { start = start; party = party } ∷ []
 talked_by _ _ = []
 
--- the member, when what is due is done and what is due to be kept is kept
+-- the member after it has carried out the due action and stored the due change
 abbrev pub member_for : Member → Kept → Row → Due → Member
 member_for m kept row Begin = record { kept = kept; tag = None; loading = Some row.epoch; work = None; causal_past = [] }
 member_for m kept row d = record m { kept = kept; tag = tag_for kept d }
@@ -85,7 +85,7 @@ abbrev pub message_of : Option (List Entry) → List Start → List Message
 message_of None causal_past = []
 message_of (Some tag) causal_past = record { tag = tag; causal_past = causal_past } ∷ []
 
--- only a member that talks hears, and only what has its own tag
+-- only a member that talks hears, and only messages with its own tag
 abbrev pub is_of_run : Option (List Entry) → List Entry → Bool
 is_of_run None tag = false
 is_of_run (Some own) tag = same_party own tag

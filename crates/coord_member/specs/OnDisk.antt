@@ -1,11 +1,12 @@
 -- What the rule needs on the disk before which message.
 --
--- Before the first message of a start, the party that it talks with is in the history, synced. Its other file need not be synced:
--- but what a power cut may leave of that one, from the first message on, never says that the start's epoch is begun with another
--- party, or with none yet. So that it is begun and has talked with nobody is written in a form that a power cut takes back, or is
--- replaced on the disk before the first message; and before work is replaced in parts, the disk has that nothing is begun. What was
--- read at the start of a process is synced before the member relies on it: the process before may have been killed in front of its
--- sync, and a power cut would bring back what was there earlier.
+-- Before the first message of a start, the party that it talks with is in the history, synced. Its other file need
+-- not be synced, but from the first message on, no version of it that a power cut may leave says that the start's
+-- epoch is begun with another party, or with none yet. So "begun, and has talked with nobody" is written in a form
+-- that a power cut invalidates, or is replaced on disk before the first message; and before work is replaced in
+-- parts, the disk says that nothing is begun. The files that a process reads at its start are synced before the
+-- member relies on them: the previous process may have been killed before its own sync, and a power cut would bring
+-- back the earlier text.
 use Rattle.std.specs.Prelude.{◌≡◌, ◌⊎◌, List, None}
 use Rattle.coord_member.specs.declared.view.Entry.{Entry}
 use Rattle.coord_member.specs.declared.view.Row.{Row}
@@ -13,8 +14,8 @@ use Rattle.coord_member.specs.Rule.{Kept, due, without_work}
 use Rattle.coord_member.specs.NoMix.{IsOneOf}
 use Rattle.coord_member.specs.Cautious.{due_with}
 
--- what is read back of what was kept when a member was killed, or the power was cut: no party is missing in the history, and the
--- start is as it was, or nothing is begun
+-- what is read back after a kill or a power cut: no party is missing in the history, and the start is unchanged, or
+-- nothing is begun
 pub record IsLeftOf (kept read : Kept) : Type 0 where
   pub history : (party : List Entry) → IsOneOf party kept.history → IsOneOf party read.history
   pub start : (read.begun ≡ None) ⊎ ((read.begun ≡ kept.begun) × (read.party ≡ kept.party))

@@ -42,7 +42,7 @@ abbrev pub is_alone : List Entry → Bool
 is_alone (Node n e ∷ []) = true
 is_alone _ = false
 
--- ---- what is due
+-- ---- the due action
 
 abbrev pub is_at : ℕ → Option ℕ → Bool
 is_at epoch None = false
@@ -57,7 +57,7 @@ abbrev pub admits : Option (List Entry) → Bool → List Entry → Bool
 admits None was now = not was
 admits (Some party) was now = is_within now party
 
--- where a start talked with just these before, or none did
+-- the due action; `was`: whether a start of the node talked with exactly these before
 abbrev pub due_of : Option ℕ → Option (List Entry) → Bool → Row → List Entry → Due
 due_of begun party was row now =
     if nat_lt row.confirmed row.epoch && not was then Begin
@@ -68,7 +68,7 @@ due_of begun party was row now =
 abbrev pub due : Kept → Row → List Entry → Due
 due kept row now = due_of kept.begun kept.party (was_before now kept.history) row now
 
--- ---- what is kept before that is done
+-- ---- what is stored before the action
 
 abbrev pub history_with : Option (List Entry) → List (List Entry) → List Entry → List (List Entry)
 history_with None history now = if is_alone now then history else history ++ (now ∷ [])
@@ -87,7 +87,7 @@ kept_for kept now Reset = kept
 abbrev pub kept_after : Kept → Row → List Entry → Kept
 kept_after kept row now = kept_for kept now (due kept row now)
 
--- the same as a change of what is kept
+-- the same as a change of the stored values
 abbrev pub change_of : Due → Bool → List Entry → Change
 change_of Begin has_party now = Drops
 change_of Talk has_party now = if has_party then Keeps else (if is_alone now then NotesAlone else NotesFirst)
@@ -100,11 +100,11 @@ changed kept now Drops = record kept { party = None; begun = None }
 changed kept now NotesAlone = record kept { party = Some now }
 changed kept now NotesFirst = record kept { party = Some now; history = kept.history ++ (now ∷ []) }
 
--- what is kept once the common start is loaded for an epoch
+-- the stored values once the common start is loaded for an epoch
 abbrev pub begun_with : Kept → ℕ → Kept
 begun_with kept epoch = record kept { begun = Some epoch }
 
--- what is kept beside work that is gone
+-- the stored values when the work is gone
 abbrev pub without_work : Kept → Kept
 without_work kept = record kept { begun = None }
 
@@ -122,7 +122,7 @@ tag_for kept Wait = None
 tag_for kept Begin = None
 tag_for kept Reset = None
 
--- what is due after the look that a refused tag led to
+-- the due action after the look that a rejected tag led to
 abbrev pub due_when_refused : Due → Bool → Bool → Due
 due_when_refused Talk is_same_tag is_same_view = if not is_same_tag && is_same_view then Reset else Talk
 due_when_refused Wait is_same_tag is_same_view = Wait

@@ -34,7 +34,7 @@ impl Model for Kept {
     } };
 }
 
-/// What is due, and what is to be on the disk before it is done.
+/// The due action, and what must be on disk before it.
 #[derive(Drop, Debug)]
 pub struct Judged {
     pub due: Due,
@@ -46,7 +46,7 @@ impl Judged {
     ghost use Rattle.std.specs.Option.{option_map};
 
     /// The party whose digest is the tag of each message, as long as the member talks: that of its
-    /// first talk, and not what is shown now. None: it doesn't talk, or was alone at its first talk,
+    /// first talk, not the one shown now. None: it doesn't talk, or was alone at its first talk,
     /// and sends nothing and hears nothing.
     pub fn tag(&self) -> Option<&[Entry]>
         ensures { option_map (λ party. party.now) result ≡ tag_for self.now.kept self.now.due }
@@ -179,8 +179,9 @@ fn was_before(now: &[Entry], history: &[Vec<Entry>]) -> bool
     was
 }
 
-/// What a view asks of a member. What is kept has to be on the disk before the member acts: a party
-/// joins the history before it is noted as the start's own, and a begin leaves neither work nor party.
+/// Judges a view for a member. The stored values must be on disk before the member acts: a party
+/// joins the history before it is noted as the start's own, and a begin leaves neither work nor
+/// party.
 #[tactic(auto, using(crate::proofs::Changed::changed_is))]
 pub fn judge(alloc: Global, kept: Kept, row: Row, now: Vec<Entry>) -> Result<Judged, AllocError>
     ensures due { IfOk result (λ judged. judged.due ≡ due kept row now.items) }

@@ -17,8 +17,8 @@ pub fn no_mix()
     ensures { NoMix }
 {}
 
-/// The same where members may lose all their files at any moment, if what is shown is a store's
-/// history: a confirmed epoch doesn't fall while its node stays, and no link comes again.
+/// The same if members may lose all their files at any moment, provided that the shown views are a
+/// store's history: a confirmed epoch doesn't fall while its node stays, and no link comes again.
 pub fn no_mix_where_files_are_lost()
     ensures { NoMixHonest }
 {}
@@ -28,8 +28,8 @@ pub fn no_mix_where_some_files_are_lost()
     ensures { NoMixFair }
 {}
 
-/// Parties in a member's history that no start of it talked with turn what is due into waiting or a
-/// reset, or change nothing.
+/// Parties in a member's history that no start of it talked with turn the due action into waiting
+/// or a reset, or change nothing.
 #[tactic(auto, using(crate::proofs::Cautious::more_only_forbids))]
 pub fn more_only_forbids()
     ensures { MoreOnlyForbids }

@@ -1,20 +1,20 @@
 //! The members' rule: what a service does when it looks at the coordinator, with whom its start may
 //! talk, and why that mixes no runs.
 //!
-//! [`judge`] is the rule: from what a member keeps on the disk, its node's row and those that are
-//! connected with it, it says what is due (to talk, to wait, to begin the epoch that is shown, to ask
-//! for a reset) and what is to be on the disk before that is done. `specs/Rule.antt` defines both.
-//! [`due_of`] and [`change_of`] are the same without memory, for whoever keeps the history elsewhere.
-//! [`party_text`] is the text whose digest is a message's tag, and [`on_refused`] what a refused tag
-//! adds.
+//! [`judge`] is the rule: from what a member keeps on disk, its node's row and the connected ones,
+//! it returns the due action (talk, wait, begin the shown epoch, ask for a reset) and what must be
+//! on disk before it. `specs/Rule.antt` defines both. [`due_of`] and [`change_of`] are the same
+//! without memory, for callers that keep the history elsewhere. [`party_text`] is the text whose
+//! digest is a message's tag, and [`on_refused`] what a rejected tag adds.
 //!
 //! The main theorems are the contracts of [`laws`], over the events of `specs/Members.antt`: looks,
-//! loads, crashes, lost work and files, messages that come late, again or never. No start ever hears,
-//! at first or at second hand, of two starts of one member (`specs/NoMix.antt`), whatever is shown to
-//! members that keep their files (`laws::no_mix`), and, if what is shown is a store's history,
-//! wherever members lose theirs (`laws::no_mix_where_files_are_lost`; `specs/Honest.antt`). A member may
-//! write parties into its history that its start then doesn't talk with (`specs/Cautious.antt`), and
-//! `specs/OnDisk.antt` says what has to be on the disk before which message.
+//! loads, crashes, lost work and files, messages that come late, repeatedly or never. No start ever
+//! hears, directly or through others, of two starts of one member (`specs/NoMix.antt`), whatever is
+//! shown to members that keep their files (`laws::no_mix`), and, if a store's history is shown,
+//! also if members lose theirs at any moment (`laws::no_mix_where_files_are_lost`;
+//! `specs/Honest.antt`). A member may write parties into its history that its start then doesn't
+//! talk with (`specs/Cautious.antt`), and `specs/OnDisk.antt` says what must be on disk before
+//! which message.
 //!
 //! A member that is paused can't know that its group has gone on. [`Gate`] is for a resource that
 //! several members use: by the fence that each brings (`specs/Fence.antt`) it keeps out every start

@@ -21,7 +21,7 @@ pub enum Due {
     Reset,
 }
 
-/// What of that which a member keeps changes before it does what is due.
+/// How the stored values change before the due action.
 #[derive(Clone, Copy, PartialEq, Eq, Debug)]
 pub enum Change {
     /// Nothing.
@@ -53,8 +53,8 @@ fn admits(party: Option<&[Entry]>, was: bool, now: &[Entry]) -> bool
     }
 }
 
-/// What is due, where `begun` is the epoch of the work in hand, `party` with whom its start first
-/// talked, and `was` says whether any start talked with just those that are shown now.
+/// Returns the due action. `begun` is the epoch of the present work, `party` the one with which its
+/// start first talked, and `was` says whether any start talked with exactly the shown party.
 pub fn due_of(
     begun: Option<u64>,
     party: Option<&[Entry]>,
@@ -78,7 +78,7 @@ pub fn due_of(
     if row.quiet { Due::Reset } else { Due::Wait }
 }
 
-/// What changes on the disk before that is done, where the start has talked or not.
+/// Returns what changes on disk before the action; `has_party`: the start has talked.
 pub fn change_of(due: Due, has_party: bool, now: &[Entry]) -> Change
     ensures { result ≡ change_of due has_party now.now }
 {
@@ -91,9 +91,9 @@ pub fn change_of(due: Due, has_party: bool, now: &[Entry]) -> Change
     }
 }
 
-/// What is due where a member refused a message for its tag and looked. If it is due to talk, still
-/// with another tag, and the sender was shown just what it is shown itself, no look of either can
-/// bring the two together, and it asks for a reset.
+/// Returns the due action after a member rejected a message for its tag and looked. If it is due to
+/// talk, still with another tag, and the sender was shown exactly what it is shown itself, no look
+/// of either can bring the two together, and it asks for a reset.
 pub fn on_refused(due: Due, is_same_tag: bool, is_same_view: bool) -> Due
     ensures { result ≡ due_when_refused due is_same_tag is_same_view }
 {

@@ -85,7 +85,7 @@ pub record Holds (c : ℕ) (base : World) (first : ℕ) (e : Exchange) : Type 0 
   pub owed : AllByRecursion (IsOwed c base e) e.owed
   pub answers : AllByRecursion (IsGiven c base e) e.answers
 
--- ---- what goes on being told
+-- ---- facts that stay true
 
 -- what stays, while an answer is awaited and no line is under way
 pub record Stays (c : ℕ) (base : World) (e f : Exchange) : Type 0 where
@@ -126,7 +126,7 @@ returned_on c base e f on serial (Done r) is = (
 given_on : (c : ℕ) (base : World) (e f : Exchange) → GoesOn c base e f → AllByRecursion (IsGiven c base e) e.answers → AllByRecursion (IsGiven c base f) e.answers
 given_on c base e f on all = all_weaker (IsGiven c base e) (IsGiven c base f) e.answers (λ g is. returned_on c base e f on g.serial (meaning_of g.answer) is) all
 
--- where nothing but the next lines of the client changes its trail
+-- if only the next lines of the client change its trail
 owed_on : (c : ℕ) (base : World) (e f : Exchange) → GoesOn c base e f → (e.under_way ≡ [] → trail_of c base f ≡ trail_of c base e) → AllByRecursion (IsOwed c base e) e.owed → AllByRecursion (IsOwed c base f) e.owed
 owed_on c base e f on same all = all_weaker (IsOwed c base e) (IsOwed c base f) e.owed
     (λ o is. (let less = is.0 in let sent = on.sent in omega (arith, less, sent), λ a. let carried = is.1 (on.was o.serial is.0 a) in carried_on c base e f o.reply (on.stays o.serial is.0 a carried.none) (same carried.none) carried)) all
@@ -163,7 +163,7 @@ one_more_given c base first e g is h =
       answers = all_more (IsGiven c base f) e.answers g (given_on c base e f on h.answers) (returned_on c base e f on g.serial (meaning_of g.answer) is);
     }
 
--- ---- what is in hand
+-- ---- the order in hand
 
 in_hand_first : (kept : Kept) (xs ys : List Session) → IsInHand kept (xs ++ ys) → IsInHand kept xs
 in_hand_first kept [] ys h = tt

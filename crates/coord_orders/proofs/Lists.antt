@@ -4,7 +4,7 @@ use Rattle.std.specs.List.{AllByRecursion}
 use Rattle.std.proofs.lemmas.List.{append_cancel_left}
 use Rattle.coord_orders.specs.Exchange.{Sent, without}
 
--- ---- what holds of each
+-- ---- predicates on each
 
 pub all_more : {A : Type 0} (P : A → Type 0) (xs : List A) (x : A) → AllByRecursion P xs → P x → AllByRecursion P (xs ++ (x ∷ []))
 all_more P [] x all here = (here, tt)
@@ -34,7 +34,7 @@ no_end : {A : Type 0} (us : List A) (v : A) (vs : List A) → us ++ (v ∷ vs) �
 no_end [] v vs e = cc
 no_end (u ∷ us) v vs e = cc
 
--- of the last one, which stands in the second part
+-- the last one, which is in the second part
 pub of_end : {A : Type 0} (P : A → Type 0) (us : List A) (v : A) (vs xs : List A) (s : A) → us ++ (v ∷ vs) ≡ xs ++ (s ∷ []) → AllByRecursion P (v ∷ vs) → P s
 of_end P [] v vs xs s e all = of_last P (v ∷ vs) xs s e all
 of_end P (u ∷ us) v vs [] s e all = let rest : us ++ (v ∷ vs) ≡ [] = cc in absurd (no_end us v vs rest)

@@ -54,7 +54,7 @@ apart c (Order d n x) h = grind (arith, nat_tests, h)
 apart c (Take p) h = refl
 apart c (Clear p) h = refl
 
--- ---- what is kept for the client
+-- ---- the kept reply of the client
 
 abbrev pub last_session : Option Session → List Session → Option Session
 last_session o [] = o
@@ -107,7 +107,7 @@ later_steps : (c : ℕ) (ss : List Step) (w : World) → AllByRecursion (λ o. w
 later_steps c [] w = tt
 later_steps c (s ∷ ss) w = all_both (λ o. w.count < o.reply.step) (order_of c w s) (orders_of c (next w s) ss) (later_step c w s) (above w.count (orders_of c (next w s) ss) (later_steps c ss (next w s)))
 
--- where the last of them is within the first k steps, all are
+-- if the last of them is within the first k steps, all are
 pub all_within : (c : ℕ) (w : World) (ss : List Step) (k : ℕ) (xs : List Session) (s : Session) → orders_of c w ss ≡ xs ++ (s ∷ []) → s.reply.step ≤ w.count + k → k ≤ length ss → orders_of c w (take k ss) ≡ orders_of c w ss
 all_within c w ss k xs s last within short =
     let behind : List Session = orders_of c (fold w (take k ss)) (drop k ss) in

@@ -50,7 +50,7 @@ begun last = record { book = opened (record { last = last; in_hand = None }); do
 -- the events
 pub data Event : Type 0 where
   Write : Command → Event  -- the client writes an order down
-  Send : Event  -- it sends what it has in hand, first or again
+  Send : Event  -- it sends its order in hand, for the first time or again
   Lose : (k : ℕ) → Event  -- the k-th line under way is lost, or the server turns it away unread
   Arrive : Event  -- the oldest line under way comes to the server, which judges it
   TurnAway : (serial : ℕ) → Refusal → Event  -- the server answers a line by a refusal that answers_up_to nothing, whatever became of the line
@@ -58,7 +58,7 @@ pub data Event : Type 0 where
   Settle : (n : ℕ) → Event  -- the first n steps are settled, if fewer were
   Release : (k : ℕ) → Event  -- the k-th reply that waits is given, if its step is settled
   Hear : (k : ℕ) → Event  -- the client hears the k-th answer that was ever given: late, again or for the first time
-  Crash : Event  -- the client crashes: what it keeps stays
+  Crash : Event  -- the client crashes: its book stays
   Fall : (n : ℕ) → Event  -- the server crashes: the first n steps are left, and all that are settled
 
 -- ---- the client

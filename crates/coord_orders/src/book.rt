@@ -22,25 +22,25 @@ pub struct Line {
     pub command: Command,
 }
 
-/// What a client keeps, and in memory which of its lines it awaits the answer of.
+/// The stored state of a client, and the line whose answer it awaits (in memory).
 #[derive(Clone, Copy, Debug, PartialEq, Eq)]
 pub struct OrderBook {
-    /// What has to be on the disk before a line is sent, and before the next order is written down.
+    /// What must be on disk before a line is sent, and before the next order is written down.
     pub kept: Kept,
     /// The serial number of the line that was sent last, if its answer may still come.
     pub awaited: Option<u64>,
 }
 
-/// What was heard, and the book after it.
+/// The answer that was heard, and the book after it.
 #[derive(Clone, Copy, Debug, PartialEq, Eq)]
 pub struct Heard {
     pub book: OrderBook,
-    /// None: the answer is of another line than the one that is awaited, and tells nothing.
+    /// None: the answer is of another line than the awaited one, and means nothing.
     pub meaning: Option<Meaning>,
 }
 
 impl OrderBook {
-    /// The book of a client that comes up with what it kept.
+    /// The book of a client that starts with its stored book.
     pub fn open(kept: Kept) -> Self
         ensures { result ≡ opened kept }
     {
@@ -50,8 +50,8 @@ impl OrderBook {
         }
     }
 
-    /// Writes an order down under the next number. None: there is one already, whose outcome is not
-    /// known.
+    /// Writes an order down under the next number. Returns None if there is one already, whose
+    /// outcome is not known.
     pub fn write_down(self, command: Command) -> Option<Self>
         ensures { result ≡ written self command }
     {
@@ -67,7 +67,7 @@ impl OrderBook {
         }
     }
 
-    /// The line that is to be sent, first or again. None: no order is in hand.
+    /// Returns the line to send, for the first time or again; None if no order is in hand.
     pub fn line(&self) -> Option<Line>
         requires { self.now.kept.last < u64.MAX }
         ensures { result ≡ line_of self.now.kept }
@@ -82,9 +82,9 @@ impl OrderBook {
         }
     }
 
-    /// The line goes out, under a serial number that no line of this client had before: from now on
-    /// the answer of this line alone counts. (Where each line has a connection of its own, the
-    /// connection is its number.)
+    /// The line is sent, under a serial number that no line of this client had before: from now on
+    /// only the answer to this line counts. (If each line has its own connection, the connection is
+    /// its number.)
     pub fn send(self, serial: u64) -> Self
         ensures { result ≡ sending self serial }
     {
@@ -121,7 +121,7 @@ impl OrderBook {
 }
 
 impl Kept {
-    /// What is kept once an answer meant this.
+    /// The book after an answer with this meaning.
     fn after(self, meaning: Meaning) -> Self
         requires { self.last < u64.MAX }
         ensures { result ≡ kept_after self meaning }

@@ -4,14 +4,14 @@ ghost use Rattle.coord_orders.specs.ExactlyOnce.{ExactlyOnce};
 ghost use Rattle.coord_orders.specs.FoundCount.{CountIsFound};
 ghost use Rattle.coord_orders.specs.WorkedExchange.{WorkedExchange};
 
-/// Over any world, and whatever is lost, late, heard again or cut off by a crash, of the client to
-/// what it keeps, of the server to some of its steps with all that are settled: the client's orders
+/// Over any world, and whatever is lost, late, heard again or cut off by a crash (of the client to
+/// its stored book, of the server to some of its steps with all settled ones): the client's orders
 /// in the trail are those that it noted as done, in turn, and at most the one in hand after them.
 pub fn exactly_once()
     ensures { ExactlyOnce }
 {}
 
-/// A probe with any number does no harm, and its refusal tells whether the number is the client's
+/// A probe with any number does no harm, and its refusal shows whether the number is the client's
 /// last one, the next one or another one.
 #[tactic(auto, using(crate::proofs::FoundCount::count_is_found))]
 pub fn count_is_found()

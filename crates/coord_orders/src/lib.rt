@@ -1,12 +1,13 @@
-//! One client's order book: what the client keeps of its orders, which line it sends next, and what
-//! an answer means.
+//! One client's order book: the record of its orders, the line to send next, and the meaning of an
+//! answer.
 //!
-//! `OrderBook` is the code; its results are the definitions of `specs/Book.antt`. Beside it stand a
-//! client, the lines and answers on their way, and the server's part as far as this client sees it
-//! (`specs/Exchange.antt`). The main theorem is the contract of [`laws::exactly_once`]: whatever is
-//! lost, late, heard again or cut off by a crash, the orders of the client that the server carried
-//! out are just those that the client noted as done, in turn, and at most the one in hand after
-//! them. [`laws::count_is_found`] says what the answers to a probe tell of a lost count.
+//! `OrderBook` is the code; its results are the definitions of `specs/Book.antt`.
+//! `specs/Exchange.antt` models a client, the lines and answers in transit, and the server's part
+//! as far as this client sees it. The main theorem is the contract of [`laws::exactly_once`]:
+//! whatever is lost, late, heard again or cut off by a crash, the orders of the client that the
+//! server carried out are exactly those that the client noted as done, in turn, and at most the one
+//! in hand after them. [`laws::count_is_found`] says how the answers to a probe locate a lost
+//! count.
 #![tactic(auto)]
 
 mod book;

@@ -1,4 +1,4 @@
-//! What an answer says of the order that it answers.
+//! The meaning of an answer for its order.
 
 ghost use Rattle.std.specs.Prelude.{◌≡◌};
 ghost use Rattle.coord_orders.specs.Meanings.{meaning_of, meaning_of_refusal};
@@ -6,29 +6,29 @@ ghost use Rattle.coord_orders.specs.Meanings.{meaning_of, meaning_of_refusal};
 use coord_types::{Refusal, Reply};
 
 /// The answer to the line of an order: a reply or a refusal. A fault, or the end of the connection,
-/// is none.
+/// is neither.
 #[derive(Clone, Copy, Debug, PartialEq, Eq)]
 pub enum Answer {
     Replied(Reply),
     Refused(Refusal),
 }
 
-/// What an answer says of its order.
+/// The meaning of an answer for its order.
 #[derive(Clone, Copy, Debug, PartialEq, Eq)]
 pub enum Meaning {
     /// The order was carried out, with this reply.
     Done(Reply),
     /// The order was not carried out, and its number is free.
     NotDone,
-    /// Nothing: the same line has to be sent again.
+    /// Nothing is known: the same line has to be sent again.
     SendAgain,
     /// The number is neither the client's last one nor the next, or it is the last one with another
-    /// order: this client's numbers are not those of the server.
+    /// order: the client and the server disagree on the client's numbers.
     CountLost,
 }
 
 impl Answer {
-    /// What it means.
+    /// Returns the meaning of an answer.
     pub fn meaning(self) -> Meaning
         ensures { result ≡ meaning_of self }
     {
@@ -39,7 +39,7 @@ impl Answer {
     }
 }
 
-/// What a refusal means. What no order is refused for tells nothing.
+/// The meaning of a refusal. One that no order gets means nothing.
 fn of_refusal(refusal: Refusal) -> Meaning
     ensures { result ≡ meaning_of_refusal refusal }
 {

@@ -31,7 +31,7 @@ use Rattle.coord_server.specs.InOrder.{AllInOrder, BearOut, GoOn, IsBorneOut, Re
 use Rattle.coord_server.specs.Lives.{all_steps}
 use Rattle.coord_serving_members.specs.Server.{AreReadIn, IsLookAt, NoMixOverAServer, returned_over}
 
--- ---- what was told, one answer after the other
+-- ---- answers, one after the other
 
 go_on_behind : (first now last : List Step) (returned later : List Returned) → GoOn first returned now → GoOn now later last → GoOn first (returned ++ later) last
 go_on_behind first now last [] [] is on = first_of_first first now last is on
@@ -97,7 +97,7 @@ grows first last (u ∷ returned) zero (suc q) t on there le = no_fewer u.after 
 grows first last (u ∷ returned) (suc p) zero t on there le = absurd (omega (arith, le))
 grows first last (u ∷ returned) (suc p) (suc q) t on there le = grows u.after last returned p q t on.1 there (omega (arith, le))
 
--- ---- what is shown
+-- ---- shown worlds
 
 -- a view is that of the world after the steps by which it was given
 shows : (world : World) (steps : List Step) (asked : Result Request LineFault) (view : Shown) → BearOut world steps asked (answer.Shown view) → (accepted : ℕ) × (view ≡ shown accepted (fold world steps))

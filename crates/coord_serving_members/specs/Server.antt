@@ -21,7 +21,7 @@ use Rattle.coord_server.specs.RunReturned.{AnswersFromOneHistory}
 use Rattle.coord_server.specs.ServerRun.{ServerRun}
 use Rattle.coord_server.specs.declared.server_end.ServerEnd.{ServerEnd}
 
--- all that was told over some connections, in the order in which it was written
+-- all answers over some connections, in the order in which they were written
 abbrev pub returned_over : (world : World) (first : List Step) (connections : List Connection) (last : List Step) → AllInOrder world first connections last → List Returned
 returned_over world first [] last is = []
 returned_over world first (c ∷ connections) last is = (is.1.returned ++ is.1.torn) ++ returned_over world is.0 connections last is.2
@@ -32,7 +32,8 @@ pub record IsLookAt (view : Shown) (node : ℕ) (row : Row) (party : List Entry)
   pub there : find (is_of node) view.nodes ≡ Some own
   pub read : IsReadOf view node own row party
 
--- Each look is read in a view among these answers, which stands at no place before that of the same member's look before. All else happens as it likes: files are lost, messages come late, again or never
+-- Each look reads a view among these answers, at or after the position of the same member's previous look. Everything
+-- else is arbitrary: files are lost, messages come late, repeatedly or never
 abbrev pub AreReadIn : List Returned → (ℕ → ℕ) → List member.Event → Type 0
 AreReadIn returned last [] = Unit {0}
 AreReadIn returned last (member.Look i row now ∷ looks) =

@@ -34,14 +34,14 @@ use Rattle.coord_starts.specs.Returned.{IsReplyTo, led, outcomes}
 use Rattle.coord_starts.proofs.Kept.{IsReplyIn, keeps_last, kept_is_given, replies}
 use Rattle.coord_starts.proofs.Turns.{counted, history-append, history-steps, led-append, led-steps, numbered, one_behind, one_more, outcomes-append, outcomes-steps, reply_to}
 
--- what holds of all items, where it says less
+-- a predicate on all items, in a weaker form
 weaker : {A : Type 0} (P Q : A → Type 0) (xs : List A) → ((x : A) → P x → Q x) → AllByRecursion P xs → AllByRecursion Q xs
 weaker P Q [] so all = tt
 weaker P Q (x ∷ xs) so all = (so x all.0, weaker P Q xs so all.1)
 
 -- ---- one start that serves
 
--- a run leaves the base as it is
+-- a run leaves the base unchanged
 pub base_stays : (events : List Event) (given : List Answer) (s : Machine) → AllByRecursion EventInRange events → IsConsistent s → Answered s events given → (run s events given).log.base ≡ s.log.base
 base_stays [] given s named is answered = refl
 base_stays (e ∷ events) [] s named is answered = refl
@@ -170,7 +170,7 @@ all_releases (s ∷ starts) w sound are =
 
 -- ---- from an empty world
 
--- where no reply is kept yet, each is that of a step
+-- if no reply is kept yet, each is that of a step
 of_step : (version : ℕ) (turns : List Turn) (r : Reply) → IsReplyIn (no_world version) turns r → IsReplyTo 0 (outcomes (no_world version) turns) r
 of_step version turns r (inl one) = reply_to turns (no_world version) r one
 of_step version turns r (inr kept) = let none : get (no_world version).sessions kept.0 ≡ None = get-empty nat_cmp_total kept.0 in let there = kept.1.1.0 in absurd cc

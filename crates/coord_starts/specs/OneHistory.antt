@@ -20,10 +20,10 @@ pub record IsHistoryOfStarts (w : World) (starts : List Start) : Type 0 where
   -- The numbers have no gap: the step at each place is answered with the number of that place, from 1 on.
   pub numbered : (i : ℕ) (o : StepOutcome) → slice_get (outcomes w (turns_of w starts)) i ≡ Some o → o.reply.step ≡ i + 1
   pub counted : (left_by w starts).count ≡ length (steps_of (turns_of w starts))
-  -- No number that was told ever names another step: each reply that was collected in any start is that of the step
-  -- which has its number in the end.
+  -- A returned number never names another step: each reply that was collected in any start is that of the step which
+  -- has its number in the end.
   pub replied : AllByRecursion (IsReplyTo 0 (outcomes w (turns_of w starts))) (replied_of w starts)
-  -- All that was released in all starts stands in what the kept steps give out, in order, and no item of it twice.
+  -- The releases of all starts are a sublist of the outputs of the kept steps, in order, no item twice.
   pub released : IsPartOf (released_first (released_of w starts)) (releases_of (outcomes w (turns_of w starts)))
   -- The reply that is kept for a client is that of its last kept order.
   pub kept : (c : ℕ) → KeepsLast w (turns_of w starts) c

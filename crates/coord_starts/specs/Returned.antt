@@ -28,7 +28,7 @@ outcomes w [] = []
 outcomes w (Takes s ∷ turns) = record { reply = reply w s; outputs = outputs w s } ∷ outcomes (next w s) turns
 outcomes w (Raises ∷ turns) = outcomes (raised w) turns
 
--- The reply is that of the step with its number, where so many steps came before these.
+-- The reply is that of the step with its number, if this many steps came before these.
 pub record IsReplyTo (count : ℕ) (given : List StepOutcome) (r : Reply) : Type 0 where
   pub before : List StepOutcome
   pub outcome : StepOutcome
@@ -45,8 +45,8 @@ pub record IsLastKeptOrder (w : World) (turns : List Turn) (c : ℕ) (o : Sessio
   pub last : AllByRecursion (IsNotBy c) (steps_of rest)
   pub replied : o.reply ≡ reply (led w before) (Order c o.number o.command)
 
--- The world after the turns keeps for a client what its last order left, or what was kept before where there is no order
--- of the client.
+-- The world after the turns keeps for a client the result of its last order, or the reply kept before if there is no
+-- order of the client.
 abbrev pub KeepsLast : World → List Turn → ℕ → Type 0
 KeepsLast w turns c =
     ((o : Session) × ((get (led w turns).sessions c ≡ Some o) × IsLastKeptOrder w turns c o))

@@ -26,8 +26,8 @@ reported_as (kind.Store fault) = fault
 abbrev pub idle_start : Start
 idle_start = Serves [] [] 0
 
--- The start that a task was, by what came of it. A store of version 2 is raised by doing nothing. After a failure of the
--- device it is raised or not.
+-- The start that a task was, by its result. Migrating a store of version 2 does nothing. After a failure of the
+-- device it is migrated or not.
 abbrev pub IsOf : World → Task → Outcome → Start → Type 0
 IsOf w (Serve events) (Served trace) start =
     (n : ℕ) × (start ≡ Serves events.items trace.answers.items n) × (trace.released.items ≡ (at_end w events.items trace.answers.items).released)

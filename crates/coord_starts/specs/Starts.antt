@@ -19,7 +19,7 @@ use Rattle.coord_following.specs.Histories.{Turn, Takes, IsTurn, Raises as raisi
 use Rattle.coord_starts.specs.Returned.{led}
 
 pub data Start : Type 0 where
-  -- a ledger is asked these events and answers so, and then so many steps of its trail are kept
+  -- a ledger receives these events and gives these answers, and then this many steps of its trail are kept
   Serves : List Event → List Answer → ℕ → Start
   -- the store is raised to version 2
   Raises : Start
@@ -28,7 +28,7 @@ pub data Start : Type 0 where
 abbrev pub at_end : World → List Event → List Answer → Machine
 at_end w events given = run (adopted w) events given
 
--- each event has an answer that it may have, and a crash may then keep so many steps
+-- each event has a possible answer, and a crash may then keep this many steps
 pub record MayServe (w : World) (events : List Event) (given : List Answer) (n : ℕ) : Type 0 where
   pub named : AllByRecursion EventInRange events
   pub answered : Answered (adopted w) events given
@@ -59,7 +59,7 @@ abbrev pub left_by : World → List Start → World
 left_by w [] = w
 left_by w (s ∷ starts) = left_by (led w (turns_in w s)) starts
 
--- ---- what was told
+-- ---- replies
 
 abbrev pub replied_in : World → Start → List Reply
 replied_in w (Serves events given n) = (at_end w events given).replied

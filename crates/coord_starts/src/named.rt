@@ -1,11 +1,11 @@
-//! What the types of events keep.
+//! The invariants of the types of events.
 
 ghost use Rattle.std.specs.List.{AllByRecursion};
 ghost use Rattle.coord_ledger.specs.machine.Consistent.{EventInRange};
 
 use coord_ledger::Event;
 
-/// Does nothing: its contract is what the type of an event keeps.
+/// Does nothing: its contract is the invariant of an event's type.
 fn lemma_named(event: &Event)
     ensures { EventInRange event.now }
 {
@@ -14,7 +14,7 @@ fn lemma_named(event: &Event)
     }
 }
 
-/// Does nothing: its contract is what the types of events keep.
+/// Does nothing: its contract is the invariant of the types of events.
 pub fn lemma_all_named(events: &[Event])
     ensures { AllByRecursion EventInRange events.now }
 {

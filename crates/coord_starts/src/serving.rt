@@ -1,4 +1,4 @@
-//! A start that serves: a ledger over the opened store is asked, and then the power is cut.
+//! A start that serves: a ledger over the opened store receives events, and then the power is cut.
 
 ghost use Rattle.std.specs.Prelude.{◌≡◌, true, IfErr, IfOk, None, Some};
 ghost use Rattle.coord_disk.specs.Model.Calls.{Crashes};
@@ -12,7 +12,7 @@ use coord_ledger::{Event, Ledger, RunFaultKind, Trace, run_events};
 use coord_store::{Store, StoreFault};
 use std::alloc::Global;
 
-/// Why a run of events ended early, as a store tells it.
+/// Why a run of events ended early, as the store reports it.
 fn fault_of(kind: RunFaultKind) -> StoreFault
     ensures { result ≡ reported_as kind }
 {
@@ -34,7 +34,7 @@ fn cut<D: CrashDisk>(ledger: Ledger<D>) -> D
     }
 }
 
-/// Asks a ledger over a store these events, and cuts the power after them.
+/// Gives a ledger over a store these events, and cuts the power after them.
 pub fn serve<D: CrashDisk>(
     alloc: Global,
     store: Store<D>,

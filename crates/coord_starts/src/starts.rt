@@ -15,27 +15,27 @@ use coord_ledger::{Event, Trace};
 use coord_store::{Store, StoreFault};
 use std::alloc::Global;
 
-/// What a store is opened for.
+/// The purpose for which a store is opened.
 #[derive(Drop)]
 pub enum Task {
-    /// A ledger over it is asked these events.
+    /// A ledger over it receives these events.
     Serve(Vec<Event>),
-    /// The store is raised to version 2.
+    /// The store is migrated to version 2.
     Migrate,
 }
 
-/// What came of a start.
+/// The result of a start.
 #[derive(Drop)]
 pub enum Outcome {
-    /// The answers to the events, and all that was released.
+    /// The answers to the events, and all releases.
     Served(Trace),
     /// The store has version 2.
     Raised,
-    /// The store was not raised; after a failure of the device it is raised or not.
+    /// The store was not migrated; after a failure of the device it may have been.
     Refused(StoreFault),
 }
 
-/// Raises an opened store, and cuts the power after that.
+/// Migrates an opened store, and then cuts the power.
 fn migrate<D: CrashDisk>(mut store: Store<D>) -> (Outcome, D)
     requires going { store.torn ≡ None }
     ensures once { D.model.keeps_model store.disk ≡ true →
@@ -52,7 +52,7 @@ fn migrate<D: CrashDisk>(mut store: Store<D>) -> (Outcome, D)
     (outcome, store.into_disk().crash())
 }
 
-/// Starts the store on a disk once, and cuts the power after that.
+/// Starts the store on a disk once, and then cuts the power.
 fn start<D: CrashDisk>(alloc: Global, disk: D, task: &Task) -> Result<(Outcome, D), (StoreFault, D)>
     ensures once { (w : Numbered) → D.model.keeps_model disk ≡ true →
         Recovered (D.model.present disk).read w → IfOk result (λ r.
@@ -76,11 +76,11 @@ fn start<D: CrashDisk>(alloc: Global, disk: D, task: &Task) -> Result<(Outcome, 
     }
 }
 
-/// Makes a store on an empty disk, and starts it for each task, one start after the other. Behind
+/// Makes a store on an empty disk, and starts it for each task, one start after the other. After
 /// each start the power is cut: the next one opens what the crash has left.
 ///
-/// The main theorem: all starts together are one history (`IsHistoryOfStarts`), and the disk gives the
-/// world after it. A fault ends the starts: the store was not made, or there was no memory, or the
+/// The main theorem: all starts together are one history (`IsHistoryOfStarts`), and the disk holds
+/// the world after it. A fault ends the starts: the store was not made, memory ran out, or the
 /// device failed.
 pub fn run_starts<D: CrashDisk>(
     alloc: Global,

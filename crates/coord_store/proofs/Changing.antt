@@ -1,4 +1,4 @@
--- What was written of a commit or of a migration, as the store tells it.
+-- The bytes written by a commit or a migration, as the store reports them.
 use Rattle.std.proofs.Common.{◌≡◌, ◌≢◌, ◌⊎◌, ◌↔◌, ◌+◌, ◌≤◌, ◌<◌, ◌^◌, inr, ⊎_elim, ℕ, List, ◌++◌, length, true, false, None, Option, is_some, Result, Ok, Err, IfErr, IsErrOf, refl, sym, subst, ap, ◌∙◌, arith}
 use Rattle.coord_disk.specs.Model.DiskModel.{DiskModel, IsModel}
 use Rattle.coord_disk.specs.Model.Moments.{LeavesOnly, Runs}
@@ -66,7 +66,7 @@ module _ {D : Type 0} (m : DiskModel D) where
   pub none_run : (disk : D) (n : ℕ) → Runs m disk disk n 0
   none_run disk n = record { model = refl; failures = omega arith; calls = λ _. omega arith }
 
-  -- the body of a batch fits where the contract's own body does
+  -- the body of a batch fits if the contract's own body does
   pub fits_in : (journal : Journal D) (w : World) (torn : Option World) (steps : List Step) (body : List ℕ) (half : ℕ) → (m.keeps_model (disk_of journal) ≡ true → torn ≡ None → Holds m journal w) → Takes w body steps → FitsIn m half steps (kept journal w torn)
       → HasRoomFor journal (length body) × (half_of journal ≡ half)
   fits_in journal w torn steps body half holds takes fits =
@@ -80,7 +80,7 @@ module _ {D : Type 0} (m : DiskModel D) where
   pub returned_again_refused : {T U E F : Type 0} (s n : Kept D) (next : World) (a : E) (b : F) (e : E) (f : F) → (f ≡ b → e ≡ a) → (f ≢ b → e ≢ a) → Changes {T = T} m next a s n (Err e) → Changes {T = U} m next b s n (Err f)
   returned_again_refused s n next a b e f device other changes = grind (arith, err_is)
 
--- What comes of writing another world in place of a store's, by its answer: `v` and `now` are what the store keeps then.
+-- The result of writing another world in place of a store's, by its answer: the store then keeps `v` and `now`.
 module _ {D T : Type 0} (m : DiskModel D) (old new : Journal D) (w next v : World) (torn now : Option World) (none : torn ≡ None) (holds : m.keeps_model (disk_of old) ≡ true → torn ≡ None → Holds m old w) where
   pub changed : (r : Result T CommitFault) → half_size_of new ≡ half_size_of old → Concludes next w v torn now r → (Holds m old w → Follows m w next old new r) → (Holds m old w → Stays m w old new r) → Changes m next Device (kept old w torn) (kept new v now) (with_world w r)
   changed (Ok x) sized keeps follows stays = record {
@@ -113,7 +113,7 @@ module _ {D T : Type 0} (m : DiskModel D) (old new : Journal D) (w next v : Worl
       (λ device. rw (keeps.torn (ap Err device)) (kept_torn m laws (disk_of old) new w next legal (ends.device (ap Err device)) (λ k. (follows (holds (sym ends.runs.model ∙ k) none)).any_moment)))
       ends.fault)
 
-  -- where the device did not fail and nothing was written
+  -- if the device did not fail and nothing was written
   pub untouched : (r : Result T CommitFault) → Concludes next w v torn now r → IfErr r (λ fault. fault ≢ Device → new ≡ old) → IfErr (with_world w r) (λ fault. fault ≢ Device → kept new v now ≡ kept old w torn)
   untouched (Ok x) keeps same = tt
   untouched (Err fault) keeps same = λ other. ap (λ j. kept j v now) (same other) ∙ ap (λ y. kept old y now) keeps.same_world ∙ ap (λ o. kept old w o) (keeps.unchanged other)

@@ -54,7 +54,7 @@ recovered_is_one bytes v w here there =
     let same : here.content ≡ there.content = text_same bytes here.content there.content here.text there.text in
     one_given there.content v w (rw (sym same) here.gives) there.gives
 
--- ---- what is not refused
+-- ---- no refusal
 
 -- a legal world has no fault
 legal_unfaulted : (w : World) (v : Violation) → InRange w → Legal w → first (faults w) ≡ Some v → ⊥
@@ -120,7 +120,7 @@ recovered_is_opened bytes w fault recovered (inr (inl by_journal)) =
     rw by_journal.1 (journal_unrefused bytes recovered.content by_journal.0 recovered.text by_journal.2)
 recovered_is_opened bytes w fault recovered (inr (inr by_text)) = absurd (text_unrefused bytes w fault recovered by_text)
 
--- ---- what is refused, told of the whole device
+-- ---- refusals, stated for the whole device
 
 -- what a journal holds
 pub content_refused : (bytes : List ℕ) (content : Content) (fault : StoreFault) → IsText content bytes → (fault ≡ OutOfMemory) ⊎ RefusesContent content fault → RefusesOpen bytes fault

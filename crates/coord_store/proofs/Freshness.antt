@@ -40,7 +40,7 @@ pub split_at : {A : Type 0} (xs : List A) (i : ℕ) (x : A) → i < length xs �
 split_at xs i x below is =
     sym (take-append-drop i xs) ∙ ap (λ l. take i xs ++ l) (drop-cons xs i x below ∙ ap (λ y. y ∷ drop (suc i) xs) (sym is) ∙ ap (λ n. x ∷ drop n xs) (sym (add-one i)))
 
--- what is left of it from that element on
+-- the rest of it from that element on
 pub drop_at : {A : Type 0} (xs : List A) (i : ℕ) (x : A) → i < length xs → x ≡ get_or xs i x → drop i xs ≡ x ∷ drop (i + 1) xs
 drop_at xs i x below is = drop-cons xs i x below ∙ ap (λ y. y ∷ drop (suc i) xs) (sym is) ∙ ap (λ n. x ∷ drop n xs) (sym (add-one i))
 
@@ -66,12 +66,12 @@ first_number (s ∷ steps) settled w some all = fresh_count w settled s all.0
 carries_rightly : (w settled : World) (s : Step) → InRange w → IsFresh w settled s → CarriesRightly w.version s
 carries_rightly w settled s h1 h2 = grind (arith, carried_within)
 
--- what holds of each element, and of one more
+-- a predicate on each element, and on one more
 pub all-push : {A : Type 0} (P : A → Type 0) (xs : List A) (x : A) → AllByRecursion P xs → P x → AllByRecursion P (xs ++ x ∷ [])
 all-push P [] x all last = (last, tt)
 all-push P (y ∷ xs) x all last = (all.0, all-push P xs x all.1 last)
 
--- what is numbered and carries no distance where it may not can be written
+-- a step that is numbered and carries no distance in version 1 can be written
 writable : (version : ℕ) (s : Step) → IsNumbered s → CarriesRightly version s → IsWritable version s
 writable version s h1 h2 = grind arith
 
@@ -95,7 +95,8 @@ fresh_is_out w settled (Clear p) fresh = of_lane (lane w p.from p.to p.inc) (lan
     of_lane None k e = grind (arith, nat_tests, e)
     of_lane (Some l) k e = grind (arith, nat_tests, e)
 
--- where what a step names is out, a step that a world takes over itself it takes over the settled one
+-- if the packet that a step names is released, a step that a world accepts over itself it accepts over the settled
+-- one
 pub fresh_over : (w settled : World) (s : Step) → has_given_out settled s ≡ true → IsFresh w w s → IsFresh w settled s
 fresh_over w settled (Order c n x) out fresh = fresh
 fresh_over w settled (Take p) out fresh = of_lane (lane w p.from p.to p.inc) (lane w p.from p.to p.inc) (lane settled p.from p.to p.inc) out fresh
@@ -111,7 +112,7 @@ fresh_over w settled (Clear p) out fresh = of_lane (lane w p.from p.to p.inc) (l
     of_lane None j k out e = e
     of_lane (Some l) j k out e = grind (arith, nat_tests, out, e)
 
--- each of the first steps names what is out
+-- each of the first steps names a released packet
 pub out_below : (steps : List Step) (settled : World) (i : ℕ) (s : Step) → i < how_many_out settled steps → s ≡ get_or steps i s → has_given_out settled s ≡ true
 out_below [] settled i s below is = absurd (omega (arith, below))
 out_below (t ∷ steps) settled zero s below is = by_test (has_given_out settled t) (λ b. zero < cond b (suc (how_many_out settled steps)) zero → has_given_out settled s ≡ true)
@@ -119,7 +120,7 @@ out_below (t ∷ steps) settled zero s below is = by_test (has_given_out settled
 out_below (t ∷ steps) settled (suc i) s below is = by_test (has_given_out settled t) (λ b. suc i < cond b (suc (how_many_out settled steps)) zero → has_given_out settled s ≡ true)
     (λ _ more. out_below steps settled i s (omega (arith, more)) is) (λ _ none. absurd (omega (arith, none))) below
 
--- the step after those that name what is out does not
+-- the step after those that name a released packet does not
 pub out_further : (steps : List Step) (settled : World) (i : ℕ) (s : Step) → i ≤ how_many_out settled steps → i < length steps → s ≡ get_or steps i s → has_given_out settled s ≡ true → i < how_many_out settled steps
 out_further [] settled i s within below is out = absurd (omega (arith, below))
 out_further (t ∷ steps) settled zero s within below is out = by_test (has_given_out settled t) (λ b. has_given_out settled t ≡ b → zero < cond b (suc (how_many_out settled steps)) zero)
@@ -170,7 +171,7 @@ pub length-bodies : (xs : List (Bor (List ℕ))) → length (bodies xs) ≡ leng
 length-bodies [] = refl
 length-bodies (x ∷ xs) = ap suc (length-bodies xs)
 
--- an element that is there is the same whatever stands for one that is not
+-- an existing element is the same whatever the default is
 same_or : {A : Type 0} (xs : List A) (i : ℕ) (d e : A) → i < length xs → get_or xs i d ≡ get_or xs i e
 same_or [] i d e below = absurd (omega (arith, below))
 same_or (x ∷ xs) zero d e below = refl
@@ -183,7 +184,7 @@ module _ (batches : List (Bor (List ℕ))) (i : ℕ) (none : Bor (List ℕ)) (be
   is : here ≡ get_or batches i here
   is = same_or batches i none here below
 
-  -- the batch at this place is reached, and where it is refused, the batches are
+  -- the batch at this place is reached, and if it is refused, the batches are
   pub refused_here : (fault : StoreFault) → RefusesBatch w i (get_or batches i none).now fault → RefusesReplay start (bodies batches) fault
   refused_here fault refuses = record {
     number = i;

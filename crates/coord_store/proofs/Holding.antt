@@ -53,7 +53,7 @@ as_long w one other steps spells too = ap length (spells.spelled ∙ sym too.spe
 pub none_of : (o : Option World) (b : Bool) → b ≡ is_some o → b ≡ false → o ≡ None
 none_of o b is clear = grind (arith, nat_tests, is, clear)
 
--- what follows where a call is refused for another reason than its device
+-- the consequences of a call that is refused for another reason than its device
 pub on_refusal : {T P Q : Type 0} (r : Result T CommitFault) → (P → Q) → IfErr r (λ fault. fault ≢ Device → P) → IfErr r (λ fault. fault ≢ Device → Q)
 on_refusal (Ok x) implies refused = tt
 on_refusal (Err fault) implies refused = λ other. implies (refused other)
@@ -111,14 +111,14 @@ module _ {D : Type 0} (m : DiskModel D) where
   stays laws s keeps images none =
       started m laws s.disk (IsOnlyWorld s.world) keeps (λ image is. ⊎_elim (λ gives. gives) (λ torn. let no : ⊥ = cc (none, torn.1) in absurd no) (images image is))
 
-  -- where nothing was written
+  -- if nothing was written
   pub unwritten : IsModel m → (old new : Journal D) (w : World) → Holds m old w → new ≡ old → LeavesOnly m (disk_of old) (disk_of new) (IsOnlyWorld w) × Holds m new w
   unwritten laws old new w holds same = rw same (begun laws old w holds, holds)
 
   pub stays_by : {T : Type 0} → IsModel m → (old new : Journal D) (w : World) (fault : CommitFault) → Holds m old w → (fault ≢ Device → new ≡ old) → Stays {T = T} m w old new (Err fault)
   stays_by laws old new w fault holds same = record { any_moment = λ other. (unwritten laws old new w holds (same other)).0; held = λ other. (unwritten laws old new w holds (same other)).1 }
 
-  -- what is done in at most so many calls is done in at most more
+  -- a bound on the number of calls may be raised
   pub ends_within : {T : Type 0} (n k : ℕ) (old new : Journal D) (r : Result T CommitFault) → n ≤ k → Ends m n old new r → Ends m k old new r
   ends_within n k old new r le ends = grind arith
 

@@ -1,4 +1,4 @@
--- What is found in a table after a change of it.
+-- Look-ups in a table after a change of it.
 use Rattle.std.proofs.Common.{◌≡◌, ℕ, true, Some, None, IsSome, cond, eqb, arith}
 use Rattle.std.specs.Ordering.{eq_by_cmp, nat_cmp}
 use Rattle.std.specs.Cmp.{nat_cmp_total}

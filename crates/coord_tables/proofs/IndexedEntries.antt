@@ -1,4 +1,4 @@
--- A table of places is that of a list, and stays so where a value is put in place of another.
+-- A table of places is that of a list, and stays so if a value is replaced by another.
 use Rattle.std.proofs.Common.{◌≡◌, ◌≢◌, ℕ, zero, suc, ◌+◌, ◌<◌, true, false, List, [], ◌∷◌, ◌++◌, Option, Some, None, length, take, set, slice_get, slice_index, cond, eqb, refl, sym, ap, ◌∙◌, arith, IsSome, get_or-set_same, get_or-set_other}
 use Rattle.std.proofs.lemmas.Bool.Decides.{nat_tests}
 use Rattle.std.proofs.lemmas.List.{length-set, take_more}
@@ -23,7 +23,7 @@ Entries X = List ((ℕ × ℕ) × X)
 pair_within : (u v : ℕ) → IsNode u → IsNode v → pair_place u v < 4096
 pair_within u v p q = omega (arith, p.0, p.1, q.0, q.1)
 
--- pairs of nodes have places of their own
+-- different pairs of nodes have different places
 first_same : (u v a b : ℕ) → IsNode u → IsNode v → IsNode a → IsNode b → pair_place u v ≡ pair_place a b → u ≡ a
 first_same u v a b p q r s e = omega (arith, p.0, p.1, q.0, q.1, r.0, r.1, s.0, s.1, e)
 
@@ -76,7 +76,7 @@ none_noted (suc n) is = cc
 
 module _ {X : Type 0} (es : Entries X) (places : List ℕ) (indexed : IsIndexed es places) where
   module _ (u v : ℕ) (is_u : IsNode u) (is_v : IsNode v) where
-    -- what is noted of a pair
+    -- the entry of a pair
     pub at_noted : (i : ℕ) → noted_place (slice_index places (pair_place u v)) ≡ Some i → HasKeyAt es i (u, v)
     at_noted i is = indexed.index.there u v i is_u is_v (noted _ i is)
 
@@ -134,6 +134,6 @@ module _ {X : Type 0} (es : Entries X) (places : List ℕ) (indexed : IsIndexed 
     pub is_put : from_sorted {o = pair_cmp_total} (set es i (k, x)) ≡ insert (from_sorted es) k x
     is_put = ap from_sorted put_there ∙ from_sorted-put pair_cmp_total es k x indexed.sorted
 
--- what is there isn't absent
+-- a present entry isn't absent
 pub not_absent : {A X : Type 0} (o : Option X) → o ≡ None → IsSome o → A
 not_absent o none some = cc

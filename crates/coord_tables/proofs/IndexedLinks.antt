@@ -1,4 +1,4 @@
--- Links in ascending order with a table of their places: what is found there, and that they stay so through each change.
+-- Links in ascending order with a table of their places: look-ups, and the invariant through each change.
 use Rattle.std.proofs.Common.{◌≡◌, ℕ, zero, suc, ◌<◌, ◌≤◌, ◌-◌, Bool, true, false, ◌&&◌, not, List, [], ◌∷◌, ◌++◌, Option, Some, None, map, length, cond, eqb, refl, sym, ap, ◌∙◌, subst, arith, is_some, nat_lt, set, get_or, slice_get, slice_index, take, drop, replicate}
 use Rattle.std.proofs.lemmas.Bool.Decides.{nat_tests}
 use Rattle.std.proofs.lemmas.List.{drop-map, length-set, map-append, map-set, take-map}
@@ -27,7 +27,7 @@ use Rattle.coord_tables.proofs.LinkLanes.{lane_none_is, same_links, turned_of}
 use Rattle.coord_tables.proofs.PutAtPlace.{put_between}
 use Rattle.coord_tables.proofs.SortedEntries.{below_each, found, from_sorted-out, from_sorted-put, sorted-out, sorted-put}
 
--- ---- what is found
+-- ---- look-ups
 
 -- a row's lanes
 abbrev pub lanes_in : LinkRow → Lanes
@@ -72,7 +72,7 @@ module _ {t : Links} {rows : List LinkRow} {places : List ℕ} {x y : ℕ} where
   lane_absent l = ap (λ s. option_map (toward x y) (get s (ends x y))) (sym l.stand)
       ∙ ap (option_map (toward x y)) (nothing_noted (map link_entry rows) places (indexed rows places l.are) (ends x y).0 (ends x y).1 l.first l.second l.noted)
 
-  -- where no lane is there, a change of it changes nothing
+  -- a change of an absent lane changes nothing
   pub none_changed : LookedUp t rows places x y None → (f : Lane → Lane) → t ≡ change_lane t x y f
   none_changed l f = lane_none_is t (still_turned l) x y f (lane_absent l)
 
@@ -130,7 +130,7 @@ module _ (t : Links) (turned : Turned t) (x y : ℕ) (f : Lane → Lane) where
       untouched k None is apart = refl
       untouched k (Some l) is apart = grind arith
 
--- what holds of each row holds of each where one that has it is put
+-- a predicate on each row holds for each after a row with it is put
 all_set : (P : LinkRow → Type 0) (rows : List LinkRow) (i : ℕ) (r : LinkRow) → P r → AllByRecursion P rows → AllByRecursion P (set rows i r)
 all_set P [] i r one all = tt
 all_set P (x ∷ rows) zero r one all = (one, all.1)
@@ -179,7 +179,7 @@ module _ {t : Links} {rows : List LinkRow} {places : List ℕ} {x y i : ℕ} (l 
 
 -- ---- a link more
 
--- no link where no lane is
+-- no link without a lane
 pub no_link : (t : Links) (x y : ℕ) → lane_at t x y ≡ None → get t (ends x y) ≡ None
 unfolding lane_at
 no_link t x y none = grind arith
@@ -222,7 +222,7 @@ all_remove P (x ∷ rows) (suc i) all = (all.0, all_remove P rows i all.1)
 abbrev other_than : ℕ × ℕ → ℕ × ℕ → Bool
 other_than k q = not (eq_by_cmp pair_cmp k q)
 
--- what is below all isn't among them
+-- a key below all isn't among them
 all_others : (k : ℕ × ℕ) (es : List ((ℕ × ℕ) × Lanes)) → below_all pair_cmp k es ≡ true → es ≡ where_key pair_cmp (other_than k) es
 all_others k [] below = refl
 all_others k (e ∷ es) below =

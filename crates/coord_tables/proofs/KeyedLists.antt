@@ -1,4 +1,4 @@
--- Lists whose elements have keys, and what is found in them.
+-- Lists whose elements have keys, and look-ups in them.
 use Rattle.std.proofs.Common.{◌≡◌, true, false, ◌&&◌, List, [], ◌∷◌, Option, Some, None, map, cond, refl, ap, ◌∙◌, subst, Ordering, arith}
 use Rattle.std.specs.Ordering.{eq_by_cmp, is_eq, is_lt}
 use Rattle.std.specs.Cmp.{IsTotalOrder, tied_itself}
@@ -7,7 +7,7 @@ use Rattle.std.specs.FinMap.Entries.{below_all, find, is_sorted}
 use Rattle.coord_types.proofs.Tables.{option_map}
 use Rattle.coord_tables.proofs.Cases.{both, by_test}
 
--- what holds of each element holds of each in a weaker form
+-- a predicate on each element holds for each in a weaker form
 pub all_weaker : {A : Type 0} (P Q : A → Type 0) → ((x : A) → P x → Q x) → (xs : List A) → AllByRecursion P xs → AllByRecursion Q xs
 all_weaker P Q weaker [] all = tt
 all_weaker P Q weaker (x ∷ xs) all = (weaker x all.0, all_weaker P Q weaker xs all.1)
@@ -33,7 +33,7 @@ module _ {K A : Type 0} (R : K → K → Ordering) (key : A → K) where
   find-values value q (x ∷ xs) = grind (arith, find-values value q xs)
 
   module _ (same : (p q : K) → eq_by_cmp R p q ≡ true → p ≡ q) (P : A → Type 0) where
-    -- what is found is an element, at its key
+    -- a found value is an element, at its key
     pub found : (q : K) (xs : List A) (x : A) → AllByRecursion P xs → find R q (keyed xs) ≡ Some x → P x × (q ≡ key x)
     found q [] x all is = cc
     found q (y ∷ ys) x all is =
@@ -42,17 +42,17 @@ module _ {K A : Type 0} (R : K → K → Ordering) (key : A → K) where
           | false ↦ λ t e. found q ys x all.1 e
         ] refl is
 
--- what holds of the value of each element that is found
+-- a predicate on the value of each found element
 pub each_value : {A X : Type 0} (value : A → X) (P : X → Type 0) (o : Option A) → ((x : A) → o ≡ Some x → P (value x)) → (y : X) → option_map value o ≡ Some y → P y
 each_value value P None each y is = cc
 each_value value P (Some x) each y is = let same : value x ≡ y = cc in subst P same (each x refl)
 
--- what holds of the values of a function holds of each of a list that it changed
+-- a predicate on the values of a function holds for each of a list that it changed
 pub all_mapped : {A X : Type 0} (f : A → X) (P : X → Type 0) (xs : List A) → AllByRecursion (λ x. P (f x)) xs → AllByRecursion P (map f xs)
 all_mapped f P [] all = tt
 all_mapped f P (x ∷ xs) all = (all.0, all_mapped f P xs all.1)
 
--- what is below another doesn't tie with it
+-- a key below another doesn't tie with it
 pub not_tied : (r : Ordering) → is_lt r ≡ true → is_eq r ≡ false
 not_tied r h1 = grind arith
 
@@ -64,7 +64,7 @@ module _ {K X : Type 0} {R : K → K → Ordering} (o : IsTotalOrder R) (same : 
       let parts = both (is_lt (R k e.0)) (below_all R k es) below in
       ap (λ t. cond t (Some e.1) (find R k es)) (not_tied (R k e.0) parts.0) ∙ find-below k es parts.1
 
-  -- what holds of all that is found in a list in order holds of each entry
+  -- a predicate on all values found in a list in order holds for each entry
   pub each_entry : (P : K × X → Type 0) (es : List (K × X)) → is_sorted R es ≡ true → ((k : K) (x : X) → find R k es ≡ Some x → P (k, x)) → AllByRecursion P es
   each_entry P [] sorted each = tt
   each_entry P (e ∷ es) sorted each =

@@ -1,4 +1,4 @@
--- Which lane stands between two nodes, and what is left of it after each change of the links.
+-- The lane between two nodes, after each change of the links.
 use Rattle.std.proofs.Common.{◌≡◌, ◌≢◌, ℕ, suc, ◌+◌, ◌<◌, ◌≤◌, Bool, true, false, ◌&&◌, ◌||◌, List, [], ◌∷◌, Option, Some, None, map, length, cond, eqb, refl, sym, ap, ◌∙◌, subst, arith, is_some, nat_lt, drop, slice_get}
 use Rattle.std.proofs.lemmas.Bool.Decides.{nat_tests}
 use Rattle.std.proofs.lemmas.List.{length-map}
@@ -24,7 +24,7 @@ use Rattle.coord_tables.proofs.SortedEntries.{from_sorted-put, is_true, sorted-p
 pub antisymmetric : IsAntisymmetric pair_cmp
 antisymmetric x y e = same_pair x y (ap is_eq e)
 
--- links are the same where the same stands at each pair
+-- links are the same if they have the same at each pair
 pub same_links : (s t : Links) → ((k : ℕ × ℕ) → get s k ≡ get t k) → s ≡ t
 same_links s t same = same_table antisymmetric s t same
 
@@ -135,7 +135,7 @@ module _ (t : Links) where
   pub in_order-sorted : is_sorted pair_cmp (lanes_in_order t) ≡ true
   in_order-sorted = is_true _ (with_lanes empty (entries t)).sorted
 
-  -- the lane between two nodes is what is found at them among the lanes in order
+  -- the lane between two nodes is the one found at them among the lanes in order
   pub in_order-found : Turned t → (x y : ℕ) → find pair_cmp (x, y) (lanes_in_order t) ≡ lane_at t x y
   unfolding lane_at
   in_order-found turned x y = sym (get-entries (with_lanes empty (entries t)) (x, y)) ∙ with-found (entries t) empty (turned_entries turned) sorted_entries x y
@@ -207,9 +207,9 @@ turned_of rows is a b there = in_rows rows is.turned (find pair_cmp (a, b) (map 
 pub links-len : (rows : List LinkRow) → LinksRise rows → len (links_of rows) ≡ length rows
 links-len rows is = len-from_sorted pair_cmp_total (map link_entry rows) is.rise ∙ length-map rows link_entry
 
--- ---- what holds of each lane
+-- ---- predicates on each lane
 
--- what holds of both lanes of each link holds of each lane
+-- a predicate on both lanes of each link holds for each lane
 pub each_lane : (P : Lane → Type 0) (t : Links) → ((k : ℕ × ℕ) (l : Lanes) → get t k ≡ Some l → P l.forth × P l.back) → (x y : ℕ) (l : Lane) → lane_at t x y ≡ Some l → P l
 unfolding lane_at
 each_lane P t each x y l is = of_link (get t (ends x y)) refl is

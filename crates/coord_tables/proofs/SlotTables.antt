@@ -1,4 +1,4 @@
--- The table of slots, by what stands in each of them.
+-- The table of slots, by the value in each of them.
 use Rattle.std.proofs.Common.{◌≡◌, ◌↔◌, ℕ, zero, suc, ◌+◌, ◌-◌, ◌<◌, ◌≤◌, true, false, ◌&&◌, List, [], ◌∷◌, Option, Some, None, length, cond, eqb, refl, sym, ap, ◌∙◌, arith}
 use Rattle.std.specs.Ordering.{nat_cmp, eq_by_cmp}
 use Rattle.std.specs.Cmp.{nat_cmp_total}
@@ -44,7 +44,7 @@ module _ {X : Type 0} where
       let same : suc i ≡ 1 + i = omega arith in
       get-from_sorted nat_cmp_total (slot_entries 1 xs) (suc i) (sorted_slots xs 1) ∙ ap (λ q. find nat_cmp q (slot_entries 1 xs)) same ∙ find_slot xs 1 i
 
-  -- what stands at a key
+  -- the value at a key
   pub get_slot : (xs : List (Option X)) (k : ℕ) → 1 ≤ k → get (slot_table xs) k ≡ slot_at xs (k - 1)
   get_slot xs k least = let same : k ≡ suc (k - 1) = omega (arith, least) in ap (get (slot_table xs)) same ∙ get_next xs (k - 1)
 

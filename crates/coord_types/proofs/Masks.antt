@@ -181,7 +181,7 @@ bits_where-is_set bits fits =
 pub len-nodes_of : (bits : ℕ) → bits < 2 ^ 64 → ones bits ≡ len (nodes_of bits)
 len-nodes_of bits fits = sym (len-nodes_where (is_set bits) 64 ∙ ap ones (bits_where-is_set bits fits))
 
--- the first member of a set stands at the lowest bit of its mask
+-- the first member of a set is the lowest bit of its mask
 first_found : (bits : ℕ) → bits < 2 ^ 64 → 0 < bits → first (nodes_of bits) ≡ Some (trailing_zeros w64 bits + 1)
 first_found bits fits some =
     let place = trailing_zeros w64 bits in

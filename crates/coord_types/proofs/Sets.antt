@@ -157,7 +157,7 @@ or_later : (a b : Bool) → b ≡ true → (a || b) ≡ true
 or_later true b e = refl
 or_later false b e = e
 
--- what holds of each number that is listed
+-- a predicate on each listed number
 pub all_listed : (P : ℕ → Type 0) (xs : List ℕ) → ((q : ℕ) → list_any (λ y. nat_eq y q) xs ≡ true → P q) → AllByRecursion P xs
 all_listed P [] each = tt
 all_listed P (x ∷ xs) each = (each x (grind (arith, nat_tests)), all_listed P xs (λ q any. each q (or_later (nat_eq x q) _ any)))
@@ -179,7 +179,7 @@ below_each k q [] below any = cc
 below_each k q (x ∷ xs) below any =
     by_test (nat_eq x q) (λ b. (b || list_any (λ y. nat_eq y q) xs) ≡ true → k < q) (λ is _. grind (arith, nat_tests, below.0, is)) (λ _ further. below_each k q xs below.1 further) any
 
--- a set's first member, and what stands after it
+-- a set's first member, and the rest after it
 behind_first : (s : NodeSet) (k : ℕ) (xs : List ℕ) → items s ≡ xs → IsStrictlySortedBy nat_cmp xs → first_of xs ≡ Some k → items s ≡ k ∷ items (remove s k)
 behind_first s k [] is sorted e = cc
 behind_first s k (x ∷ xs) is sorted e =

@@ -16,7 +16,7 @@ is_set bits i = bit_at bits i == 1
 abbrev pub nodes_of : ℕ → set.NodeSet
 nodes_of bits = nodes_where (is_set bits) MAX_NODES
 
--- the number whose bits below n are set where the tests hold
+-- the number whose bit k is set if k is below n and the test of k is true
 unfoldable pub bits_where : (ℕ → Bool) → ℕ → ℕ
 bits_where test zero = 0
 bits_where test (suc n) = if test n then bits_where test n + 2 ^ n else bits_where test n

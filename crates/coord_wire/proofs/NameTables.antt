@@ -1,4 +1,4 @@
--- Each name stands for itself.
+-- Each name has its meaning.
 use Rattle.std.proofs.Common.{refl}
 use Rattle.coord_wire.specs.Laws.{NamesAreRead}
 

@@ -17,7 +17,7 @@ use Rattle.coord_wire.specs.declared.answer_line.ReadFault.TheVariants.{NoAnswer
 abbrev pub Name : Type 0
 Name = List ℕ
 
--- what a name stands for in a table of names
+-- the meaning of a name in a table of names
 abbrev pub named : {X : Type 0} → List (Name × X) → Name → Option X
 named [] name = None
 named (row ∷ rows) name = if bytes_eq name row.0 then Some row.1 else named rows name

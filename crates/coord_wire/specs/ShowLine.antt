@@ -30,7 +30,7 @@ from_1_to most n = if nat_le 1 n && nat_le n most then Some n else None
 abbrev pub id_at : ℕ → ℕ → Data → Option ℕ
 id_at place most d = option_and_then (from_1_to most) (number_at place d)
 
--- a parent's number, of which 0 stands for none
+-- a parent's number; 0 means none
 abbrev pub up_to : ℕ → ℕ → Option ℕ
 up_to most n = if nat_le n most then Some n else None
 
@@ -75,7 +75,7 @@ abbrev pub from_each : {X : Type 0} → Option X → Option (List X) → Option 
 from_each None rest = None
 from_each (Some x) rest = in_front x rest
 
--- what each of these is; None where one is none
+-- the values of these; None if one has none
 abbrev pub each : {X : Type 0} → (Data → Option X) → Items → Option (List X)
 each read no_items = Some []
 each read (item d ds) = from_each (read d) (each read ds)

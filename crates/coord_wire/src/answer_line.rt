@@ -11,17 +11,17 @@ use coord_types::{Refusal, Reply};
 use serde_json::Value;
 use std::alloc::Global;
 
-/// Why a line tells no answer.
+/// Why a line is not an answer.
 #[derive(Clone, Copy, Debug, PartialEq, Eq)]
 pub enum ReadFault {
-    /// There was no memory to read it.
+    /// Memory ran out while it was read.
     OutOfMemory,
-    /// The line is neither a reply to an order nor a refusal of one: a fault, or no line of the
+    /// The line is neither a reply to an order nor a refusal of one: a fault, or not a line of the
     /// server.
     NoAnswer,
 }
 
-/// The answer that a line is. Of an object's members those that it needs count, and no others.
+/// The answer in a line. Only the required members of an object count.
 #[tactic(auto, unfolding(crate::specs::AnswerLine::answer_in))]
 pub fn read_answer(alloc: Global, text: &str) -> Result<Answer, ReadFault>
     ensures { result ≢ Err OutOfMemory → result ≡ answer_in text.now }

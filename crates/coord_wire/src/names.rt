@@ -1,11 +1,11 @@
-//! What the names in an answer's line stand for.
+//! The meanings of the names in an answer's line.
 
 ghost use Rattle.std.specs.Prelude.{◌≡◌};
 ghost use Rattle.coord_wire.specs.AnswerLine.{kind_named, refusal_named};
 
 use coord_types::{Kind, Refusal};
 
-/// What became of an order, by its name.
+/// The result of an order, by its name.
 pub(crate) fn kind_named(name: &str) -> Option<Kind>
     ensures { result ≡ kind_named name.now }
 {

@@ -7,7 +7,7 @@ use coord_orders::Line;
 use coord_types::{Client, Command, Group, NodeId};
 use std::alloc::AllocError;
 
-/// Adds the line that asks for this order of this client.
+/// Appends the line for this order of this client.
 pub fn print_order(text: &mut String, client: Client, line: &Line) -> Result<(), AllocError>
     ensures { OnOk result (string_bytes text.new ≡ string_bytes text.old ++ order_line client line.now) }
 {
@@ -22,7 +22,7 @@ pub fn print_order(text: &mut String, client: Client, line: &Line) -> Result<(),
     }
 }
 
-/// Adds the members that each order has.
+/// Appends the members that each order has.
 #[tactic(auto, unfolding(crate::specs::OrderLine::head))]
 fn print_head(text: &mut String, op: &str, client: Client, number: u64) -> Result<(), AllocError>
     ensures { OnOk result (string_bytes text.new ≡ string_bytes text.old ++ head op.now client number) }
@@ -34,7 +34,7 @@ fn print_head(text: &mut String, op: &str, client: Client, number: u64) -> Resul
     )
 }
 
-/// Adds a member that is a number.
+/// Appends a member with a number.
 #[tactic(auto, unfolding(crate::specs::OrderLine::number_member))]
 fn print_member(text: &mut String, name: &str, number: u64) -> Result<(), AllocError>
     ensures { OnOk result (string_bytes text.new ≡ string_bytes text.old ++ number_member name.now number) }

@@ -12,7 +12,7 @@ use coord_view::{LinkView, NodeView, View};
 use serde_json::Value;
 use std::alloc::{AllocError, Global};
 
-/// What a mode's name stands for.
+/// The mode of a name.
 fn mode_named(name: &str) -> Option<Mode>
     ensures { result ≡ mode_named name.now }
 {
@@ -38,7 +38,7 @@ fn id_at<const MOST: u8>(row: &Value, place: usize) -> Option<Identifier<MOST>>
     Identifier::new(u8::try_from(number).ok()?)
 }
 
-/// A parent's number; 0 is that of none.
+/// A parent's number; 0 means none.
 fn parent_at(row: &Value, place: usize) -> Option<u8>
     ensures { result ≡ option_and_then (up_to MAX_NODES) (number_at place (view row.now)) }
 {
@@ -131,7 +131,7 @@ fn links_of(alloc: Global, rows: &[Value]) -> Result<Option<Vec<LinkView>>, Allo
     Ok(Some(links))
 }
 
-/// The rows at a name; None where there is no array.
+/// The rows at a name; None if there is no array.
 fn rows_at<'a>(value: &'a Value, name: &str) -> Option<&'a [Value]>
     ensures { option_map (λ rows. items_view rows.now) result ≡ rows_at name.now (view value.now) }
 {
@@ -165,7 +165,7 @@ fn count_at(value: &Value, name: &str) -> Option<u64>
     value.get(name).and_then(Value::as_u64)
 }
 
-/// What a line's value shows; None where it is no answer to `show`.
+/// The view that a line's value shows; None if it is not an answer to `show`.
 fn shown_of(alloc: Global, value: &Value) -> Result<Option<View>, AllocError>
     ensures { IfOk result (λ shown. shown ≡ shown_of (view value.now)) }
 {
@@ -191,7 +191,7 @@ fn shown_of(alloc: Global, value: &Value) -> Result<Option<View>, AllocError>
     }
 }
 
-/// What a line shows that answers `show`.
+/// The view in a line that answers `show`.
 #[tactic(auto, unfolding(crate::specs::ShowLine::shown_in))]
 pub fn read_show(alloc: Global, text: &str) -> Result<View, ReadFault>
     ensures { result ≢ Err OutOfMemory → result ≡ shown_in text.now }

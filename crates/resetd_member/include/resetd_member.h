@@ -35,7 +35,7 @@ enum {
   RESETD_NO_TEXT = 9      /* a text is not UTF-8 */
 };
 
-/* ---- what is due ---- */
+/* ---- the due action ---- */
 
 enum {
   RESETD_TALK = 1,  /* talk, with the tag of resetd_tag */
@@ -44,9 +44,9 @@ enum {
   RESETD_RESET = 4  /* ask for a reset, and look again */
 };
 
-/* The longest text of a file of a start, with the line of the history behind it. */
+/* The longest text of a file of a start, with the line of the history after it. */
 #define RESETD_MOST_TEXT 8192
-/* A tag has so many bytes at most, and the line of an order. */
+/* The most bytes of a tag, and of the line of an order. */
 #define RESETD_MOST_TAG 65
 #define RESETD_MOST_LINE 128
 
@@ -82,9 +82,9 @@ struct resetd_judged {
  * - At RESETD_BEGIN the text "nothing begun" is synced before the work is dropped, unless the work is
  *   replaced as a whole, with its epoch, and its epoch is above all that the file ever said. */
 
-/* Judges a line that answers `show`, for the member of a node. `start` and `history` are what its files
- * hold; no bytes, where there is no file. `out` gets the text for the file of the start, and behind it
- * the line for the history. Put both down before you do what is due, the line first. */
+/* Judges a line that answers `show`, for the member of a node. `start` and `history` are the contents of its files; no
+ * bytes, if there is no file. `out` gets the text for the file of the start, followed by the line for the history.
+ * Store both before you act, the line first. */
 uint32_t resetd_judge(const uint8_t *show, size_t show_length, uint8_t node, const uint8_t *start,
                       size_t start_length, const uint8_t *history, size_t history_length,
                       const struct resetd_work *work, uint8_t *out, size_t room,
@@ -104,9 +104,9 @@ uint32_t resetd_loaded(uint8_t node, uint64_t epoch, const uint8_t *boot, size_t
 uint32_t resetd_carried(uint8_t node, const uint8_t *start, size_t start_length, const uint8_t *boot,
                         size_t boot_length, uint8_t *out, size_t room, size_t *length);
 
-/* The tag of a start that is due to talk, by its file after what resetd_judge gave is put down. `word` is
- * the first line of each digest; no bytes, where the group has no word. A tag of no bytes is none: the
- * start was alone, and talks with nobody. */
+/* The tag of a start that is due to talk, by its file after the result of resetd_judge was stored. `word` is the first
+ * line of each digest; no bytes, if the group has no word. A tag of no bytes is none: the start was alone, and talks
+ * with nobody. */
 uint32_t resetd_tag(const uint8_t *show, size_t show_length, uint8_t node, const uint8_t *start,
                     size_t start_length, const uint8_t *word, size_t word_length, uint8_t *out,
                     size_t room, size_t *length);
@@ -123,13 +123,13 @@ bool resetd_are_parted(const uint8_t *own, size_t own_length, const uint8_t *oth
 /* The most generations. */
 #define RESETD_GENERATIONS 8388608
 
-/* What a start brings to a resource that several members use, by its file after what resetd_judge gave is
- * put down: a count and a tag, the same as long as the start lives. No bytes: it has none yet. The
- * resource keeps three values, at first 0, 0 and no bytes: a floor, a count and a tag. It accepts a fence
- * whose count is above its count, or is above the floor with its own tag. Then, where the tag is another
- * one, the floor becomes its count; its count becomes the greater of both, and the tag that of the fence.
- * So a start that one of another run has replaced never gets in again, however late it comes. After a
- * restore of the coordinator's store start all members with a greater `generation`. */
+/* The fence of a start for a resource that several members use, by its file after the result of resetd_judge was
+ * stored: a count and a tag, the same as long as the start lives. No bytes: it has none yet. The resource keeps three
+ * values, initially 0, 0 and no bytes: a floor, a count and a tag. It accepts a fence whose count is above its count,
+ * or is above the floor with the resource's own tag. Then, if the tag is another one, the floor becomes its count; its
+ * count becomes the greater of both, and the tag that of the fence. So a start that one of another run has replaced is
+ * never accepted again, however late it comes. After a restore of the coordinator's store start all members with a
+ * greater `generation`. */
 uint32_t resetd_fence(uint8_t node, const uint8_t *start, size_t start_length, uint32_t generation,
                       const uint8_t *word, size_t word_length, uint64_t *count, uint8_t *out,
                       size_t room, size_t *length);
@@ -174,8 +174,8 @@ uint32_t resetd_write_down(struct resetd_orders *orders, const struct resetd_ord
 uint32_t resetd_order_line(const struct resetd_orders *orders, uint8_t client, uint8_t *out, size_t room,
                            size_t *length);
 
-/* Hears the answer to the line that was sent last. Let each line have a connection of its own: an answer
- * that comes late on another one must not be heard. RESETD_BAD_LINE: the line was a fault or torn. */
+/* Hears the answer to the line that was sent last. Use one connection for each line: a late answer on another one must
+ * not be heard. RESETD_BAD_LINE: the line was a fault or torn. */
 uint32_t resetd_hear(struct resetd_orders *orders, const uint8_t *line, size_t length, uint32_t *meaning);
 
 #ifdef __cplusplus

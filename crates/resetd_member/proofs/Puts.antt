@@ -1,4 +1,4 @@
--- What is put of a judgement is what is given of what was asked.
+-- The texts of a judgement are those that the specification requires.
 use Rattle.std.proofs.Common.{◌≡◌, ℕ, List, Option, Result, Ok, Err, subst}
 use Rattle.resetd_member.specs.declared.judge.Judged.{Judged}
 use Rattle.resetd_member.specs.declared.judge.Judgement.{Judgement}
@@ -18,7 +18,7 @@ put_of show node file history work j room (Err BadNumber) is out = absurd out
 put_of show node file history work j room (Err InHand) is out = absurd out
 put_of show node file history work j room (Err NoText) is out = absurd out
 
--- where the texts are those of the bytes
+-- if the texts are those of the bytes
 pub given : (show show' : List ℕ) (node node' : ℕ) (file file' history : List ℕ) (work : Option ℕ) (j : Judgement) (room : List ℕ) (put : Result Judged Fault) → show' ≡ show → node' ≡ node → file' ≡ file → IsJudgement show' node' file' history work j → IsPutOf j room put → IsGivenTo show node file history work room put
 given show show' node node' file file' history work j room put s n f is out =
     put_of show node file history work j room put

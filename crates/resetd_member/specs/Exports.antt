@@ -60,7 +60,7 @@ pub record IsTagGiven (show : List ℕ) (node : ℕ) (file word room : List ℕ)
   pub is : IsTagged show node file word made
   pub given : IsGiven made room size status
 
--- where an order is not written down, what is kept stays
+-- if an order is not written down, the book is unchanged
 abbrev pub IsKeptAs : Orders → Result Orders Fault → Orders → ℕ → Type 0
 IsKeptAs old (Ok written) new status = (status ≡ 0) × (new ≡ written)
 IsKeptAs old (Err fault) new status = (status ≡ status_of fault) × (new ≡ old)

@@ -44,7 +44,7 @@ IsFenceBy word generation (Some first) (Some settled) fence = (fence.0 ≡ fence
 IsFenceBy word generation (Some first) None fence = (fence.0 ≡ 0) × (string_bytes fence.1 ≡ [])
 IsFenceBy word generation None settled fence = (fence.0 ≡ 0) × (string_bytes fence.1 ≡ [])
 
--- no world has so many steps
+-- more steps than a world may have
 abbrev pub IsTooMany : Option ℕ → Type 0
 IsTooMany None = ⊥
 IsTooMany (Some settled) = 2 ^ 40 < settled

@@ -28,9 +28,9 @@ use Rattle.resetd_member.specs.declared.status.Fault.{Fault}
 use Rattle.resetd_member.specs.declared.status.Fault.TheVariants.{OutOfMemory, NoRoom, BadLine, NoNode, BadStart, BadHistory, BadNumber, InHand, NoText}
 use Rattle.resetd_member.specs.Status.{due_number}
 
--- ---- what is shown
+-- ---- the shown view
 
--- the line shows this row and these to the member of the node, where so many steps are settled
+-- the line shows this row and these to the member of the node, with this many settled steps
 pub record IsShown (show : List ℕ) (node : ℕ) (row : Row) (party : List Entry) (settled : ℕ) : Type 0 where
   pub view : Shown
   pub own : NodeView
@@ -61,9 +61,9 @@ abbrev pub IsLooked : List ℕ → ℕ → Result Sight Fault → Type 0
 IsLooked show node (Ok sight) = IsShown show node sight.look.row sight.look.party.items sight.settled
 IsLooked show node (Err fault) = IsUnseen show node fault
 
--- ---- what is due
+-- ---- the due action
 
--- the epoch that the work in hand was begun for, where it is the one that is kept as begun
+-- the epoch of the present work, if it is the one that is stored as begun
 abbrev pub begun_at : Option ℕ → Option ℕ → Option ℕ
 begun_at None work = None
 begun_at (Some epoch) None = None
@@ -73,7 +73,7 @@ begun_at (Some epoch) (Some e) = if epoch == e then Some epoch else None
 abbrev pub first_known : Start → List Entry → Option (List Entry)
 first_known kept party = option_map (λ lines. known lines.items party) kept.party
 
--- what the file of the start has to hold; empty: what it holds already
+-- the required text of the file of the start; empty: its present text
 abbrev pub start_after : ℕ → Option ℕ → List (String Global) → ℕ → Change → List ℕ
 start_after node begun lines settled Keeps = []
 start_after node begun lines settled Drops = start_text node None None None

@@ -1,4 +1,4 @@
-//! What C calls. `include/resetd_member.h` declares these functions.
+//! The functions for C, declared in `include/resetd_member.h`.
 
 ghost use Rattle.std.specs.Prelude.{◌≡◌, Ok, Err};
 ghost use Rattle.coord_kept.specs.Tag as tag;
@@ -12,7 +12,7 @@ use crate::status::{Fault, give, status_of, text_of};
 use coord_kept::start_text;
 use std::alloc::Global;
 
-/// The epoch that stands with the work in hand, if there is work.
+/// The epoch that is stored with the present work, if there is work.
 #[repr(C)]
 #[derive(Clone, Copy, Debug, PartialEq, Eq)]
 pub struct Work {
@@ -53,7 +53,7 @@ pub extern "C" fn resetd_judge(
     }
 }
 
-/// The text for the file of a start, once the common start is loaded for an epoch.
+/// Writes the text for the file of a start, once the common start is loaded for an epoch.
 #[unsafe(no_mangle)]
 pub extern "C" fn resetd_begun(
     alloc: Global,
@@ -71,7 +71,7 @@ pub extern "C" fn resetd_begun(
     give(text, out, length)
 }
 
-/// The same with the name of the boot in which it counts.
+/// The same with the name of the boot in which it is valid.
 #[unsafe(no_mangle)]
 pub extern "C" fn resetd_loaded(
     alloc: Global,
@@ -86,7 +86,7 @@ pub extern "C" fn resetd_loaded(
     give(loaded(alloc, node, epoch, boot), out, length)
 }
 
-/// What the file of a start says in the boot of this name.
+/// Writes the meaning of the file of a start in the boot of this name.
 #[unsafe(no_mangle)]
 pub extern "C" fn resetd_carried(
     alloc: Global,
@@ -101,7 +101,7 @@ pub extern "C" fn resetd_carried(
     give(carried(alloc, node, start, boot), out, length)
 }
 
-/// The fence of the start that a file keeps.
+/// Writes the fence of the start in a file.
 #[unsafe(no_mangle)]
 pub extern "C" fn resetd_fence(
     alloc: Global,
@@ -124,7 +124,8 @@ pub extern "C" fn resetd_fence(
     }
 }
 
-/// The tag of a start that is due to talk. Its file is as it was put down; `word` is the group's.
+/// Returns the tag of a start that is due to talk. `start` is its file as it was stored; `word` is
+/// the group's.
 #[unsafe(no_mangle)]
 pub extern "C" fn resetd_tag(
     alloc: Global,
@@ -148,7 +149,7 @@ pub extern "C" fn resetd_is_same_run(own: &[u8], other: &[u8]) -> bool
     coord_kept::is_same_run(own, other)
 }
 
-/// Whether two starts refuse each other for ever.
+/// Whether two starts reject each other forever.
 #[unsafe(no_mangle)]
 pub extern "C" fn resetd_are_parted(own: &[u8], other: &[u8]) -> bool
     ensures { result ≡ tag.are_parted own.now other.now }
@@ -170,7 +171,7 @@ pub extern "C" fn resetd_write_down(orders: &mut Orders, order: &Order) -> u32
     }
 }
 
-/// The line that is to be sent, first or again.
+/// Writes the line to send, for the first time or again.
 #[unsafe(no_mangle)]
 pub extern "C" fn resetd_order_line(
     alloc: Global,

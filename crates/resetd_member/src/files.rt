@@ -1,4 +1,5 @@
-//! What the file of a start says beside a judgement: in one boot of the machine, and to a resource.
+//! The meanings of the file of a start beside a judgement: in one boot of the machine, and for a
+//! resource.
 
 ghost use Rattle.std.specs.Prelude.{◌≡◌, ◌<◌, ◌^◌, IfOk, string_bytes};
 ghost use Rattle.std.specs.Option.{option_map};
@@ -15,7 +16,7 @@ const GENERATIONS: u32 = 8_388_608;
 /// The most steps of a world: a later generation's counts are above all of one before.
 const COUNTS: u64 = 1_099_511_627_776;
 
-/// The text of the file of this start, which counts in any boot.
+/// The text of the file of this start, which is valid in any boot.
 fn text_with(alloc: Global, node: u8, start: &Start) -> Result<String, AllocError>
     ensures { IfOk result (λ text. string_bytes text ≡ kept.start_text node start.now.begun (option_map (λ lines. lines.items) start.now.party) start.now.count) }
 {
@@ -31,7 +32,7 @@ fn text_with(alloc: Global, node: u8, start: &Start) -> Result<String, AllocErro
     }
 }
 
-/// What a file says in the boot of this name, as the text that a judgement takes.
+/// The meaning of a file in the boot of this name, as the text for a judgement.
 pub(crate) fn carried(alloc: Global, node: u8, file: &[u8], boot: &[u8]) -> Result<String, Fault>
     ensures { IsCarried node file.now boot.now result }
 {
@@ -47,7 +48,7 @@ pub(crate) fn carried(alloc: Global, node: u8, file: &[u8], boot: &[u8]) -> Resu
     Ok(text?)
 }
 
-/// The text of the file once the common start is loaded, which counts in the boot of this name.
+/// The text of the file once the common start is loaded, which is valid in the boot of this name.
 pub(crate) fn loaded(alloc: Global, node: u8, epoch: u64, boot: &[u8]) -> Result<String, Fault>
     ensures { IsLoaded node epoch boot.now result }
 {
@@ -55,8 +56,8 @@ pub(crate) fn loaded(alloc: Global, node: u8, epoch: u64, boot: &[u8]) -> Result
     Ok(loaded_text(alloc, node, epoch, boot)?)
 }
 
-/// The count and the tag of the fence of a start that has talked. One that has not, or whose file has no
-/// count, has none: the tag is empty.
+/// The count and the tag of the fence of a start that has talked. One that has not, or whose file
+/// has no count, has none: the tag is empty.
 fn fence_of(
     alloc: Global,
     start: &Start,
@@ -77,7 +78,7 @@ fn fence_of(
     Ok((count, tag))
 }
 
-/// The fence of the start that a file keeps.
+/// The fence of the start in a file.
 pub(crate) fn fence_in(
     alloc: Global,
     node: u8,

@@ -1,4 +1,4 @@
-//! What a view asks of the member of a node.
+//! Judges a view for the member of a node.
 
 ghost use Rattle.std.specs.Prelude.{◌≡◌, ◌++◌, IfOk, string_bytes};
 ghost use Rattle.std.specs.Option.{option_map};
@@ -16,46 +16,46 @@ use coord_types::NodeId;
 use coord_wire::read_show;
 use std::alloc::{AllocError, Global};
 
-/// What a view shows to the member of a node.
+/// The view as it is shown to the member of a node.
 #[derive(Drop, Debug)]
 pub struct Sight {
     pub look: Look,
-    /// How many steps are settled.
+    /// The number of settled steps.
     pub settled: u64,
 }
 
-/// What a view asks of a member, and what has to be on the disk before it is done.
+/// The due action for a view, and what must be on disk before it.
 #[derive(Drop, Debug)]
 pub struct Judgement {
     pub due: Due,
-    /// The epoch that is shown.
+    /// The shown epoch.
     pub epoch: u64,
-    /// What the file of the start has to hold; empty: it stays as it is.
+    /// The required text of the file of the start; empty: it stays unchanged.
     pub start: String,
-    /// The line that the history gets before that; empty: it gets none.
+    /// The line to add to the history before that; empty: none.
     pub line: String,
-    /// Where in the history the line goes.
+    /// The offset of the line in the history.
     pub history_size: usize,
 }
 
-/// What C hears of a judgement. Its texts stand in the room that it gave: first what the file of the
-/// start has to hold, then the line that the history gets.
+/// A judgement for C. Its texts are in the caller's buffer: first the required text of the file of
+/// the start, then the line for the history.
 #[repr(C)]
 #[derive(Clone, Copy, Debug, PartialEq, Eq)]
 pub struct Judged {
     /// 1 to talk, 2 to wait, 3 to begin, 4 to ask for a reset.
     pub due: u32,
-    /// The epoch that is shown.
+    /// The shown epoch.
     pub epoch: u64,
-    /// How many bytes the file of the start has to have; 0: it stays.
+    /// The number of bytes of the required text of the file of the start; 0: it stays unchanged.
     pub start_length: usize,
-    /// How many bytes the line has; 0: the history gets none.
+    /// The number of bytes of the line; 0: the history gets none.
     pub line_length: usize,
-    /// Where in the history the line goes.
+    /// The offset of the line in the history.
     pub history_size: usize,
 }
 
-/// What the line that answers `show` shows to the member of a node.
+/// The view that a line shows to the member of a node.
 pub(crate) fn look_at(alloc: Global, show: &str, node: NodeId) -> Result<Sight, Fault>
     ensures { IsLooked show.now node result }
 {
@@ -74,7 +74,7 @@ pub(crate) fn look_at(alloc: Global, show: &str, node: NodeId) -> Result<Sight, 
     }
 }
 
-/// The epoch of the work in hand, where it is the one that is kept as begun.
+/// The epoch of the present work, if it is the one that is stored as begun.
 fn begun_at(kept: Option<u64>, work: Option<u64>) -> Option<u64>
     ensures { result ≡ begun_at kept work }
 {
@@ -84,7 +84,7 @@ fn begun_at(kept: Option<u64>, work: Option<u64>) -> Option<u64>
     }
 }
 
-/// What is due.
+/// The due action.
 fn due_at(
     alloc: Global,
     begun: Option<u64>,
@@ -111,7 +111,7 @@ fn due_at(
     }
 }
 
-/// What the file of the start has to hold after a change.
+/// The required text of the file of the start after a change.
 fn start_after(
     alloc: Global,
     node: u8,
@@ -131,7 +131,7 @@ fn start_after(
     }
 }
 
-/// The line that the history gets with a change, where `line` is that of the party that is shown.
+/// The line to add to the history with a change; `line` is that of the shown party.
 fn line_after(alloc: Global, line: &str, change: Change) -> Result<String, AllocError>
     ensures { IfOk result (λ text. string_bytes text ≡ line_of_change line.now change) }
 {
@@ -141,7 +141,7 @@ fn line_after(alloc: Global, line: &str, change: Change) -> Result<String, Alloc
     }
 }
 
-/// What the file of a start says.
+/// The meaning of the file of a start.
 fn read(alloc: Global, node: u8, file: &str) -> Result<Start, Fault>
     ensures { IsRead node file.now result }
 {
@@ -152,7 +152,7 @@ fn read(alloc: Global, node: u8, file: &str) -> Result<Start, Fault>
     }
 }
 
-/// What is due by what is kept, and what changes.
+/// The due action for the stored values, and the change.
 fn judged_by(
     alloc: Global,
     node: u8,
@@ -178,7 +178,7 @@ fn judged_by(
     })
 }
 
-/// What a view asks of the member of a node, by the lines of those that are shown.
+/// Judges a view for the member of a node, by the lines of the shown party.
 fn judged_with(
     alloc: Global,
     node: u8,
@@ -212,7 +212,7 @@ fn judged_with(
     Ok(judged?)
 }
 
-/// What a view asks of the member of a node, by the texts of its files.
+/// Judges a view for the member of a node, by the texts of its files.
 pub(crate) fn judge(
     alloc: Global,
     show: &str,
@@ -239,7 +239,7 @@ pub(crate) fn judge(
     judged
 }
 
-/// The tag of the start that a file keeps, where a line shows these to it; empty: it has none.
+/// The tag of the start in a file, if a line shows these to it; empty: it has none.
 pub(crate) fn tag(
     alloc: Global,
     show: &str,
@@ -270,7 +270,7 @@ fn joined(mut text: String, behind: &str) -> Result<String, AllocError>
     Ok(text)
 }
 
-/// Puts the texts of a judgement into the room for them.
+/// Puts the texts of a judgement into the buffer.
 fn put_texts(judgement: Judgement, out: &mut [u8]) -> Result<Judged, Fault>
     ensures { IsPutOf judgement out.new result }
 {
@@ -297,7 +297,7 @@ fn put_texts(judgement: Judgement, out: &mut [u8]) -> Result<Judged, Fault>
     Ok(judged)
 }
 
-/// What a view asks of the member of a node, by bytes, with the texts put into the room for them.
+/// Judges a view for the member of a node, by bytes, and puts the texts into the buffer.
 pub(crate) fn judge_into(
     alloc: Global,
     show: &[u8],
@@ -318,7 +318,7 @@ pub(crate) fn judge_into(
     put_texts(judgement, out)
 }
 
-/// The tag, of bytes.
+/// The tag, from bytes.
 pub(crate) fn tag_of_bytes(
     alloc: Global,
     show: &[u8],

@@ -1,4 +1,4 @@
-//! Orders and what is kept of them, as numbers.
+//! Orders and order books, as numbers.
 
 ghost use Rattle.std.specs.Prelude.{◌≡◌, Some};
 ghost use Rattle.resetd_member.specs.Orders.{command_of, kept_of, order_of, orders_of};
@@ -7,7 +7,7 @@ use coord_orders::Kept;
 use coord_types::{Command, Group, NodeId};
 
 /// An order. `op` is 1 to 6: add, remove, join, drop, reset, confirm; 0 is no order. `a` is a node,
-/// `b` the other node of a link or the group of a node that is added, and `epoch` what is confirmed.
+/// `b` the other node of a link or the group of an added node, and `epoch` the confirmed epoch.
 #[repr(C)]
 #[derive(Clone, Copy, Debug, PartialEq, Eq)]
 pub struct Order {
@@ -17,8 +17,7 @@ pub struct Order {
     pub epoch: u64,
 }
 
-/// What a client keeps of its orders: the number of the last one that was carried out, and the one
-/// that is in hand.
+/// The order book: the number of the last order that was carried out, and the one in hand.
 #[repr(C)]
 #[derive(Clone, Copy, Debug, PartialEq, Eq)]
 pub struct Orders {
@@ -26,7 +25,7 @@ pub struct Orders {
     pub in_hand: Order,
 }
 
-/// The order that these numbers are; None where one is out of its range.
+/// The order of these numbers; None if one is out of its range.
 pub(crate) fn command_of(order: Order) -> Option<Command>
     ensures { result ≡ command_of order }
 {
@@ -61,7 +60,7 @@ fn numbers(op: u8, a: u8, b: u8, epoch: u64) -> Order
     Order { op, a, b, epoch }
 }
 
-/// What these numbers keep; None where one is out of its range.
+/// The book of these numbers; None if one is out of its range.
 pub(crate) fn kept_of(orders: Orders) -> Option<Kept>
     ensures { result ≡ kept_of orders }
 {
@@ -77,7 +76,7 @@ pub(crate) fn kept_of(orders: Orders) -> Option<Kept>
     })
 }
 
-/// The numbers of what is kept.
+/// The numbers of a book.
 pub(crate) fn orders_of(kept: &Kept) -> Orders
     ensures { result ≡ orders_of kept.now }
 {

@@ -1,4 +1,4 @@
-//! What the order book makes of orders as numbers.
+//! The order book over orders as numbers.
 
 ghost use Rattle.std.specs.Prelude.{◌≡◌, ◌≢◌, Ok, Err, IfOk, IfErr, string_bytes};
 ghost use Rattle.resetd_member.specs.Orders.{heard_in, line_for, meaning_number, written_down};
@@ -11,7 +11,7 @@ use coord_types::Client;
 use coord_wire::{ReadFault, print_order, read_answer};
 use std::alloc::Global;
 
-/// What is kept after an answer, and what the answer meant.
+/// The book after an answer, and the answer's meaning.
 #[derive(Clone, Copy, Debug, PartialEq, Eq)]
 pub struct Heard {
     pub orders: Orders,
@@ -34,7 +34,7 @@ pub(crate) fn write_down(orders: Orders, order: Order) -> Result<Orders, Fault>
     }
 }
 
-/// The line that is to be sent, first or again; empty: no order is in hand.
+/// Writes the line to send, for the first time or again; empty: no order is in hand.
 pub(crate) fn line_for(alloc: Global, orders: Orders, client: u8) -> Result<String, Fault>
     ensures line { IfOk result (λ text. line_for orders client ≡ Ok (string_bytes text)) }
     ensures fault { IfErr result (λ fault. fault ≢ OutOfMemory → line_for orders client ≡ Err fault) }
@@ -67,8 +67,8 @@ fn meaning_number(meaning: Meaning) -> u32
     }
 }
 
-/// Hears the answer to the line that was sent last. Each line has a connection of its own, or no line
-/// goes out before the one in front of it is answered: so no other answer comes.
+/// Hears the answer to the line that was sent last. Each line has its own connection, or no line is
+/// sent before the previous one is answered: so no other answer comes.
 pub(crate) fn hear(alloc: Global, orders: Orders, line: &str) -> Result<Heard, Fault>
     ensures { result ≢ Err OutOfMemory → result ≡ heard_in orders line.now }
 {

@@ -1,4 +1,4 @@
-//! What a call came to, as a number.
+//! The result of a call, as a number.
 
 ghost use Rattle.std.specs.Prelude.{◌≡◌, ◌≤◌, ◌<◌, length, take};
 ghost use Rattle.resetd_member.specs.Status.{IsGiven, IsPut, IsTextOf, due_number, status_of};
@@ -7,13 +7,13 @@ ghost use Rattle.resetd_member.specs.declared.status.Fault.TheVariants.{OutOfMem
 use coord_member::Due;
 use std::alloc::AllocError;
 
-/// Why a call gave nothing.
+/// Why a call returned nothing.
 #[derive(Clone, Copy, Debug, PartialEq, Eq)]
 pub enum Fault {
     OutOfMemory,
-    /// The text that it is to give has more bytes than there is room for.
+    /// The text has more bytes than the buffer.
     NoRoom,
-    /// The line is not the answer that it has to be.
+    /// The line is not the required answer.
     BadLine,
     /// The node is not in it.
     NoNode,
@@ -54,7 +54,7 @@ pub(crate) fn status_of(fault: Fault) -> u32
     }
 }
 
-/// The number of what is due.
+/// The number of a due action.
 pub(crate) fn due_number(due: Due) -> u32
     ensures { result ≡ due_number due }
 {

@@ -7,7 +7,7 @@ use coord_types::{Client, Command, Group, NodeId, Step};
 use std::fmt::Debug;
 use std::process::Abort;
 
-// What was found is what was wanted.
+// Compares the result with the expected one.
 fn same<T: PartialEq + Debug>(rt: &impl Abort, found: &T, wanted: &T) {
     assert_eq!(rt; found, wanted);
 }
@@ -96,13 +96,13 @@ fn in_a_reset(rt: &(impl Abort + AllocGlobal)) -> Task {
     )
 }
 
-// What was answered in a start, and how much was released.
+// The answers in a start, and the number of releases.
 fn told_of(rt: &(impl Abort + AllocGlobal), trace: &Trace) -> String {
     let (answers, released) = (&trace.answers, trace.released.len());
     format!(in rt.alloc(); "{answers:?} {released}").expect(rt, "not printed")
 }
 
-// What came of a start.
+// The result of a start.
 fn told(rt: &(impl Abort + AllocGlobal), outcome: &Outcome) -> String {
     match outcome {
         Outcome::Served(trace) => told_of(rt, trace),
@@ -120,7 +120,7 @@ fn tells(rt: &(impl Abort + AllocGlobal), outcomes: &[Outcome], wanted: &[&str])
     }
 }
 
-// What came of all starts of a store of version 1.
+// The results of all starts of a store of version 1.
 fn ran(rt: &(impl Abort + AllocGlobal), tasks: &[Task]) -> Vec<Outcome> {
     match run_starts(rt.alloc(), MemDisk::new(rt.alloc()), 32_768, 1, tasks) {
         Ok((outcomes, disk)) => {

@@ -36,7 +36,7 @@ one_less (Some (suc n)) = Some n
 abbrev pub BlipSays : Blip → Call → Bool → Blip → Type 0
 BlipSays old call fails new = (fails ≡ is_due old.left) × (new.left ≡ one_less old.left)
 
--- ---- a tear, which fails one call, and tears it where it is a write
+-- ---- a tear: it fails one call, and tears it if it is a write
 
 -- with this number of bytes written before it fails
 abbrev pub tear_at : ℕ → ℕ → Tear

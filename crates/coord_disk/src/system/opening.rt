@@ -1,4 +1,4 @@
-//! How a file is opened.
+//! Opens files.
 
 use super::SystemFile;
 use std::fs::{File, OpenOptions};
@@ -20,7 +20,7 @@ pub fn open_locked<R: Files<File = File>>(rt: &R, path: &str) -> io::Result<Syst
     Ok(SystemFile::over(file, Some(folder)))
 }
 
-/// The file, to be read alone, and its folder where the file is made here.
+/// The file, read-only, and its folder if the file is created here.
 pub fn open_unlocked<R: Files<File = File>>(rt: &R, path: &str) -> io::Result<SystemFile<File>> {
     refuse_other_kinds(rt, path)?;
     match File::open(rt, path) {
@@ -33,8 +33,8 @@ pub fn open_unlocked<R: Files<File = File>>(rt: &R, path: &str) -> io::Result<Sy
     }
 }
 
-/// Refuses what stands there and is no regular file, before it is opened: opening a pipe would wait
-/// for its other end.
+/// Refuses a path that is not a regular file, before it is opened: opening a pipe would wait for
+/// its other end.
 fn refuse_other_kinds<R: Files<File = File>>(rt: &R, path: &str) -> io::Result<()> {
     match fs::metadata(rt, path) {
         Ok(metadata) if !metadata.is_file() => Err(ErrorKind::InvalidInput.into()),
@@ -42,7 +42,7 @@ fn refuse_other_kinds<R: Files<File = File>>(rt: &R, path: &str) -> io::Result<(
     }
 }
 
-/// A new file. Where a link that leads nowhere has its name, none is made.
+/// A new file. If a dangling link has its name, none is created.
 fn make<R: Files<File = File>>(rt: &R, path: &str) -> io::Result<File> {
     OpenOptions::new()
         .read(true)

@@ -41,7 +41,7 @@ module _ (s t : DrillState) (given : List Answer) (reported : List ℕ) (empty :
   same_log : t.log ≡ s.log → s.has_begun ≡ false → IsEmptyLog t.log
   same_log same before = subst IsEmptyLog (sym same) (empty before)
 
-  -- what it makes of the empty log is that again
+  -- it maps the empty log to the empty log
   by_world : (f : Log → Log) → t.log ≡ f s.log → s.has_begun ≡ false → ((w : World) → s.log ≡ log_over w → f (log_over w) ≡ log_over w) → IsEmptyLog t.log
   by_world f is before stays = grind arith
 

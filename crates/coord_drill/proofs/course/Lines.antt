@@ -1,4 +1,4 @@
--- Lines, one after the other: each leaves the disk as the course says, also where it is cut short.
+-- Lines, one after the other: each leaves the disk as the course says, also if it is cut short.
 use Rattle.std.proofs.Common.{◌≡◌, ◌+◌, Bool, true, false, List, [], length, take, Some, refl, sym, ap, ◌∙◌, arith, subst, inl, inr, ℕ, cond, ◌∷◌, ◌++◌, Option, None, Result, Ok, Err, IfOk, OnOk, append-nil, append_assoc}
 use Rattle.std.proofs.lemmas.Bool.{false≢true}
 use Rattle.std.specs.Option.{option_map}
@@ -93,7 +93,7 @@ not_late s line is = grind (arith, in_time)
 
 module _ {D : Type 0} (disk : DiskModel D) (crashes : D → D → Type 0) where
   module _ (d : Drill D) (p : Place D) (at : Stands disk d p) where
-    -- a line that asks for nothing leaves the drill where it stands
+    -- a line that asks for nothing leaves the drill's state unchanged
     abbrev behind : List ℕ → Place D
     behind text = record p { lines = p.lines + 1; printed = p.printed ++ text }
 
@@ -133,7 +133,7 @@ module _ {D : Type 0} (disk : DiskModel D) (crashes : D → D → Type 0) where
         let own : asked_by p.state line ≡ None = ap (λ (s : DrillState). asked_by s line) at.state ∙ none in
         stays (Some line) (bad_line n) (asks_nothing line kept none) (rw kept (rw own (refl, ap bad_line number, refl)))
 
-    -- what it asks for is promised
+    -- the promise for its request holds
     promised : (line : List ℕ) (r : Request) → asked_by (state_of d) line ≡ Some r → LineIsPromised disk d (asked (front_of d) r)
     promised line r is = grind (arith, only_request, not_late)
 
@@ -173,13 +173,13 @@ module _ {D : Type 0} (disk : DiskModel D) (crashes : D → D → Type 0) where
           let on = promised line r is in
           rw asks (cut_by disk crashes d p at (asked (front_of d) r) refused on (cuts on))
 
-  -- a line that is told as bad
+  -- a line that is reported as bad
   pub reports_bad : (d : Drill D) (n : ℕ) (old text : List ℕ) (r : Result (Drill D) (Fault × D)) (line : Line) → IfOk r (λ x. x ≡ d) → OnOk r (text ≡ old ++ bad_line n) → CarriesLine disk crashes d n line (bad_line n) d →
       IfOk r (λ x. Reports old text (λ reported. CarriesLine disk crashes d n line reported x))
   reports_bad d n old text (Ok x) line same reported goes = (bad_line n, (reported, rw same goes))
   reports_bad d n old text (Err e) line same reported goes = tt
 
-  -- it could not be told
+  -- it could not be reported
   pub reported_lost : (d : Drill D) (p : Place D) → Stands disk d p → (line : Line) (refused : Fault × D) → asked_in p.state line ≡ None → IsOfMemory refused.0 → disk_held d.driver ≡ Some refused.1 → FirstCutShort disk crashes p (line ∷ []) refused
   reported_lost d p at line refused none memory there = rw none (memory, cc (there, at.holds))
 
@@ -192,7 +192,7 @@ module _ {D : Type 0} (disk : DiskModel D) (crashes : D → D → Type 0) where
   goes_both p q r [] ks first more = rw (sym first.0) more
   goes_both p q r (l ∷ ls) ks first more = (first.0, first.1, goes_both first.0 q r ls ks first.2 more)
 
-  -- what is printed of them may be
+  -- their output is allowed
   pub goes_prints : (p q : Place D) (ls ks : List Line) (u : List ℕ) → Goes disk crashes p ls q → Prints q.state (q.lines + 1) ks u → (t : List ℕ) × (q.printed ≡ p.printed ++ t) × Prints p.state (p.lines + 1) (ls ++ ks) (t ++ u)
   goes_prints p q [] ks u first more = ([], rw (sym first.0) (sym (append-nil q.printed)), rw (sym first.0) more)
   goes_prints p q (l ∷ ls) ks u first more =

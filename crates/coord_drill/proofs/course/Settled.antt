@@ -1,4 +1,4 @@
--- What was printed is settled, and stays so.
+-- Printed outputs are settled, and stay settled.
 use Rattle.std.proofs.Common.{◌≡◌, ◌≢◌, ℕ, ◌+◌, ◌≤◌, true, false, List, [], ◌∷◌, length, map, take, Bool, Result, refl, sym, ap, arith}
 use Rattle.std.proofs.lemmas.List.{length-take}
 use Rattle.std.specs.List.{AllByRecursion}
@@ -20,7 +20,7 @@ use Rattle.coord_drill.specs.declared.asked.Asked.TheVariants as ask
 use Rattle.coord_drill.specs.Facade.{Accepted, Answer, Asked, Begun, Committed, Refusal, Refused, Repeated, Step, Verdict}
 use Rattle.coord_drill.proofs.does.FlownTo.{begun_size}
 
--- ---- what a line tells of is settled after it
+-- ---- the steps that a line reports are settled after it
 
 abbrev HaveMemory : List Answer → Type 0
 HaveMemory given = AllByRecursion (λ a. a ≢ Refused OutOfMemory) given
@@ -94,7 +94,7 @@ settled_grows s (e ∷ es) (a ∷ gs) named is answered =
     let later = settled_grows (after s e a) es gs named.1 (stays_consistent s e a named.0 is answered.0) answered.1 in
     omega (arith, later, keeps.settled, ap (λ (w : World). w.count) keeps.base)
 
--- what was printed survives
+-- printed outputs survive
 pub printed_survives : PrintedSurvives
 printed_survives s es gs reported bytes is named answered settled survives =
     let t = run s es gs in

@@ -1,4 +1,4 @@
--- A line that was carried out leads from where the drill stands to where it stands then.
+-- A line that was carried out leads from the drill's state before it to the state after it.
 use Rattle.std.proofs.Common.{◌≡◌, ◌⊎◌, ℕ, ◌+◌, ◌≤◌, true, false, List, [], ◌∷◌, ◌++◌, Option, Some, refl, sym, ap, ◌∙◌, subst, arith, inl, inr, append-nil}
 use Rattle.std.proofs.lemmas.Bool.{false≢true}
 use Rattle.std.specs.List.{AllByRecursion}
@@ -48,7 +48,7 @@ module _ {D : Type 0} (disk : DiskModel D) (crashes : D → D → Type 0) where
         survives = prefix_of d.driver begun may there on (adopted (no_world 1)) same;
       }
 
-  -- ---- what is asked
+  -- ---- requests
 
   -- how often the disk has failed in events
   pub failed_is : (old new : D) (before now : Option D) (es : List Event) (given : List Answer) → ((n : ℕ) → HasFailed disk.failures before n → HasFailed disk.failures now (n + failed_until es given)) → before ≡ Some old → now ≡ Some new → disk.failures new ≡ disk.failures old + failed_until es given
@@ -69,7 +69,7 @@ module _ {D : Type 0} (disk : DiskModel D) (crashes : D → D → Type 0) where
   survives_behind s (e ∷ es) [] old new moments = absurd moments
   survives_behind s (e ∷ es) (a ∷ gs) old new moments = survives_behind (after s e a) es gs moments.1.0 new moments.1.1.1
 
-  -- a place after, which the drill stands at
+  -- a later state, which the drill has reached
   pub record Reached (d new : Drill D) (p : Place D) (a : Asked) (given : List Answer) (text : List ℕ) : Type 0 where
     pub place : Place D
     pub state : place.state ≡ state_of new
@@ -97,7 +97,7 @@ module _ {D : Type 0} (disk : DiskModel D) (crashes : D → D → Type 0) where
   gives_empty log (inr two) bytes (inl own) = inr (subst (Recovered bytes) (ap settled_world two) own, no_world_legal 2)
   gives_empty log empty bytes (inr raised) = inr (subst (Recovered bytes) (raised_to log empty) raised, no_world_legal 2)
 
-  -- the line `version 2` goes by no answer
+  -- the line `version 2` uses no answer
   pub carries_raised : (d new : Drill D) → IsEmptyLog d.driver.ledger.log → RaisesTo disk crashes d.driver new.driver → new.holds ≡ d.holds → new.has_begun ≡ d.has_begun → Carries disk crashes d Version2 [] new
   unfolding asked_lines after_asked
   carries_raised d new empty to holds begun = grind (arith, raised_to)
@@ -144,7 +144,7 @@ module _ {D : Type 0} (disk : DiskModel D) (crashes : D → D → Type 0) where
         let leaves = moments (none_stopped d.driver.ledger.log empty) (ap disk.keeps_model same ∙ at.keeps) in
         rw (sym same) (weaker disk old lost (GivesRaised d.driver) (λ bytes. GivesEmpty 1 bytes ⊎ GivesEmpty 2 bytes) leaves (gives_empty d.driver.ledger.log empty))
 
-    -- no step was told of
+    -- no step was reported
     pub none_reported : IsEmptyLog d.driver.ledger.log → IsSettled (adopted (no_world 2)) p.reported
     none_reported empty =
         let count : settled_count p.machine.log ≡ 0 = sym (count_is d.driver p.machine at.consistent at.represents) ∙ none_settled d.driver.ledger.log empty in

@@ -1,4 +1,4 @@
--- How a store that is refused is told.
+-- How a refused store is reported.
 use Rattle.std.proofs.Common.{◌≡◌, Bool, true, Option, Some, refl, ap, inl, inr}
 use Rattle.coord_store.specs.Refused.{IsPassing as IsStorePassing, failed_in as failed_in_store}
 use Rattle.coord_store.specs.declared.faults.StoreFault.{StoreFault}

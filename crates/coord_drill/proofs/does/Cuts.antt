@@ -1,4 +1,4 @@
--- What is asked is cut short.
+-- A request is cut short.
 use Rattle.std.proofs.Common.{◌≡◌, false, Some, refl, arith}
 use Rattle.coord_disk.specs.Model.DiskModel.{DiskModel}
 use Rattle.coord_ledger.specs.Facade.{disk_held}

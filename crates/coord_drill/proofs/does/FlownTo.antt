@@ -1,4 +1,4 @@
--- What a flight makes of a drill, what is printed of it, and the tickets that stay.
+-- The effect of a flight on a drill, its output, and the remaining tickets.
 use Rattle.std.proofs.Common.{◌≡◌, ◌≢◌, ℕ, Bool, true, false, cond, List, [], ◌∷◌, drop, length, take, Option, Some, None, refl, sym, ap, ◌∙◌, arith, inl, inr, is_some}
 use Rattle.std.specs.List.{AllByRecursion}
 use Rattle.std.specs.Option.{option_map}
@@ -41,7 +41,7 @@ pub flown_by : {D : Type 0} (disk : DiskModel D) (crashes : D → D → Type 0) 
 flown_by disk crashes v out new flown.Nothing b count back begun landed = absurd back
 flown_by disk crashes v out new r b count back begun landed = leads_then disk crashes v out new (Begin ∷ []) landing_events (Begun b ∷ []) (landed_answers r count) begun landed
 
--- the departure of a flight, where a part of the rest was answered
+-- the departure of a flight, if a part of the rest was answered
 pub flown_part : {D : Type 0} (disk : DiskModel D) (crashes : D → D → Type 0) (v out : DriverState D) (b : ℕ) (lost : D) → Leads disk crashes v (Begin ∷ []) (Begun b ∷ []) out → LeadsPart disk crashes out (λ _. landing_events) lost → LeadsPart disk crashes v flight_events lost
 flown_part disk crashes v out b lost begun part =
     record {
@@ -68,7 +68,7 @@ flew_log log (flown.Failed fault) b = log
 flew : (m : Machine) (r : Flown) (b count : ℕ) → (after_run m (flight_events (flown_answers r b count)) (flown_answers r b count)).log ≡ flew_log m.log r b
 flew m r b count = grind arith
 
--- ---- the drill that goes by it
+-- ---- the drill after it
 
 module _ {D : Type 0} (disk : DiskModel D) (crashes : D → D → Type 0) (v w : DriverState D) (claims : List Claim) (all : IsHeld v.ledger claims) (count : ℕ) where
   abbrev log : Log

@@ -1,4 +1,4 @@
--- What a step that is handed in makes of a drill: its tickets, and what is printed.
+-- The effect of a submitted step on a drill: its tickets, and its output.
 use Rattle.std.proofs.Common.{◌≡◌, ◌≢◌, ℕ, true, false, List, Option, Some, [], ◌∷◌, ◌++◌, Result, Ok, Err, refl, sym, ap, ◌∙◌, subst, ◌≤◌, length, take, arith}
 use Rattle.std.specs.List.{AllByRecursion}
 use Rattle.coord_disk.specs.Model.DiskModel.{DiskModel}
@@ -22,7 +22,7 @@ use Rattle.coord_drill.proofs.does.Verdicts.{no_refusal, other_refusal}
 
 -- ---- what a ledger answers
 
--- a refusal but for lack of memory is what it says to the step
+-- a refusal other than OutOfMemory is the answer to the step
 pub refused_said : (e : Refusal) (v : Result Verdict Refusal) → RefusesStep e v → e ≢ OutOfMemory → v ≡ Err e
 refused_said e v h1 h2 = grind arith
 
@@ -40,7 +40,7 @@ pub repeated_granted : {D : Type 0} (l new : LedgerState D) (x : Step) (t : Clai
 repeated_granted {D} l new x t to =
     rw to.now (subst (IsGranted l.log) (sym to.claims) (granted_repeat l.log x to.kept to.judged))
 
--- ---- the drill then, and what is printed
+-- ---- the drill after it, and the output
 
 module _ {D : Type 0} (disk : DiskModel D) (crashes : D → D → Type 0) (d : Drill D) (w : DriverState D) (x : Step) (ready : IsReadyDrill d) where
   abbrev v : DriverState D
@@ -51,7 +51,7 @@ module _ {D : Type 0} (disk : DiskModel D) (crashes : D → D → Type 0) (d : D
   accepted_ready t tickets begins hands pushed =
       (hands.flight ∙ ready.0, pushed ∙ accepted_held v.ledger w.ledger d.tickets.items x t begins.consistent.log.within ready.1 hands.handed)
 
-  -- a step that was not accepted leaves the ledger as it was
+  -- a step that was not accepted leaves the ledger unchanged
   pub kept_ready : (tickets : List Claim) → w.flight ≡ v.flight → w.ledger ≡ v.ledger → tickets ≡ d.tickets.items → IsReadyWith w tickets
   kept_ready tickets flight same kept =
       (flight ∙ ready.0, kept ∙ ready.1 ∙ ap (λ (l : LedgerState D). claims_of (settled_world l.log) (pending l.log)) (sym same))

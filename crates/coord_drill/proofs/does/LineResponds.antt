@@ -46,7 +46,7 @@ may_fly s tickets = by_home (cannot_flush false s.log) refl
         }
 
 module _ (s : DrillState) (x : Step) where
-  -- what the machine may answer to the step and to the events after it, by what it says to the step
+  -- the possible answers of the machine to the step and to the events after it, by its verdict on the step
   may_say : (v : Result Verdict Refusal) (a : Answer) → verdict s.log x ≡ v → IsOneOf a (to_submit (accepted_count s.log + 1) v) → (es : List Event) (given : List Answer) → Answered (after_submit (machine_of s) x v a) es given → Answered (machine_of s) (event.Submit x ∷ es) (a ∷ given)
   may_say v a is one es given rest =
       rw is (one, rest)

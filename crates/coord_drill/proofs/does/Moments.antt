@@ -121,7 +121,7 @@ module _ {D : Type 0} (disk : DiskModel D) (crashes : D → D → Type 0) where
           failed = λ n has. let same : n + failed_at e a ≡ n + (failed_at e a + 0) = omega arith in subst (HasFailed disk.failures (disk_held new)) same (failed n has);
         }
 
-    -- one that leaves the disk as it is
+    -- one that leaves the disk unchanged
     pub leads_aside : IsModel disk → is_crash e ≡ false → ((s : Machine) → found_by_crash s e a ≡ s) → failed_at e a ≡ 0 → disk_held new ≡ disk_held d →
         Simulates d e a new → Leads disk crashes d (e ∷ []) (a ∷ []) new
     leads_aside laws other found none same simulates =
@@ -175,7 +175,7 @@ module _ {D : Type 0} (disk : DiskModel D) (crashes : D → D → Type 0) where
   by_asked d new given Version2 other leads = absurd (false≢true (sym other))
   by_asked d new given b other leads = leads
 
-  -- text, state and disk of a line go by the same answers
+  -- text, state and disk of a line depend on the same answers
   module _ (d new : Drill D) (a : Asked) (given : List Answer) (reported : List ℕ) where
     pub carries : is_version a ≡ false → Begins d.driver → Leads disk crashes d.driver (line_events d.holds a given) given new.driver → AllByRecursion (λ x. x ≢ Refused OutOfMemory) given →
         reported ≡ asked_lines (state_of d) a given → state_of new ≡ after_asked (state_of d) a given → Carries disk crashes d a reported new

@@ -9,7 +9,7 @@ use Rattle.coord_drill.specs.Facade.{Asked, Carries, CarriesIf, Drill, Reports, 
 use Rattle.coord_drill.proofs.does.Moments.{Survive, by_asked, is_version, leads_none}
 
 module _ {D : Type 0} (disk : DiskModel D) (crashes : D → D → Type 0) where
-  -- a line that is no event leaves the drill as it is
+  -- a line without an event leaves the drill unchanged
   still : (d new : Drill D) (a : Asked) (reported : List ℕ) → Survive disk crashes d.driver → new.driver ≡ d.driver → is_version a ≡ false → line_events d.holds a [] ≡ [] → reported ≡ asked_lines (state_of d) a [] → state_of new ≡ after_asked (state_of d) a [] → Carries disk crashes d a reported new
   still d new a reported survives driver other none printed same =
       record {

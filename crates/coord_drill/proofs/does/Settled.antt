@@ -62,7 +62,7 @@ fold_version w (s ∷ ss) = fold_version (next w s) ss ∙ same_version w s
 after_first : (w : World) (b : ℕ) (s : Step) (ss : List Step) → nat_le (w.count + 1) (fold (next w s) (take b ss)).count ≡ true
 after_first w b s ss = grind (arith, nat_tests, fold_counts (next w s) (take b ss))
 
--- what is collected is what the steps that are settled gave out
+-- the collected replies are those of the settled steps
 pub collected_are : (version : ℕ) (w : World) (b : ℕ) (steps : List Step) → collected_lines version (fold w (take b steps)).count (claims_of w steps) (releases_of (outs w (take b steps))) ≡ settled_lines version (outs w (take b steps))
 collected_are version w zero [] = refl
 collected_are version w zero (s ∷ ss) =
@@ -113,7 +113,7 @@ granted_from log before (s ∷ after) is =
       rw (sym one) (granted_from log (before ++ s ∷ []) after (is ∙ sym (append_assoc before (s ∷ []) after))),
     )
 
--- what is granted may be collected once its step is settled
+-- a granted claim may be collected once its step is settled
 pub collectable : (log : Log) (claim : Claim) → IsGranted log claim → claim.step ≤ (settled_world log).count → IsCollectable log claim
 collectable log claim granted le = record { settled = omega (arith, le, fold_counts log.base (take log.settled log.trail), length-take log.settled log.trail); granted = granted }
 
@@ -122,6 +122,6 @@ pub looked_at : (rs : List Release) → left (slice_get rs 0) (drop 1 rs) ≡ rs
 looked_at [] = refl
 looked_at (r ∷ rs) = refl
 
--- what is sent again is all of one step, 0
+-- all resent packets have step 0
 pub resent_lines : (version : ℕ) (w : World) → released_lines version 0 (resent w) ≡ output_lines version (again w)
 resent_lines version w = ap (released_lines version 0) (sym (append-nil (resent w))) ∙ own_lines version 0 (again w) [] refl

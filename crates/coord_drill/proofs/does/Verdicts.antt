@@ -13,7 +13,7 @@ use Rattle.coord_world.specs.Facade.{World, accepts, against, against_command, i
 use Rattle.coord_drill.specs.Facade.{Answer, Refusal, Refused, Repeat, Step, Verdict}
 use Rattle.coord_ledger.specs.Facade.{Log, unless_full, verdict}
 
--- Tests that compute stand for what differs from out of memory: with a world in scope `cc` costs a second each time.
+-- Computing tests distinguish an answer from out of memory: with a world in scope `cc` costs a second each time.
 abbrev is_memory : Refusal → Bool
 is_memory OutOfMemory = true
 is_memory other = false
@@ -63,7 +63,7 @@ abbrev is_refused : Answer → Bool
 is_refused (Refused e) = true
 is_refused other = false
 
--- an answer that is no refusal tells of no out of memory
+-- an answer that is not a refusal does not say out of memory
 pub no_refusal : (a : Answer) → is_refused a ≡ false → a ≢ Refused OutOfMemory
 no_refusal a other same = false≢true (sym other ∙ ap is_refused same)
 
@@ -71,6 +71,6 @@ abbrev refusal_in : Answer → Refusal
 refusal_in (Refused e) = e
 refusal_in other = OutOfMemory
 
--- a refusal for another reason tells of no out of memory
+-- a refusal for another reason does not say out of memory
 pub other_refusal : (e : Refusal) → e ≢ OutOfMemory → Refused e ≢ Refused OutOfMemory
 other_refusal e other same = other (ap refusal_in same)

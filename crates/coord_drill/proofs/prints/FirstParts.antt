@@ -5,7 +5,7 @@ use Rattle.std.proofs.KnownBytes.{Appends-kept}
 use Rattle.coord_lines.specs.Written.{IsFirstPart}
 use Rattle.coord_drill.specs.Written.{IsShortPart, WritesPart, WritesShort}
 
--- what was written to a list that was empty has P
+-- the text that was written to an empty list has P
 pub writes_list : (items : List ℕ) (P : List ℕ → Type 0) → WritesPart (Some []) (Some items) P → P items
 writes_list items P one = subst P (sym one.1) one.2
 
@@ -26,10 +26,10 @@ short_behind before text part printed is short = (short.0, is ∙ ap (λ l. befo
 pub short_longer : (part text rest : List ℕ) → IsShortPart part text → IsShortPart part (text ++ rest)
 short_longer part text rest short = (short.0 ++ rest, ap (λ l. l ++ rest) short.1 ∙ append_assoc part short.0 rest, omega (arith, length-append short.0 rest, short.2))
 
--- what is left was not written
+-- the rest was not written
 pub short_left : (a b : Option (List ℕ)) (text written rest : List ℕ) → Appends a b written → text ≡ written ++ rest → 1 ≤ length rest → WritesShort a b text
 short_left a b text written rest h split some = (written, h, (rest, split, some))
 
--- a text is cut short where a part of it was left, and a call that failed wrote none of that
+-- a text is cut short if a part of it was left, and a call that failed wrote none of that
 pub short_kept : (a b c : Option (List ℕ)) (text written rest : List ℕ) → Appends a b written → Keeps b c → text ≡ written ++ rest → 1 ≤ length rest → WritesShort a c text
 short_kept a b c text written rest h keeps split some = short_left a c text written rest (Appends-kept a b c written h keeps) split some

@@ -188,7 +188,7 @@ module _ {D : Type 0} (disk : DiskModel D) (crashes : D → D → Type 0) where
         breaks_behind c now taken.ended (lines_on now.line []) (lines_on c.line piece) t part refused.1 _ all taken.out there
         (λ p q same printed. inr (record { cause = writing; wrote = short_behind p.printed t part q.printed printed short; given_back = inl same }))
 
-  -- nor where a line failed before, and then the writer's fault is told
+  -- or if a line failed before, and then the writer's fault is reported
   pub breaks_unwritten : (c : Console D) (ls : List Line) (fault later : Fault) (lost : D) (t part : List ℕ) → IsOfWriting later → LinesBreakOff disk crashes c ls (fault, lost) t → IsShortPart part t → LinesBreakOff disk crashes c ls (later, lost) part
   breaks_unwritten c ls fault later lost t part writing breaks short = breaks_so c ls t part _ _ put breaks
     where

@@ -1,4 +1,4 @@
--- What is printed of a whole input, and which faults come of what.
+-- The output for a whole input, and the causes of faults.
 use Rattle.std.proofs.Common.{refl, ◌≡◌, ℕ, ◌+◌, List, [], ◌++◌, Option, Some, sym, ap, ◌∙◌, subst, append-nil, take, inl, inr}
 use Rattle.std.specs.Io.KnownBytes.{Consumes}
 use Rattle.std.proofs.KnownBytes.{Consumes-trans}
@@ -22,7 +22,7 @@ Consumes-none a b c seen bytes count first second e =
 -- ---- a whole input
 
 module _ {D : Type 0} (disk : DiskModel D) (crashes : D → D → Type 0) (given : D) (input : List ℕ) where
-  -- what was printed of all of it may be
+  -- the whole output is allowed
   pub ended_prints : (text : List ℕ) (last : D) → DrillEnded disk crashes given input text last → IsDrilled input text
   ended_prints text last ended =
       let lines = lines_of input in
@@ -36,7 +36,7 @@ module _ {D : Type 0} (disk : DiskModel D) (crashes : D → D → Type 0) (given
   stops_written refused q others written rest (inr (inr (inl line))) = first_part-all written q.printed rest line.wrote
   stops_written refused q others written rest (inr (inr (inr short))) = first_part-short written q.printed rest short.wrote
 
-  -- and a first part of what may be printed, where it broke off
+  -- and a prefix of an allowed output, if it broke off
   pub broke_prints : (written : List ℕ) (refused : Fault × D) → BrokeOff disk crashes given input written refused → (text : List ℕ) × IsDrilled input text × IsFirstPart written text
   broke_prints written refused broke =
       let more = prints_somehow broke.place.state (broke.place.lines + 1) broke.others in

@@ -1,4 +1,5 @@
--- What is spelled of a format is read so, whatever words stand after it, and no word of it holds a space: a law of each way of making formats.
+-- The spelling of a value is read as that value, whatever words follow it, and none of its words contains a space: a
+-- law of each way of making formats.
 use Rattle.std.proofs.Common.{◌≡◌, Bool, true, false, not, ◌&&◌, List, [], ◌∷◌, ◌++◌, length, Option, Some, None, refl, sym, ap, ◌∙◌, subst, append_assoc, arith, bytes_eq}
 use Rattle.std.specs.List.{All, AllByRecursion, position_or_len, join_with_byte}
 use Rattle.std.proofs.lemmas.Option.{none-some}
@@ -36,7 +37,7 @@ words_of-joined w (v ∷ ws) p = slice_split_at is_space w 32 (join_with_byte 32
 
 -- ---- formats
 
--- what is spelled is read so, and its words hold no space
+-- a spelling is read as its value, and its words contain no space
 pub record IsFormat {A : Type 0} (f : Format A) : Type 0 where
   pub again : (x : A) (ws rest : List Word) → f.spell x ≡ Some ws → f.read (ws ++ rest) ≡ Some (x, rest)
   pub plain : (x : A) (ws : List Word) → f.spell x ≡ Some ws → ArePlain ws
@@ -78,7 +79,7 @@ module _ {A B : Type 0} (f : Format A) (g : Format B) (first : IsFormat f) (seco
   pub and_format : IsFormat (f & g)
   and_format = record { again = λ p ws rest e. and_again p ws rest _ _ refl refl e; plain = λ p ws e. and_plain p ws _ _ refl refl e }
 
--- a value by its parts, where it is made of the parts that it gives
+-- a value from its parts, if it is made of the parts that it yields
 module _ {A B : Type 0} (make : A → B) (parts : B → Option A) (f : Format A) (format : IsFormat f) (h : (y : B) (x : A) → parts y ≡ Some x → make x ≡ y) where
   made_again : (y : B) (ws rest : List Word) (o : Option A) → parts y ≡ o → (o >>= f.spell) ≡ Some ws → (made make parts f).read (ws ++ rest) ≡ Some (y, rest)
   made_again y ws rest None e1 e = absurd (none-some ws e)

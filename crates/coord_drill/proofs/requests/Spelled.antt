@@ -1,4 +1,4 @@
--- What is spelled of a line, a request, a command or a field is read so.
+-- The spelling of a line, a request, a command or a field is read as that.
 use Rattle.std.proofs.Common.{◌≡◌, ℕ, ◌<◌, List, [], ◌∷◌, length, ap, sym, ◌∙◌, arith, Bool, true, false, Option, None, refl, cond, Some, map, bytes_eq, ◌+◌, ◌^◌, not, ltb, leb, ◌&&◌, ◌++◌, decimal, subst, codes, ◌==◌, if◌then◌else◌, append-nil}
 use Rattle.std.specs.List.{position_or_len, before_first, after_first, AllByRecursion, join_with_byte}
 use Rattle.std.proofs.lemmas.List.Splits.{slice_split_first, slice_split_none}
@@ -10,7 +10,7 @@ use Rattle.std.proofs.lemmas.Bool.{ne_eqb}
 use Rattle.std.proofs.lemmas.Bool.Decides.{nat_tests}
 use Rattle.std.proofs.lemmas.Fmt.{decimal_is_IsNumeral}
 use Rattle.std.proofs.lemmas.Grind.{common_steps}
-use Rattle.std.proofs.lemmas.Str.Parse.{numerals_by_value, recognizes_all_ascii_digits}
+use Rattle.std.proofs.lemmas.Str.Parse.{numerals_by_value, tells_all_ascii_digits}
 use Rattle.std.proofs.lemmas.Option.{none-some}
 use Rattle.coord_drill.specs.Grammar.{is_space, words_of, next_row, distance, number_of, up_to, number, number_to, node, group, client, commands, messages, order_fields, data_fields, receipt_fields, version_fields, other_requests, requests, request_of, spelled, all_read}
 use Rattle.coord_drill.specs.Drilled.{parsed}
@@ -57,7 +57,7 @@ read_by_next (row ∷ rows) verb ws = by_verb (λ p. Next p.0) (bytes_eq verb ro
 digits_plain : (w : Word) → all_ascii_digits w ≡ true → IsPlain w
 digits_plain [] e = refl
 digits_plain (c ∷ cs) e =
-    let k = recognizes_all_ascii_digits.parts c cs e in
+    let k = tells_all_ascii_digits.parts c cs e in
     let other : is_space c ≡ false = ne_eqb c 32 (λ f. omega (arith, k.0)) in
     ap (λ b. cond (not b) (1 + position_or_len is_space cs) 0) other ∙ omega (arith, digits_plain cs k.1)
 
@@ -66,11 +66,11 @@ number_is : (d : Word) (n : ℕ) → all_ascii_digits d ≡ true → 0 < length 
 unfolding number_of
 number_is d n digits some value below = grind (arith, common_steps)
 
--- what is printed of a number is read as it
+-- a printed number is read as that number
 decimal_is : (n : ℕ) → n < 2 ^ 64 → (number_of (decimal n) ≡ Some n) × IsPlain (decimal n)
 decimal_is n below =
     let numeral = decimal_is_IsNumeral n below in
-    let digits : all_ascii_digits (decimal n) ≡ true = (numerals_by_value _ recognizes_all_ascii_digits).from (decimal n) numeral.0.1 in
+    let digits : all_ascii_digits (decimal n) ≡ true = (numerals_by_value _ tells_all_ascii_digits).from (decimal n) numeral.0.1 in
     (number_is (decimal n) n digits numeral.0.0 numeral.1 below, digits_plain (decimal n) digits)
 
 -- a number of 64 bits
@@ -166,7 +166,7 @@ confirm_parts : (y : Command) (x : ℕ × ℕ) → (elim y [ Confirm u e ↦ Som
 confirm_parts (Confirm u n) x e = made_of (λ p. Confirm p.0 p.1) (u, n) x e
 confirm_parts _ x e = absurd (none-some x e)
 
--- the verbs of commands differ, and each row is read as it is spelled
+-- the verbs of commands differ, and each row's spelling is read as that row
 pub commands_table : IsTable commands
 unfolding commands
 commands_table = record {
@@ -214,7 +214,7 @@ ready_parts : (y : Msg) (x : Unit {0}) → (elim y [ Ready ↦ Some tt | _ ↦ N
 ready_parts Ready x e = refl
 ready_parts _ x e = absurd (none-some x e)
 
--- the names of messages differ, and each row is read as it is spelled
+-- the names of messages differ, and each row's spelling is read as that row
 messages_table : (version : ℕ) → IsTable (messages version)
 unfolding messages
 messages_table version = record {

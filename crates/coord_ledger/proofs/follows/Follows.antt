@@ -39,13 +39,13 @@ module _ {D : Type 0} (d : DriverState D) (s : Machine) (is : IsConsistent s) (r
   pub verdict_is : (x : Step) → verdict d.ledger.log x ≡ verdict s.log x
   verdict_is x = ap (λ g. verdict g x) (log_rebased d s represents) ∙ rebased_verdict s.log represents.by represents.within is.log x
 
-  -- ---- where it begins
+  -- ---- the beginning
 
   -- the driver's log is the machine's, where their bases are the same
   pub log_is : d.ledger.log.base ≡ s.log.base → d.ledger.log ≡ s.log
   log_is same = grind (arith, nat_tests, log_rebased, count_after)
 
-  -- the driver's log is what is after the machine's settled steps, where none of its own is settled
+  -- the driver's log is the part after the machine's settled steps, if none of its own steps is settled
   pub log_behind : d.ledger.log.settled ≡ 0 → d.ledger.log ≡ rebased s.log s.log.settled
   log_behind none = grind (arith, nat_tests, log_rebased)
 

@@ -11,7 +11,7 @@ use Rattle.coord_ledger.proofs.follows.Granted.{granted_back, granted_later, gra
 use Rattle.coord_ledger.proofs.machine.ConsistentSteps.{reply_is}
 use Rattle.coord_ledger.proofs.Simulates.{represents_allowed, represents_to}
 
--- what is held beside a driver with this log is the machine's
+-- the holder's lists beside a driver with this log are the machine's
 abbrev Keeps : Log → List (Option Claim) → ℕ → List Release → Machine → Type 0
 Keeps log claims seen released t = HoldsTickets log claims t.tickets × ((seen ≡ t.seen) × (released ≡ t.released))
 
@@ -25,7 +25,7 @@ module _ {D : Type 0} (h : Run D) (s : Machine) (is : IsConsistent s) (follows :
     follows = record { represents = represents_to d new.driver s is follows.represents e a simulates; tickets = keeps.0; seen = keeps.1.0; released = keeps.1.1 };
   }
 
-  -- where the log stays
+  -- if the log stays
   same : (log : Log) → log ≡ d.ledger.log → Keeps log h.tickets.items h.seen h.released.items s
   same log now = (rw now follows.tickets, (follows.seen, follows.released))
 
@@ -103,7 +103,7 @@ module _ {D : Type 0} (h : Run D) (s : Machine) (is : IsConsistent s) (follows :
   -- ---- a flight comes back
 
   module _ (new : DriverState D) (releases : List Release) (given : releases ≡ settling_releases d.ledger.log (new.ledger.log.settled - d.ledger.log.settled)) where
-    -- where no step is settled, none is released
+    -- if no step is settled, none is released
     unsettled : HoldsTickets new.ledger.log h.tickets.items s.tickets → new.ledger.log.settled ≡ d.ledger.log.settled → Keeps new.ledger.log h.tickets.items h.seen (h.released.items ++ releases) s
     unsettled tickets now =
         let none : new.ledger.log.settled - d.ledger.log.settled ≡ 0 = omega (arith, now) in
@@ -140,7 +140,7 @@ module _ {D : Type 0} (h : Run D) (s : Machine) (is : IsConsistent s) (follows :
       follows_landed released pushed =
           follows_by (record h { driver = new; released = released }) Finish (Finished count) simulates (landed.0, (landed.1.0, pushed ∙ landed.1.1))
 
-  -- a flight that is not taken back leaves the machine as it is
+  -- a flight that is not taken back leaves the machine unchanged
   pub follows_not_landed : (new : DriverState D) (a : Answer) → ((t : Machine) → after t Finish a ≡ t) → Simulates d Finish a new → FollowsTo s Finish a (record h { driver = new })
   follows_not_landed new a stays simulates =
       follows_by (record h { driver = new }) Finish a simulates (subst (Keeps new.ledger.log h.tickets.items h.seen h.released.items) (sym (stays s)) (same new.ledger.log (ap (λ (m : Machine). m.log) (simulates.leaves s ∙ stays (machine_of d s)))))

@@ -23,7 +23,7 @@ module _ {D : Type 0} (h : Run D) (s : Machine) (is : IsConsistent s) (follows :
         released = all;
       }
 
-  -- whatever an event leaves as it was, with the tickets put back
+  -- the parts that an event leaves unchanged, with the tickets put back
   stays : (claims : Vec (Option Claim) Global) → claims.items ≡ h.tickets.items → (e : Event) (a : Answer) → IsOneOf a (answers s e) → after s e a ≡ s → FollowsTo s e a (record h { tickets = claims })
   stays claims same e a allowed left = record {
     allowed = allowed;

@@ -70,7 +70,7 @@ listed-drop zero vs = refl
 listed-drop (suc n) [] = refl
 listed-drop (suc n) (x ∷ vs) = listed-drop n vs
 
--- with the vector that stands at a place
+-- with the vector at a place
 pub listed_more : (vs : List (Vec Output Global)) (i : ℕ) (v : Vec Output Global) → i < length vs → v ≡ get_or vs i v → take (i + 1) (listed vs) ≡ take i (listed vs) ++ v.items ∷ []
 listed_more vs i v below is = sym (listed-take (i + 1) vs) ∙ ap listed (take-push vs i v below is) ∙ listed-push (take i vs) v ∙ ap (λ l. l ++ v.items ∷ []) (listed-take i vs)
 
@@ -85,7 +85,7 @@ pub slice_get-middle : {A : Type 0} (xs ys : List A) (x : A) → slice_get (xs +
 slice_get-middle [] ys x = refl
 slice_get-middle (y ∷ xs) ys x = slice_get-middle xs ys x
 
--- the reply that stands at a place is that to the step there
+-- the reply at a place is that to the step there
 reply_at : (w : World) (steps : List Step) (i : ℕ) (q : StepOutcome) (s : Step) → slice_get (outs w steps) i ≡ Some q → slice_get steps i ≡ Some s → reply (fold w (take i steps)) s ≡ q.reply
 reply_at w [] i q s given there = cc
 reply_at w (x ∷ xs) zero q s given there =
@@ -183,13 +183,13 @@ holds_at log (c ∷ cs) (t ∷ ts) (suc i) holds = holds_at log cs ts i holds.1
 
 -- ---- replies
 
--- what has an element has a place for it
+-- each element of a list has a place
 within : {A : Type 0} (xs : List A) (i : ℕ) (x : A) → slice_get xs i ≡ Some x → i < length xs
 within [] i x there = cc
 within (y ∷ ys) zero x there = omega arith
 within (y ∷ ys) (suc i) x there = omega (arith, within ys i x there)
 
--- the claim's step stands at this place after the base, settled, and was answered with the claim's kind
+-- the claim's step is at this place after the base, settled, and was answered with the claim's kind
 pub record StandsAt (log : Log) (claim : Claim) (place : ℕ) : Type 0 where
   pub number : claim.step ≡ log.base.count + place + 1
   pub settled : place < log.settled

@@ -50,7 +50,7 @@ module _ {D : Type 0} where
     pub own_steps : length steps ≡ out → IsOut (ledger_of log out store) (flight_of first steps world mark kept) → steps ≡ take out (drop log.settled log.trail)
     own_steps size own = own.steps ∙ ap (λ n. take n (pending log)) size
 
-  -- ---- what it releases
+  -- ---- its releases
 
   module _ (log : Log) (kinds : List Kind) (front settled : World) (out : ℕ) (store : Option (Kept D)) (f : FlightState D) (own : IsOut (ledger_of log out store) f) where
     -- each step of the flight has given something out

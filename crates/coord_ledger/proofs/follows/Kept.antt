@@ -38,12 +38,12 @@ away_with log s out away = grind (arith, nat_tests, length-append)
 length_next : (xs : List Step) → length (take MAX_BATCH_STEPS xs) ≤ MAX_BATCH_STEPS
 length_next xs = omega (arith, length-take MAX_BATCH_STEPS xs)
 
--- what is given out with one step more
+-- the outputs with one more step
 given_with : (log : Log) (s : Step) (given : List (List Output)) (front : World) → log.settled ≤ length log.trail → IsConsistentLog log → given ≡ outputs_of (settled_world log) (pending log) → front ≡ front_world log
     → given ++ outputs front s ∷ [] ≡ outputs_of (settled_world (with_step log s)) (pending (with_step log s))
 given_with log s given front le is same led = grind (arith, nat_tests, front_is, outputs_of-push, pending_with, take-append-le)
 
--- what is left to give out once the next n steps are settled
+-- the outputs that remain once the next n steps are settled
 given_behind : (log : Log) (n : ℕ) (given : List (List Output)) → given ≡ outputs_of (settled_world log) (pending log) → drop n given ≡ outputs_of (settled_world (with_settled log n)) (pending (with_settled log n))
 given_behind log n given same = grind (arith, nat_tests, outputs_of-drop, world-add, drop-drop)
 
@@ -149,7 +149,7 @@ module _ {D : Type 0} where
       → AllFresh settled settled steps
   fresh_next log kinds given front settled out store steps is same = grind (arith, nat_tests, fresh_first)
 
-  -- the next steps, where no others are after them, lead to the front
+  -- the next steps, if there are no others after them, lead to the front
   pub front_behind : (log : Log) (kinds : List Kind) (given : List (List Output)) (front settled : World) (out : ℕ) (store : Option (Kept D)) (steps : List Step) → IsLedger log kinds given front settled out store → steps ≡ take (length steps) (pending log)
       → length steps ≡ length (pending log) → front ≡ fold (settled_world log) steps
   front_behind log kinds given front settled out store steps is same all =

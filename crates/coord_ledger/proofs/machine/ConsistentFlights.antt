@@ -21,7 +21,7 @@ all_begin s is = grind (arith, nat_tests, by_test, length-drop, stays_flight)
 pub all_commit : (s : Machine) (f : Option FlightOut) → IsConsistent s → AllByRecursion (λ a. IsConsistent (after s Commit a)) (with_flight f (λ g. to_commit g.mark))
 all_commit s f h1 = grind (arith, nat_tests, stays_flight)
 
--- where a flight is out, nothing is in doubt
+-- if a flight is out, nothing is in doubt
 pub no_doubt : (log : Log) (f : FlightOut) (o : Option ℕ) → DoubtFits log (Some f) o → o ≡ None
 no_doubt log f None fits = refl
 no_doubt log f (Some b) fits = absurd fits

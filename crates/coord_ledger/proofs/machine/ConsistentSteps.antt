@@ -1,4 +1,5 @@
--- The machine stays consistent as steps are accepted, collected, sent again and shown, and what was released and collected stays true.
+-- The machine stays consistent as steps are accepted, collected, sent again and shown, and its releases and collected
+-- replies stay true.
 use Rattle.std.proofs.Common.{◌≡◌, ℕ, ◌+◌, ◌≤◌, List, [], ◌∷◌, ◌++◌, map, length, take, drop, sym, ap, ◌∙◌, subst, arith, ◌==◌, not, All, zero, suc, Option, Some, None, Ok, Err, refl, cond, nat_le, Result}
 use Rattle.std.specs.List.{AllByRecursion}
 use Rattle.std.proofs.Math.Seq.{take-add}
@@ -15,13 +16,13 @@ use Rattle.coord_ledger.proofs.machine.SignalsOnce.{again_bound, again_is_new, a
 use Rattle.coord_ledger.proofs.machine.Replies.{reply_first, reply_later, kept_reply, reply_last}
 use Rattle.coord_ledger.proofs.machine.Verdicts.{verdict_accepts, verdict_repeats}
 
--- ---- what was told
+-- ---- releases and replies
 
 -- more steps are settled, and nothing more is released
 once_later : (w : World) (trail : List Step) (d b : ℕ) (given : List Release) → IsPartOf (released_first given) (releases_of (outs w (take d trail))) → IsPartOf (released_first given) (releases_of (outs w (take (d + b) trail)))
 once_later w trail d b given part = grind (arith, nat_tests, take-add, released_both, part_before)
 
--- more steps are settled, and what they give out is released
+-- more steps are settled, and their outputs are released
 once_settled : (w : World) (trail : List Step) (d b : ℕ) (given : List Release) → IsPartOf (released_first given) (releases_of (outs w (take d trail))) →
     IsPartOf (released_first (given ++ releases_of (outs (fold w (take d trail)) (take b (drop d trail))))) (releases_of (outs w (take (d + b) trail)))
 once_settled w trail d b given part =
@@ -36,13 +37,13 @@ once_again : (given more : List Release) (all : List Release) → released_first
 once_again given more all none part =
     rw (filter-append (λ (r : Release). not (r.step == 0)) given more ∙ ap (λ l. released_first given ++ l) none ∙ append-nil (released_first given)) part
 
--- what was sent again stays true as more steps are settled
+-- resent packets stay true as more steps are settled
 pub again_later : (w : World) (trail : List Step) (d e : ℕ) (rs : List Release) → d ≤ e →
     AllByRecursion (λ r. r.step ≡ 0 → IsReleased w (take d trail) r.output) rs → AllByRecursion (λ r. r.step ≡ 0 → IsReleased w (take e trail) r.output) rs
 again_later w trail d e [] le all = tt
 again_later w trail d e (r ∷ rs) le all = ((λ none. released_grows w trail d e r.output le (all.0 none)), again_later w trail d e rs le all.1)
 
--- what has the number of a step wasn't sent again
+-- a release with the number of a step wasn't sent again
 never_again : (n : ℕ) (P : Output → Type 0) (os : List Output) → AllByRecursion (λ (r : Release). r.step ≡ 0 → P r.output) (map (release_of (n + 1)) os)
 never_again n P [] = tt
 never_again n P (o ∷ os) = ((λ none. let no : ⊥ = omega (arith, none) in absurd no), never_again n P os)
@@ -52,7 +53,7 @@ never_settling w [] P = tt
 never_settling w (s ∷ ss) P =
     all_both (λ (r : Release). r.step ≡ 0 → P r.output) (map (release_of (w.count + 1)) (outputs w s)) (releases_of (outs (next w s) ss)) (never_again w.count P (outputs w s)) (never_settling (next w s) ss P)
 
--- what is sent again is released
+-- resent packets are released
 again_all : (P : Output → Type 0) (os : List Output) → All P os → AllByRecursion (λ (r : Release). r.step ≡ 0 → P r.output) (map (release_of 0) os)
 again_all P [] all = tt
 again_all P (o ∷ os) all = ((λ _. All-head P o os all), again_all P os (All-tail P o os all))
@@ -62,7 +63,7 @@ truly_later : (w : World) (trail : List Step) (d b : ℕ) (rs : List Reply) → 
 truly_later w trail d b [] all = tt
 truly_later w trail d b (r ∷ rs) all = (rw (take-add d b trail) (reply_later w (take d trail) (take b (drop d trail)) r all.0), truly_later w trail d b rs all.1)
 
--- what was told of a log is true of a longer one with the same settled steps
+-- what is true of a log is true of a longer one with the same settled steps
 pub returned_same : (log new : Log) (released : List Release) (replied : List Reply) → new.base ≡ log.base → new.settled ≡ log.settled → settled_steps new ≡ settled_steps log → IsReturned log released replied → IsReturned new released replied
 returned_same log new released replied base settled steps returned =
     let count : settled_count new ≡ settled_count log = λ i. (base i).count + settled i in
@@ -74,7 +75,7 @@ returned_same log new released replied base settled steps returned =
       truly = subst (λ (p : World × List Step). AllByRecursion (IsReplyOf p.0 p.1) replied) (sym (λ i. (base i, steps i))) returned.truly;
     }
 
--- what was told of a log is true once b more steps are settled
+-- what is true of a log is true once b more steps are settled
 pub returned_settled : (log : Log) (b : ℕ) (released : List Release) (replied : List Reply) → IsReturned log released replied → IsReturned (with_settled log b) released replied
 returned_settled log b released replied returned =
     let le : settled_count log ≤ settled_count (with_settled log b) = omega arith in
@@ -86,7 +87,7 @@ returned_settled log b released replied returned =
       truly = truly_later log.base log.trail log.settled b replied returned.truly;
     }
 
--- what was told of a log is true once b more steps are settled and what they give out is released
+-- what is true of a log is true once b more steps are settled and their outputs are released
 pub returned_releasing : (log : Log) (b : ℕ) (released : List Release) (replied : List Reply) → log.settled + b ≤ length log.trail → IsReturned log released replied → IsReturned (with_settled log b) (released ++ settling_releases log b) replied
 returned_releasing log b released replied le returned =
     let later = returned_settled log b released replied returned in

@@ -1,10 +1,10 @@
--- Lists: what holds of all items, and parts of lists.
+-- Lists: predicates on all items, and parts of lists.
 use Rattle.std.proofs.Common.{ℕ, ◌≤◌, List, [], ◌∷◌, ◌++◌, map, inl, inr, refl, ap, subst, sym, arith}
 use Rattle.std.proofs.lemmas.List.{append-nil}
 use Rattle.std.specs.List.{AllByRecursion}
 use Rattle.coord_ledger.specs.Facade.{IsOneOf, IsPartOf}
 
--- what holds of all items holds of each
+-- a predicate on all items holds for each
 pub each_one : {A : Type 0} (P : A → Type 0) (xs : List A) (a : A) → IsOneOf a xs → AllByRecursion P xs → P a
 each_one P [] a one all = absurd one
 each_one P (x ∷ xs) a (inl same) all = subst P (sym same) all.0

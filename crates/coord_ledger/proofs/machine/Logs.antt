@@ -44,7 +44,7 @@ fresh_first zero xs settled w all = tt
 fresh_first (suc n) [] settled w all = tt
 fresh_first (suc n) (x ∷ xs) settled w all = (all.0, fresh_first n xs settled (next w x) all.1)
 
--- what is fresh with a world as settled is fresh once the first a steps are settled too
+-- a step that is fresh with a world as settled is fresh once the first a steps are settled too
 later_settled : (w : World) (a : ℕ) (done rest : List Step) → a ≤ length done → IsTrail w (done ++ rest) → AllFresh w (fold w done) rest → AllFresh (fold w (take a done)) (fold w done) rest
 later_settled w a done [] le trail fresh = tt
 later_settled w a done (s ∷ rest) le trail fresh =

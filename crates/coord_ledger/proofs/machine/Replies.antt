@@ -28,7 +28,7 @@ kinds_of-length (x ∷ xs) w = ap suc (kinds_of-length xs (next w x))
 abbrev replies : World → List Step → List Reply
 replies w steps = map (λ q. q.reply) (outs w steps)
 
--- what stands at a place is one of the items
+-- the element at a place is one of the items
 one_at : {A B : Type 0} (f : A → B) (xs : List A) (i : ℕ) (x : A) → slice_get xs i ≡ Some x → IsOneOf (f x) (map f xs)
 one_at f [] i x is = cc
 one_at f (y ∷ ys) zero x is = inl (let same : x ≡ y = cc is in ap f same)

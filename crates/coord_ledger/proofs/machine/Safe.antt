@@ -1,4 +1,4 @@
--- What follows where the machine is consistent.
+-- Consequences of the machine's invariant.
 use Rattle.std.proofs.Common.{◌≡◌, ℕ, ◌+◌, ◌≤◌, List, length, Option, refl, arith}
 use Rattle.std.proofs.lemmas.Bool.Decides.{nat_tests}
 use Rattle.coord_ledger.specs.Facade.{DoubtFits, FlightOut, GivesOneOf, IsConsistent, Machine, Release, Reply, Survives, finished, kept, kept_by, settled_count, world_after}

@@ -31,7 +31,7 @@ finish_keeps s (Some f) = after_keeps s f.size f.mark
 keeps_finish : (s : Machine) (m : Mark) (b : ℕ) → AllByRecursion (λ a. KeepsSettled s (after s Finish a)) (to_finish (settled_count s.log) b m)
 keeps_finish s m b = grind (arith, nat_tests, finish_keeps, same)
 
--- where a flight is out
+-- if a flight is out
 keeps_flight : (s : Machine) (e : Event) (f : Option FlightOut) (given : FlightOut → List Answer) → KeepsSettled s (after s e NoFlight) → ((g : FlightOut) → AllByRecursion (λ a. KeepsSettled s (after s e a)) (given g)) → AllByRecursion (λ a. KeepsSettled s (after s e a)) (with_flight f given)
 keeps_flight s e None given none all = (none, tt)
 keeps_flight s e (Some f) given none all = all f

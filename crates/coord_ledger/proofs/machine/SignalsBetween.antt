@@ -18,7 +18,7 @@ module _ (a b v : ℕ) where
   abbrev pub count_within : List Release → ℕ
   count_within = count_by (is_signal_within a b v)
 
-  -- of the outputs of one step, at most its signals, and none where the step is not between
+  -- of the outputs of one step, at most its signals, and none if the step is not between
   of_outputs : (n : ℕ) (os : List Output) → count_within (map (release_of n) os) ≤ count_by (is_signal_of v) os
   of_outputs n [] = omega arith
   of_outputs n (o ∷ os) =
@@ -68,7 +68,7 @@ module _ (a b v : ℕ) where
       let none_after = later_none rest (fold w between) (omega (arith, to, from, count, count_after)) in
       omega (arith, first, second, none_before, none_after, at_most between w)
 
-  -- what is sent again is of no step
+  -- resent packets are of no step
   of_first : (rs : List Release) → count_within rs ≤ count_within (released_first rs)
   of_first [] = omega arith
   of_first (r ∷ rs) =

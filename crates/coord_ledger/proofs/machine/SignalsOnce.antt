@@ -37,7 +37,7 @@ none_above w [] m le = tt
 none_above w (s ∷ ss) m le =
     all_both (λ r. r.step ≤ m) (map (release_of (w.count + 1)) (outputs w s)) (releases_of (outs (next w s) ss)) (of_one (w.count + 1) m (outputs w s) (omega (arith, le))) (none_above (next w s) ss m (omega (arith, le)))
 
--- what is sent again has no number
+-- resent packets have no number
 pub again_is_new : (os : List Output) → released_first (map (release_of 0) os) ≡ []
 again_is_new [] = refl
 again_is_new (o ∷ os) = again_is_new os
@@ -88,7 +88,7 @@ step_signals w (Clear p) v fresh = omega arith
 abbrev signal_in : ℕ → ℕ → Release → ℕ
 signal_in n u r = cond (is_signal n u r) 1 0
 
--- of outputs of one step, at most its signals, and none where it is another step
+-- of outputs of one step, at most its signals, and none if it is another step
 of_outputs : (n u m : ℕ) (os : List Output) → count_by (is_signal n u) (map (release_of m) os) ≤ count_by (is_signal_of u) os
 of_outputs n u m [] = omega arith
 of_outputs n u m (o ∷ os) =
@@ -120,7 +120,7 @@ all_signals n u w (s ∷ ss) each =
       | inr far ↦ omega (arith, split n u w s ss, of_others n u (w.count + 1) (outputs w s) far, all_signals n u (next w s) ss each.1)
     ]
 
--- ---- what was released
+-- ---- releases
 
 -- a part has no more
 abbrev weight : {A : Type 0} → (A → Bool) → A → ℕ
@@ -134,7 +134,7 @@ in_part p (x ∷ xs) (y ∷ ys) (inl same) =
     omega (arith, one, in_part p xs ys same.1, sum_by-cons (weight p) x xs, sum_by-cons (weight p) y ys)
 in_part p (x ∷ xs) (y ∷ ys) (inr part) = omega (arith, in_part p (x ∷ xs) ys part, sum_by-cons (weight p) y ys)
 
--- what is sent again is of no step
+-- resent packets are of no step
 of_first : (n u : ℕ) (rs : List Release) → 1 ≤ n → count_by (is_signal n u) rs ≤ count_by (is_signal n u) (released_first rs)
 of_first n u [] le = omega arith
 of_first n u (r ∷ rs) le =

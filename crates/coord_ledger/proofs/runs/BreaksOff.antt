@@ -10,7 +10,7 @@ use Rattle.coord_ledger.proofs.runs.SoFar.{Holds, LoopInvariant, event_promised,
 
 -- ---- within an event
 
--- some of what it releases was released, and some not
+-- some of its releases were made, and some not
 pub cut_within : {D : Type 0} (h : Run D) (s : Machine) (e : Event) (a : Answer) (released more rest : List Release) → Follows h s → IsOneOf a (answers s e) → released ≡ h.released.items ++ more → (after s e a).released ≡ released ++ rest → 1 ≤ length rest → IsLeftOut s e released
 cut_within h s e a released more rest follows allowed begins ends some =
     record { answer = a; allowed = allowed; more = more; rest = rest; begins = begins ∙ ap (λ l. l ++ more) follows.released; ends = ends; some = some }
@@ -23,7 +23,7 @@ committed None o is none = absurd none
 committed (Some f) o is good = (length f.steps, sym is ∙ ap (λ m. Some (record { size = length f.steps; mark = m })) good)
 
 module _ {D : Type 0} (model : DiskModel D) (crashes : D → D → Type 0) where
-  -- for lack of memory, with the disk as it is held
+  -- out of memory, with the disk as it is held
   given_up : (on : Bool) (first lost : D) (start : LedgerState D) (events : List Event) (given : List Answer) (h : Run D) (kind : RunFaultKind) (released : List Release) → (all : Holds model crashes on first start events given h) → kind ≡ OutOfMemory → released ≡ h.released.items → disk_held h.driver ≡ Some lost →
       IsGivenUp (run (started start) events given) kind released all.so_far.disk lost
   given_up on first lost start events given h kind released all memory kept there = record { memory = memory; released_is = kept ∙ all.follows.released; same = let same : lost ≡ all.so_far.disk = cc (there, all.so_far.holds) in same }

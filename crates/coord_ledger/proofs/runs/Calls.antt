@@ -16,7 +16,7 @@ use Rattle.coord_ledger.proofs.runs.EachMoment.{commit_answer}
 
 -- ---- flight and disk
 
--- a flight goes out exactly where the store leaves home
+-- a flight goes out exactly when the store leaves home
 pub record Departs {D : Type 0} (l left : LedgerState D) (f : FlightState D) : Type 0 where
   pub goes : keeps_store l ≡ false
   pub is : f ≡ next_flight l.log f.disk
@@ -53,7 +53,7 @@ module _ {D : Type 0} (l new : LedgerState D) (f : FlightState D) (taken : new �
   pub gave : IsOut l f → releases_in f f.mark ≡ settling_releases l.log (new.log.settled - l.log.settled)
   gave own = grind (arith, nat_tests)
 
--- ---- where a step is handed in they stay
+-- ---- a submitted step leaves them
 
 -- a flight that is out stays the ledger's own while a step is accepted
 pub own_later : {D : Type 0} (l : LedgerState D) (x : Step) (f : Option (FlightState D)) → IsConsistentLog l.log → HoldsFlight l f → HoldsFlight (with_accepted l x) f
@@ -134,7 +134,7 @@ failed_committing failures o p d e r a n there now is says so = grind (arith, na
 pub failed_aside : {D : Type 0} (failures : D → ℕ) (o p : Option D) (e what : Event) (a : Answer) (n : ℕ) → e ≡ what → failed_at what a ≡ 0 → p ≡ o → HasFailed failures o n → HasFailed failures p (n + failed_at e a)
 failed_aside failures o p e what a n event none same so = grind (arith, nat_tests, failed_as, failed_same)
 
--- for lack of memory the disk is given back as it is
+-- out of memory: the disk is returned unchanged
 pub failed_giving_up : {D : Type 0} (failures : D → ℕ) (o : Option D) (lost : D) (kind : RunFaultKind) (n : ℕ) → o ≡ Some lost → kind ≡ OutOfMemory → HasFailed failures o n → failures lost ≡ n + failed_in_run kind
 failed_giving_up failures o lost kind n there memory so = grind (arith, nat_tests, failed_so)
 
@@ -155,7 +155,7 @@ spent_is [] i = refl
 spent_is (t ∷ ts) zero = refl
 spent_is (t ∷ ts) (suc i) = ap (λ l. t ∷ l) (spent_is ts i)
 
--- an element that is set to what it was
+-- an element that is set to its old value
 pub set_same : {A : Type 0} (ts : List A) (i : ℕ) (t : A) → t ≡ slice_index_or ts i t → slice_set ts i t ≡ ts
 set_same ts i t is = ap (slice_set ts i) is ∙ set-get_or ts i t
 

@@ -18,7 +18,7 @@ use Rattle.coord_ledger.proofs.machine.Safe.{given_survives, kept_is_safe}
 
 -- ---- a commit
 
--- while a new flight is committed, the machine is consistent as it is once the device has failed
+-- while a new flight is committed, the machine is consistent with the state after a failure of the device
 torn_is_consistent : (s : Machine) (b : ℕ) → IsConsistent s → s.flight ≡ Some (record { size = b; mark = New }) → IsConsistent (after s Commit (Failed fault.Device))
 torn_is_consistent s b is out = grind (arith, nat_tests, stays_consistent)
 
@@ -118,7 +118,7 @@ module _ {D : Type 0} (model : DiskModel D) (crashes : D → D → Type 0) where
       its_disk : disk_held d ≡ Some f.disk
       its_disk = ap (disk_with d.ledger.disk) holds
 
-      -- at each moment of it a crash left only what has P
+      -- at each moment of it a crash left only images that have P
       leaves : (found : Machine) (P : List ℕ → Type 0) → (model.keeps_model f.disk ≡ true → LeavesOnly model f.disk g.disk P) → ((bytes : List ℕ) → P bytes → Survives found bytes) → DiskEffect model crashes found true Commit (disk_held d) (disk_held new)
       leaves found P moments each old there =
           let same : f.disk ≡ old = cc (its_disk, there) in
@@ -131,7 +131,7 @@ module _ {D : Type 0} (model : DiskModel D) (crashes : D → D → Type 0) where
             };
           }
 
-      -- the flight was left as it was
+      -- the flight was left unchanged
       alone : g ≡ f → DiskEffect model crashes s false Commit (disk_held d) (disk_held new)
       alone same = kept_untouched s false Commit (disk_held d) (disk_held new) refl (now ∙ ap (λ (x : FlightState D). Some x.disk) same ∙ sym its_disk) survives
 
@@ -168,14 +168,14 @@ module _ {D : Type 0} (model : DiskModel D) (crashes : D → D → Type 0) where
       DiskEffect model crashes (found_by_crash s Commit said) (touches_disk Commit said) Commit was new → DiskEffect model crashes (found_by_crash s e a) (touches_disk e a) e was now
   answered_commit s e said answer a was now new event says ok is touches = grind (arith, nat_tests)
 
-  -- the disk is given back as it was held
+  -- the disk is returned as it was held
   pub lost_as_it_was : (s : Machine) (e : Event) (kind : RunFaultKind) (was : Option D) (lost : D) → is_crash e ≡ false → was ≡ Some lost → IsLost model crashes s e kind was lost
   lost_as_it_was s Crash kind was lost other there old holds = let no : ⊥ = cc in absurd no
   lost_as_it_was s e kind was lost other there old holds = cc
 
   -- ---- a crash
 
-  -- what has P has Q
+  -- P implies Q
   pub reopens_more : (P Q : List ℕ → Type 0) (old new : D) → Reopens model crashes P old new → ((bytes : List ℕ) → P bytes → Q bytes) → Reopens model crashes Q old new
   reopens_more P Q old new h1 h2 = grind (arith, nat_tests)
 

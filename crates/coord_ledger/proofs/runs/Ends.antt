@@ -14,7 +14,7 @@ use Rattle.coord_ledger.proofs.machine.SignalsOnce.{signals_once}
 
 -- ---- the flight that was out comes back
 
--- with its store at home, a ledger is where the machine is
+-- with its store at home, a ledger agrees with the machine
 is_back : {D : Type 0} (d : DriverState D) (s : Machine) → IsConsistent s → Represents d s → Represents (at_home (brought_home d.ledger d.flight)) (ended s)
 is_back d s h1 h2 = grind (arith, nat_tests, flight_is, represents_to, simulates_back)
 
@@ -37,7 +37,7 @@ home_images l s keeps_model present is back images model image here =
       recovered = subst (Recovered image) (same_worlds s s.flight one.steps) one.recovered;
     }
 
--- the disk stays as it is
+-- the disk is unchanged
 home_disk : {D : Type 0} (l : LedgerState D) (f : Option (FlightState D)) → (brought_home l f).disk ≡ disk_with l.disk f
 home_disk l f = grind (arith, nat_tests)
 

@@ -10,14 +10,14 @@ use Rattle.coord_ledger.specs.Facade.{Answer, CrashPrefix, DiskEffect, DiskSurvi
 use Rattle.coord_ledger.proofs.machine.Consistent.{run_goes_on, stays_consistent}
 use Rattle.coord_ledger.proofs.runs.EachMoment.{moments_on}
 
--- what holds of all items holds of the one at this place
+-- a predicate on all items holds for the one at this place
 all_at : {A : Type 0} (P : A → Type 0) (xs : List A) (i : ℕ) (x : A) → slice_get xs i ≡ Some x → AllByRecursion P xs → P x
 all_at P [] i x there all = let no : ⊥ = cc in absurd no
 all_at P (y ∷ ys) zero x there all = let same : y ≡ x = cc in subst P same all.0
 all_at P (y ∷ ys) (suc i) x there all = all_at P ys i x there all.1
 
 module _ {D : Type 0} (model : DiskModel D) (crashes : D → D → Type 0) where
-  -- a run begins where no flight is out
+  -- a run begins without a flight
   pub so_far_first : (first : D) (d : DriverState D) → d.flight ≡ None → HoldsFlight d.ledger d.flight → IsConsistent (machine_of d (started d.ledger)) → d.ledger.disk ≡ Some first →
       ((s : Machine) → IsConsistent s → Represents d s → DiskSurvives model (disk_held d) s) → RunSoFar model crashes (model.keeps_model first) first d.ledger [] [] d
   so_far_first first d none own own_is home survives =
@@ -94,7 +94,7 @@ module _ {D : Type 0} (model : DiskModel D) (crashes : D → D → Type 0) where
       pub model_there : (before : D) → start.disk ≡ Some before → model_held model h.driver ≡ Some (model.keeps_model before)
       model_there before disk = loop.same_model ∙ ap (option_map model.keeps_model) disk
 
-      -- what is promised of a run is promised of each of its events
+      -- the promise for a run holds for each of its events
       pub event_promised : (before : D) → start.disk ≡ Some before → (model.keeps_model before ≡ true) ⊎ AllByRecursion (λ x. is_crash x ≡ false) events → IsPromised (model_held model h.driver) e
       event_promised before disk (inl on) = inl (model_there before disk ∙ ap Some on)
       event_promised before disk (inr none) = inr (all_at (λ x. is_crash x ≡ false) events at e event_there none)

@@ -17,7 +17,7 @@ use Rattle.coord_ledger.specs.machine.After.{release_of}
 use Rattle.coord_ledger.specs.machine.Consistent.{FitsOut, IsConsistentLog}
 use Rattle.coord_ledger.specs.machine.Log.{Log, front_world, kinds_of, pending, settled_world, world_after}
 
--- what these steps give out, each by itself
+-- the outputs of these steps, one list for each step
 abbrev pub outputs_of : World → List Step → List (List Output)
 outputs_of w steps = map (λ r. r.outputs) (outs w steps)
 
@@ -88,8 +88,7 @@ carried_torn New w steps = None
 carried_torn Good w steps = None
 carried_torn Torn w steps = Some (fold w steps)
 
--- What a flight keeps of its steps and its store; where the world after the steps is made already,
--- it is the right one.
+-- What a flight keeps of its steps and its store; if the world after the steps is already made, it is the right one.
 pub record IsFlight {D : Type 0} (steps : List Step) (world : World) (next : Option World) (mark : Mark) (kept : Kept D) : Type 0 where
   pub some : 1 ≤ length steps
   pub most : length steps ≤ MAX_BATCH_STEPS

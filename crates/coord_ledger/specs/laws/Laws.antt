@@ -80,7 +80,7 @@ abbrev pub RunGoesOn : Type 0
 RunGoesOn = (s : Machine) (events : List Event) (given : List Answer) (e : Event) (a : Answer) → Answered s events given → IsOneOf a (answers (run s events given) e) →
     Answered s (events ++ e ∷ []) (given ++ a ∷ []) × (run s (events ++ e ∷ []) (given ++ a ∷ []) ≡ after (run s events given) e a)
 
--- whatever a crash may keep is legal, holds all that was told, and nothing that was not accepted
+-- whatever a crash may keep is legal, holds every step with visible output, and only accepted steps
 abbrev pub KeptIsSafe : Type 0
 KeptIsSafe = (s : Machine) (n : ℕ) → IsConsistent s → IsOneOf n (kept s) → IsSafe s n
 

@@ -13,8 +13,8 @@ use Rattle.coord_ledger.specs.machine.Machine.{Machine}
 abbrev pub is_signal_within : ℕ → ℕ → ℕ → Release → Bool
 is_signal_within a b v r = (nat_lt a r.step && nat_le r.step b) && is_signal_of v r.output
 
--- What a ledger has ever released, crashes included, keeps the bounds between two moments of its settled steps: the signals that the
--- steps between have released are no more than resets were started there.
+-- Everything that a ledger has ever released, crashes included, keeps the bounds between two moments of its settled
+-- steps: the steps in between released at most as many signals of a node as resets were started there.
 abbrev pub ReleasedBetween : Type 0
 ReleasedBetween = (s : Machine) (earlier between rest : List Step) (part : ℕ → Bool) → IsConsistent s → settled_steps s.log ≡ earlier ++ (between ++ rest) → IsReadyAgain s.log.base earlier between part →
     BoundSignals (fold s.log.base earlier) between part (λ v. count_by (is_signal_within (s.log.base.count + length earlier) (s.log.base.count + length earlier + length between) v) s.released)

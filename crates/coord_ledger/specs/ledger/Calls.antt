@@ -75,7 +75,7 @@ keeps_store l = cannot_flush (is_some l.out) l.log
 abbrev pub next_flight : {D : Type 0} → Log → D → FlightState D
 next_flight log disk = record { first = settled_count log + 1; steps = take MAX_BATCH_STEPS (pending log); world = settled_world log; mark = New; disk = disk }
 
--- the ledger's store is out with so many steps
+-- the ledger's store is out with this many steps
 abbrev pub with_store_out : {D : Type 0} → LedgerState D → ℕ → LedgerState D
 with_store_out l n = record l { out = Some n; disk = None }
 
@@ -96,8 +96,8 @@ RefusesFlight l f Stranger = ¬ IsOut l f
 RefusesFlight l f OutOfMemory = IsOut l f × (f.mark ≡ Good)
 RefusesFlight l f refusal = ⊥
 
--- What bytes give of a flight with these steps: the world before them while it is new, the world
--- after them once it is good, and one of both where it is torn.
+-- The worlds that the bytes of a flight with these steps may encode: the world before them while it is new, the world
+-- after them once it is committed, and either of both if it is torn.
 abbrev pub GivesFlown : Mark → World → List Step → List ℕ → Type 0
 GivesFlown New w steps bytes = Recovered bytes w
 GivesFlown Good w steps bytes = Recovered bytes (fold w steps)

@@ -1,4 +1,4 @@
--- What a driver holds: the disk, with the ledger or with the flight, and what comes of both.
+-- What a driver holds: the disk, with the ledger or with the flight, and how the calls change both.
 use Rattle.std.specs.Prelude.{◌≡◌, ◌⊎◌, ℕ, List, [], Bool, true, false, Option, Some, None, length}
 use Rattle.std.specs.Option.{option_map}
 use Rattle.coord_disk.specs.Model.Present.{Present, IsImage}
@@ -31,8 +31,8 @@ abbrev pub brought_home : {D : Type 0} → LedgerState D → Option (FlightState
 brought_home l None = l
 brought_home l (Some f) = taken_back l (length f.steps) f.mark f.disk
 
--- Where the machine is followed: each event on a disk that keeps the model, and on every disk each
--- event but a crash.
+-- When the machine is simulated: at each event on a disk that keeps the model, and on every disk at each event except
+-- a crash.
 abbrev pub IsPromised : Option Bool → Event → Type 0
 IsPromised model e = (model ≡ Some true) ⊎ (is_crash e ≡ false)
 
@@ -42,7 +42,7 @@ pub record AnImageGives (present : Present) (world : World) : Type 0 where
   pub allowed : IsImage present image
   pub recovered : Recovered image world
 
--- a ledger that was made anew after a crash of this disk, of the world that one of its images gives
+-- a ledger that was made after a crash of this disk, over the world that one of its images encodes
 pub record IsReopened {D : Type 0} (model : DiskModel D) (crashes : D → D → Type 0) (before : D) (l : LedgerState D) : Type 0 where
   pub world : World
   pub disk : D
@@ -80,8 +80,8 @@ pub record DiskAfter {D : Type 0} (model : DiskModel D) (crashes : D → D → T
   pub holds : now ≡ Some new
   pub touched : Touches model crashes (model.keeps_model old) found touches e old new
 
--- What an event does to the disk that the driver held, where a crash inside the event finds this machine. `model` has the
--- ghost members of the disk's type, which say what its disks may hold, and `crashes` says which disks a crash may leave.
+-- What an event does to the disk of the driver, if a crash inside the event finds this machine. `model` has the ghost
+-- members of the disk's type, which say what its disks may hold, and `crashes` says which disks a crash may leave.
 abbrev pub DiskEffect : {D : Type 0} → DiskModel D → (D → D → Type 0) → Machine → Bool → Event → Option D → Option D → Type 0
 DiskEffect {D} model crashes found touches e was now =
     (old : D) → was ≡ Some old → DiskAfter model crashes found touches e old now
@@ -95,7 +95,7 @@ IsLost {D} model crashes s e kind was lost =
 abbrev pub DiskSurvives : {D : Type 0} → DiskModel D → Option D → Machine → Type 0
 DiskSurvives {D} model held s = (disk : D) → held ≡ Some disk → CrashPrefix s (model.keeps_model disk) (model.present disk)
 
--- What a driver keeps after events with these answers, where the first event found this disk.
+-- What a driver keeps after events with these answers, if the first event found this disk.
 pub record RunSoFar {D : Type 0} (model : DiskModel D) (crashes : D → D → Type 0) (keeps_model : Bool) (first : D) (start : LedgerState D) (events : List Event) (given : List Answer) (d : DriverState D) : Type 0 where
   pub answered : Answered (started start) events given
   pub consistent : IsConsistent (run (started start) events given)

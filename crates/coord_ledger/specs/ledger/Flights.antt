@@ -17,7 +17,7 @@ pub record GivesOneOf (log : Log) (counts bytes : List ℕ) : Type 0 where
 abbrev pub ImagesGiveOneOf : Bool → Present → Log → List ℕ → Type 0
 ImagesGiveOneOf keeps_model present log counts = keeps_model ≡ true → (image : List ℕ) → IsImage present image → GivesOneOf log counts image
 
--- the flight is the one that went out of this ledger: its number, its steps and its world are those of what is next
+-- the flight is the one that left this ledger: it has its number, its next steps and its world
 pub record IsOut {D : Type 0} (l : LedgerState D) (f : FlightState D) : Type 0 where
   pub size : l.out ≡ Some (length f.steps)
   pub first : f.first ≡ settled_count l.log + 1

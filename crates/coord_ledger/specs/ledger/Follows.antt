@@ -1,7 +1,7 @@
 -- A run of events follows the event machine: the invariant of a run.
 --
--- The machine keeps the base that it began with, and a crash cuts its trail. A ledger that is made anew after a crash
--- begins a new base. So a run's driver is where the machine is, seen from the world after some of the settled steps
+-- The machine keeps the base that it began with, and a crash cuts its trail. A ledger that is made after a crash has
+-- a new base. So a run's driver agrees with the machine as seen from the world after some of the settled steps
 -- (`Represents`), and the run's own lists are the machine's.
 use Rattle.std.specs.Prelude.{◌≡◌, List, [], ◌∷◌, Option, Some, None}
 use Rattle.coord_types.specs.declared.steps.Reply.{Reply}
@@ -28,7 +28,7 @@ HoldsTickets log [] (t ∷ ts) = ⊥
 HoldsTickets log (c ∷ cs) [] = ⊥
 HoldsTickets log (c ∷ cs) (t ∷ ts) = HoldsTicket log c t × HoldsTickets log cs ts
 
--- all of a run is where the machine is
+-- all parts of a run agree with the machine
 pub record Follows {D : Type 0} (r : Run D) (s : Machine) : Type 0 where
   pub represents : Represents r.driver s
   pub tickets : HoldsTickets r.driver.ledger.log r.tickets.items s.tickets

@@ -1,7 +1,7 @@
 -- A driver as the event machine: what each of its calls makes of it.
 --
--- A driver has the log and the flight of a machine. The tickets, what was shown and what was given out are its holder's,
--- so its calls are events of a machine whatever of these there is. After a crash its log begins with the world that was
+-- A driver has the log and the flight of a machine. The tickets, the views and the outputs belong to its holder, so
+-- its calls are events of any machine with that log and flight. After a crash its log begins with the world that was
 -- opened.
 use Rattle.std.specs.Prelude.{◌≡◌, ◌-◌, ℕ, ◌≤◌}
 use Rattle.std.specs.Option.{option_map}
@@ -26,14 +26,14 @@ abbrev pub goes_to : Machine → Event → Answer → Machine
 goes_to s Crash (Opened count) = record (adopted (world_after s.log (count - s.log.base.count))) { released = s.released; replied = s.replied }
 goes_to s event answer = after s event answer
 
--- The driver carries out an event: its answer is one that the machine may give, the driver is then where the machine
--- goes with that answer, and its flight is the ledger's own.
+-- The driver carries out an event: its answer is one that the machine may give, it is then in the state that the
+-- machine enters with that answer, and its flight is the ledger's own.
 pub record Simulates {D : Type 0} (old : DriverState D) (e : Event) (a : Answer) (new : DriverState D) : Type 0 where
   pub allowed : (m : Machine) → IsOneOf a (answers (machine_of old m) e)
   pub leaves : (m : Machine) → machine_of new (goes_to (machine_of old m) e a) ≡ goes_to (machine_of old m) e a
   pub own : HoldsFlight new.ledger new.flight
 
--- The driver is where the machine of a run is, seen from the world after some of the settled steps.
+-- The driver agrees with the machine of a run, seen from the world after some of the settled steps.
 pub record Represents {D : Type 0} (d : DriverState D) (s : Machine) : Type 0 where
   pub by : ℕ
   pub within : by ≤ s.log.settled

@@ -58,7 +58,7 @@ pub record IsKeptBy (base : World) (claim : Claim) : Type 0 where
 abbrev pub IsGranted : Log → Claim → Type 0
 IsGranted log claim = IsInTrail log claim ⊎ IsKeptBy log.base claim
 
--- the reply of a claim is collected exactly where the claim is true and its step is settled
+-- the reply of a claim is collected exactly if the claim is true and its step is settled
 pub record IsCollectable (log : Log) (claim : Claim) : Type 0 where
   pub settled : claim.step ≤ settled_count log
   pub granted : IsGranted log claim

@@ -19,7 +19,7 @@ use Rattle.coord_ledger.specs.machine.Log.{Log, cut_to, pending, settled_count, 
 use Rattle.coord_ledger.specs.machine.Machine.{FlightOut, Machine}
 use Rattle.coord_ledger.specs.machine.Submits.{verdict}
 
--- ---- what is released
+-- ---- releases
 
 abbrev pub release_of : ℕ → Output → Release
 release_of number output = record { step = number; output = output }
@@ -56,7 +56,7 @@ log_back log b New = log
 log_back log b Good = with_settled log b
 log_back log b Torn = with_doubt log b
 
--- what is released once a flight of b steps is back: if it was committed, what its steps give out too
+-- the releases after a flight of b steps is back: if it was committed, the outputs of its steps too
 abbrev pub released_back : List Release → Log → ℕ → Mark → List Release
 released_back released log b New = released
 released_back released log b Good = released ++ settling_releases log b
@@ -74,7 +74,7 @@ spent [] i = []
 spent (t ∷ ts) zero = None ∷ ts
 spent (t ∷ ts) (suc i) = t ∷ spent ts i
 
--- the trail is cut to its first n steps, and all else but what was given out is gone
+-- the trail is cut to its first n steps; everything else except the releases is gone
 abbrev pub crashed : Machine → ℕ → Machine
 crashed s n = record s { log = cut_to s.log n; flight = None; tickets = []; seen = 0 }
 

@@ -1,4 +1,5 @@
--- What each event may be answered. Where there are several answers, memory, the device or the crash chooses, and the answer tells what was chosen.
+-- The possible answers to each event. If there are several, memory, the device or the crash chooses, and the answer
+-- says what was chosen.
 use Rattle.std.specs.Prelude.{◌≡◌, ◌⊎◌, ℕ, zero, suc, ◌+◌, ◌==◌, ◌||◌, nat_le, min, Bool, List, [], ◌∷◌, map, length, is_some, Option, Some, None, Result, Ok, Err, if◌then◌else◌}
 use Rattle.coord_types.specs.declared.limits.TheConstants.{MAX_BATCH_STEPS}
 use Rattle.coord_types.specs.declared.refusals.Refusal.{Refusal}
@@ -56,7 +57,7 @@ abbrev pub with_flight : Option FlightOut → (FlightOut → List Answer) → Li
 with_flight None answers_for = NoFlight ∷ []
 with_flight (Some f) answers_for = answers_for f
 
--- the ticket with this index, where it was given and not collected
+-- the ticket with this index, if it exists and was not collected
 abbrev pub ticket : {A : Type 0} → List (Option A) → ℕ → Option A
 ticket [] i = None
 ticket (t ∷ ts) zero = t
@@ -77,7 +78,7 @@ kept_with d b New = d ∷ []
 kept_with d b Good = (d + b) ∷ []
 kept_with d b Torn = d ∷ (d + b) ∷ []
 
--- how many steps a crash may keep, where d are settled, and a flight is out, or steps are in doubt, or neither
+-- how many steps a crash may keep if d are settled, and a flight is out, or steps are in doubt, or neither
 abbrev pub kept_by : ℕ → Option FlightOut → Option ℕ → List ℕ
 kept_by d None None = d ∷ []
 kept_by d None (Some b) = d ∷ (d + b) ∷ []

@@ -1,4 +1,4 @@
--- What holds of the event machine whenever its events have been answered as they may be.
+-- The invariant of the event machine, whenever each event got a possible answer.
 use Rattle.std.specs.Prelude.{ℕ, ◌+◌, ◌≤◌, List, length, Option, Some, None}
 use Rattle.std.specs.List.{AllByRecursion}
 use Rattle.coord_types.specs.declared.limits.TheConstants.{MAX_BATCH_STEPS, MAX_PENDING}
@@ -16,15 +16,15 @@ use Rattle.coord_ledger.specs.machine.Machine.{FlightOut, Machine}
 use Rattle.coord_ledger.specs.promises.Headline.{IsReplyOf, IsTrulyAgain}
 use Rattle.coord_ledger.specs.promises.Parts.{IsPartOf, released_first}
 
--- The steps are a trail. Not too many of them are pending, and each pending one is fresh where the
--- settled world counts as settled.
+-- The steps are a trail. At most the allowed number of them are pending, and each pending one is fresh over the
+-- settled world.
 pub record IsConsistentLog (log : Log) : Type 0 where
   pub trail : IsTrail log.base log.trail
   pub within : log.settled ≤ length log.trail
   pub few : length (pending log) ≤ MAX_PENDING
   pub fresh : AllFresh (settled_world log) (settled_world log) (pending log)
 
--- a flight with so many of the pending steps may be out
+-- a flight with this many of the pending steps may be out
 pub record FitsOut (log : Log) (size : ℕ) : Type 0 where
   pub some : 1 ≤ size
   pub most : size ≤ MAX_BATCH_STEPS
@@ -46,7 +46,7 @@ abbrev pub TicketFits : World → List Step → Option Reply → Type 0
 TicketFits base steps None = Unit {0}
 TicketFits base steps (Some reply) = IsReplyOf base steps reply
 
--- what was released and collected is true of the settled steps
+-- all releases and collected replies are those of settled steps
 pub record IsReturned (log : Log) (released : List Release) (replied : List Reply) : Type 0 where
   pub released_settled : AllByRecursion (λ r. r.step ≤ settled_count log) released
   pub once : IsPartOf (released_first released) (releases_of (outs log.base (settled_steps log)))

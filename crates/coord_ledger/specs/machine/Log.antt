@@ -1,4 +1,4 @@
--- What was accepted since a base, how much of that is settled, and what is in doubt.
+-- The steps accepted since a base, how many of them are settled, and how many are in doubt.
 use Rattle.std.specs.Prelude.{ℕ, ◌+◌, ◌-◌, Bool, List, [], ◌∷◌, ◌++◌, length, map, take, drop, Option, Some, None, is_some}
 use Rattle.coord_types.specs.declared.steps.Kind.{Kind}
 use Rattle.coord_types.specs.declared.steps.Step.{Step}
@@ -8,7 +8,7 @@ pub record Log : Type 0 where
   pub base : World
   pub trail : List Step  -- the accepted steps since the base
   pub settled : ℕ  -- how many of them are settled
-  pub doubt : Option ℕ  -- it has stopped, and so many steps behind the settled ones are on the disk, or none of them
+  pub doubt : Option ℕ  -- it has stopped, and this many steps after the settled ones are on disk, or none of them
 
 -- the kinds of the replies to these steps
 abbrev pub kinds_of : World → List Step → List Kind

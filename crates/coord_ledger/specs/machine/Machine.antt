@@ -19,7 +19,7 @@ pub record Machine : Type 0 where
   pub released : List Release  -- all that ever was released, in order
   pub replied : List Reply  -- all that ever was collected, in order
 
--- a log of which no flight is out, and of which nothing was given out
+-- a log without a flight or releases
 abbrev pub machine_over : Log → Machine
 machine_over log = record { log = log; flight = None; tickets = []; seen = 0; released = []; replied = [] }
 

@@ -1,9 +1,8 @@
--- A run that ends early: what was answered and released until then, which disk is given back, and why.
+-- A run that ends early: its answers and releases until then, the disk that is returned, and why it ended.
 --
--- It ends at an event that is cut short; or after the last event, where the flight that is out
--- can't be taken back; or before the first one. What was answered and released is kept, all else is
--- given up. The disk is given back as the events before have left it; in a crash, as it is after
--- the taking of an image.
+-- It ends at an event that is cut short; or after the last event, if the flight that is out can't be taken back; or
+-- before the first one. The answers and releases are kept, everything else is given up. The disk is returned as the
+-- events before have left it; in a crash, as it is after an image was chosen.
 use Rattle.std.specs.Prelude.{◌≡◌, ◌⊎◌, ℕ, ◌≤◌, Bool, true, false, List, [], ◌++◌, length, take, slice_get, Option, Some, None}
 use Rattle.coord_disk.specs.Model.DiskModel.{DiskModel}
 use Rattle.coord_store.specs.Facade.{IsOpenFault, IsPassing}
@@ -34,7 +33,7 @@ pub record IsLeftOut (before : Machine) (e : Event) (released : List Release) : 
   pub ends : (after before e answer).released ≡ released ++ rest
   pub some : 1 ≤ length rest
 
--- What was released then. There is no memory for a ticket, for a release, or for the ledger after a crash, or the
+-- The releases at that point. There is no memory for a ticket, for a release, or for the ledger after a crash, or the
 -- store is not opened after it.
 abbrev pub IsCutShort : Machine → Event → RunFaultKind → List Release → Type 0
 IsCutShort before (Submit step) OutOfMemory released = released ≡ before.released
@@ -43,7 +42,7 @@ IsCutShort before Resend OutOfMemory released = IsLeftOut before Resend released
 IsCutShort before Crash kind released = released ≡ before.released
 IsCutShort before event kind released = ⊥
 
--- A crash has taken one of the disk's images. Where there is no memory for the ledger, the store was opened.
+-- A crash has chosen one of the disk's images. If there was no memory for the ledger, the store was opened.
 pub record IsLostInCrash {D : Type 0} (model : DiskModel D) (crashes : D → D → Type 0) (before : Machine) (kind : RunFaultKind) (disk lost : D) : Type 0 where
   pub reopens : Reopens model crashes (Survives before) disk lost
   pub opened : kind ≡ OutOfMemory → Survives before (model.present lost).read
@@ -55,7 +54,7 @@ IsGivenBack model crashes keeps_model before event kind disk lost = lost ≡ dis
 
 -- ---- a run
 
--- there is no memory: nothing more is released, and the disk is given back as it is
+-- out of memory: nothing more is released, and the disk is returned unchanged
 pub record IsGivenUp {D : Type 0} (before : Machine) (kind : RunFaultKind) (released : List Release) (disk lost : D) : Type 0 where
   pub memory : kind ≡ OutOfMemory
   pub released_is : released ≡ before.released
@@ -71,7 +70,7 @@ EndsAt model crashes keeps_model before None kind released disk lost = IsGivenUp
 EndsAt model crashes keeps_model before (Some event) kind released disk lost = IsCutShort before event kind released × IsGivenBack model crashes keeps_model before event kind disk lost
 
 -- A run that ended early, with the answers to the events before. At each moment of it, also inside the event that was
--- cut short, the headline holds. It is what `run_events` ensures where it answers a fault.
+-- cut short, the headline holds. `run_events` ensures this when it returns a fault.
 pub record EndedEarly {D : Type 0} (model : DiskModel D) (crashes : D → D → Type 0) (start : Machine) (events : List Event) (at : ℕ) (given : List Answer) (released : List Release) (kind : RunFaultKind) (keeps_model : Bool) (first lost : D) : Type 0 where
   pub within : at ≤ length events
   pub answered : Answered start (take at events) given
@@ -82,7 +81,7 @@ pub record EndedEarly {D : Type 0} (model : DiskModel D) (crashes : D → D → 
 
 -- ---- on any disk
 
--- a run's own lists can grow in these, or its ledger is made anew: in no other event does it want memory
+-- the events that allocate: a run's lists grow, or its ledger is made again
 abbrev pub wants_memory : Event → Bool
 wants_memory (Submit step) = true
 wants_memory Finish = true
@@ -90,9 +89,9 @@ wants_memory Resend = true
 wants_memory Crash = true
 wants_memory event = false
 
--- Where a run may want memory: as it begins, for its list of answers; in an event of
--- `wants_memory`; at its end, where the flight comes back. A store's fault comes of a crash alone;
--- where the disk keeps the model it is out of memory or a failure of the device.
+-- When a run may end early. OutOfMemory: at the start, for its list of answers; in an event of `wants_memory`; at its
+-- end, when the flight comes back. A store's fault: only in a crash; if the disk keeps the model it is OutOfMemory or
+-- a failure of the device.
 abbrev pub HasCauseToEnd : Bool → List Event → ℕ → List Release → RunFaultKind → Type 0
 HasCauseToEnd keeps_model events at released OutOfMemory = ((at ≡ 0) × (released ≡ [])) ⊎ ((at ≡ length events) ⊎ ((e : Event) × ((slice_get events at ≡ Some e) × (wants_memory e ≡ true))))
 HasCauseToEnd keeps_model events at released (Store fault) = (slice_get events at ≡ Some Crash) × IsOpenFault fault × (keeps_model ≡ true → IsPassing fault)

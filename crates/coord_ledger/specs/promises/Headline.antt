@@ -1,20 +1,19 @@
--- The headline: what is promised of a run of events, wherever it is stopped.
+-- The headline: the promise for a run of events, wherever it is stopped.
 --
 -- Wherever a run is stopped, before, within or after any write, `open` on whatever the disk may then hold gives the
 -- world after a prefix of the accepted steps, none skipped and none in part; that prefix holds every step whose reply,
 -- packet or signal had been released; and every link predicate holds in that world.
 --
 -- A run is a list of events with its answers. `Survives` is the sentence for one image of the disk, `CrashPrefix` for
--- all images of a disk between two events, and `EachMoment` for each moment of a run, within its events too: what the
--- run does to its disk is told event by event, each from the disk that the event before it left. A commit leaves at
--- each of its moments only images of the world before it or after it. A crash takes one of the disk's images, and the
--- opening after it leaves only images of that. No other event touches the disk. So at every moment inside every event
--- of every run, whatever the disk may hold survives.
+-- all images of a disk between two events, and `EachMoment` for each moment of a run, also within its events: the
+-- effect of the run on its disk is stated event by event, each from the disk that the event before it left. A commit
+-- leaves at each of its moments only images of the world before it or after it. A crash takes one of the disk's
+-- images, and the opening after it leaves only images of that. No other event touches the disk. So at every moment
+-- inside every event of every run, whatever the disk may hold survives.
 --
--- `Completed` has these beside what else a run promises: that the answers are the event machine's, that what was
--- released and collected is true of the steps that are kept, and which ledger is left. `Broken.antt` has what is
--- promised of a run that ends early: its moments, what was answered and released until then, which disk is given back,
--- and why.
+-- `Completed` has these and the other promises for a run: its answers are the event machine's, its releases and
+-- collected replies are those of the kept steps, and it says which ledger is left. `Broken.antt` has the promises for
+-- a run that ends early: its moments, its answers and releases until then, the disk that is returned, and the reason.
 --
 -- `model` has the ghost members of the disk's type, which say what its disks may hold, and `crashes` says which disks a
 -- crash may leave.
@@ -47,12 +46,12 @@ use Rattle.coord_ledger.specs.promises.Parts.{IsPartOf, released_first}
 
 -- ---- wherever it is stopped
 
--- what was sent again was given out by one of these steps, or the base sends it again
+-- each resent packet was sent by one of these steps, or is in the base's resend list
 abbrev pub IsAgainOf : World → List Step → Release → Type 0
 IsAgainOf base steps r = r.step ≡ 0 → IsReleased base steps r.output
 
--- Every link predicate holds in the world after the first n steps of the trail. It has every step of which anything was
--- released or collected, the step that gave out what was sent again too, and none that was not accepted.
+-- Every link predicate holds in the world after the first n steps of the trail. They include every step with a
+-- released or collected output, also the step that sent a resent packet first, and only accepted steps.
 pub record IsSafe (s : Machine) (n : ℕ) : Type 0 where
   pub legal : Legal (world_after s.log n)
   pub released : AllByRecursion (λ r. r.step ≤ (world_after s.log n).count) s.released
@@ -80,8 +79,8 @@ found_by_crash s Commit Committed = after s Commit (Failed fault.Device)
 found_by_crash s Commit (Failed fault.Device) = after s Commit (Failed fault.Device)
 found_by_crash s event answer = s
 
--- What an event has made of the disk: nothing where it doesn't touch it, and at each moment since it began, a crash
--- that then finds this machine leaves only what survives.
+-- The effect of an event on the disk: none if it doesn't touch it; and at each moment since it began, a crash that
+-- then finds this machine leaves only what survives.
 pub record Touches {D : Type 0} (model : DiskModel D) (crashes : D → D → Type 0) (keeps_model : Bool) (found : Machine) (touches : Bool) (e : Event) (old new : D) : Type 0 where
   pub untouched : touches ≡ false → new ≡ old
   pub inside : keeps_model ≡ true → LeavesWithin model crashes e (Survives found) old new
@@ -96,13 +95,13 @@ EachMoment {D} model crashes keeps_model s (e ∷ es) (a ∷ given) first last =
     CrashPrefix s keeps_model (model.present first)
     × ((next : D) × (Touches model crashes keeps_model (found_by_crash s e a) (touches_disk e a) e first next × EachMoment model crashes keeps_model (after s e a) es given next last))
 
--- ---- what was given out
+-- ---- releases
 
--- all that was released by a step stands in what the settled steps give out, in order, and no item of it twice
+-- the releases of steps are a sublist of the outputs of the settled steps, in order, no item twice
 abbrev pub ReleasedOnce : Machine → Type 0
 ReleasedOnce s = IsPartOf (released_first s.released) (releases_of (outs s.log.base (settled_steps s.log)))
 
--- what was sent again was given out by a settled step, or the base sends it again
+-- each resent packet was sent by a settled step, or is in the base's resend list
 abbrev pub IsTrulyAgain : Log → Release → Type 0
 IsTrulyAgain log = IsAgainOf log.base (settled_steps log)
 
@@ -131,7 +130,7 @@ abbrev pub is_crash : Event → Bool
 is_crash Crash = true
 is_crash event = false
 
--- what is promised of a run on a disk that keeps the model, and without crashes on every disk
+-- the promise for a run on a disk that keeps the model, and without crashes on every disk
 abbrev pub Promised : Bool → List Event → Type 0 → Type 0
 Promised keeps_model events Promise = (keeps_model ≡ true) ⊎ AllByRecursion (λ e. is_crash e ≡ false) events → Promise
 
@@ -139,16 +138,16 @@ Promised keeps_model events Promise = (keeps_model ≡ true) ⊎ AllByRecursion 
 abbrev pub ended : Machine → Machine
 ended s = finished s s.flight
 
--- a ledger at home that is where the machine is, seen from the world after some settled steps
+-- a ledger at home that agrees with the machine, seen from the world after some settled steps
 pub record IsLeft {D : Type 0} (s : Machine) (l : LedgerState D) : Type 0 where
   pub by : ℕ
   pub within : by ≤ s.log.settled
   pub log : l.log ≡ rebased s.log by
   pub home : l.out ≡ None
 
--- A run from a ledger at home, on a disk that it has led from one state to another: the answers are
--- the machine's, these were released, wherever it is stopped, after an event or at any moment inside one, the headline
--- holds, and this ledger is left. It is what `run_events` ensures where it answers a trace and a ledger.
+-- A run from a ledger at home, on a disk that it has led from one state to another: the answers are the machine's,
+-- these are the releases, wherever it is stopped, after an event or at any moment inside one, the headline holds, and
+-- this ledger is left. `run_events` ensures this when it returns a trace and a ledger.
 pub record Completed {D : Type 0} (model : DiskModel D) (crashes : D → D → Type 0) (start : Machine) (events : List Event) (given : List Answer) (released : List Release) (left : LedgerState D) (keeps_model : Bool) (first last : D) : Type 0 where
   pub answered : Answered start events given
   pub released_is : released ≡ (run start events given).released

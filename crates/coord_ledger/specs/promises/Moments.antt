@@ -18,7 +18,7 @@ touches_disk Crash answer = true
 touches_disk event answer = false
 
 -- A crash has taken one of the disk's images, and at each moment of the opening after it a crash left only images of
--- what was taken. These have P.
+-- the taken one. These have P.
 pub record Reopens {D : Type 0} (model : DiskModel D) (crashes : D → D → Type 0) (P : List ℕ → Type 0) (old new : D) : Type 0 where
   pub taken : D
   pub crash : crashes old taken
@@ -27,7 +27,7 @@ pub record Reopens {D : Type 0} (model : DiskModel D) (crashes : D → D → Typ
   pub opening : LeavesOnly model taken new (IsImage (model.present taken))
   pub each : (bytes : List ℕ) → IsImage (model.present taken) bytes → P bytes
 
--- at each moment since an event began a crash left only what has P
+-- at each moment since an event began a crash left only images that have P
 abbrev pub LeavesWithin : {D : Type 0} → DiskModel D → (D → D → Type 0) → Event → (List ℕ → Type 0) → D → D → Type 0
 LeavesWithin model crashes Crash P old new = Reopens model crashes P old new
 LeavesWithin model crashes event P old new = LeavesOnly model old new P

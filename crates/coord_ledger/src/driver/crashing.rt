@@ -1,4 +1,4 @@
-//! The disk crashes, and is opened again.
+//! Crashes the disk, and opens it again.
 
 ghost use Rattle.std.specs.Prelude.{◌≡◌, ◌+◌, false, true, ℕ, IfErr, IfOk, MatchResult, Some};
 ghost use Rattle.coord_disk.specs.Model.Present.{IsImage};
@@ -12,7 +12,7 @@ use coord_disk::{CrashDisk, Disk};
 use coord_store::Store;
 use std::alloc::Global;
 
-/// Crashes a disk, and makes a ledger of what it then holds. A refusal gives the disk back.
+/// Crashes a disk, and makes a ledger over what it then holds. A refusal returns the disk.
 fn reopen<D: CrashDisk>(alloc: Global, disk: D) -> Result<Ledger<D>, (RunFaultKind, D)>
     ensures opened { IfOk result (IsReopened D.model D.crashes
         disk) }
@@ -32,8 +32,7 @@ fn reopen<D: CrashDisk>(alloc: Global, disk: D) -> Result<Ledger<D>, (RunFaultKi
     adopt(alloc, opened)
 }
 
-/// Makes a ledger of a store that was just opened. A refusal is for lack of memory, and gives the
-/// disk back.
+/// Makes a ledger over a store that was just opened. If it runs out of memory, it returns the disk.
 fn adopt<D: CrashDisk>(alloc: Global, store: Store<D>) -> Result<Ledger<D>, (RunFaultKind, D)>
     requires { has_stopped store ≡ false }
     ensures adopted { IfOk result (λ ledger. ledger ≡ ledger_over store.world store.disk) }
@@ -47,8 +46,8 @@ fn adopt<D: CrashDisk>(alloc: Global, store: Store<D>) -> Result<Ledger<D>, (Run
 }
 
 impl<D: CrashDisk> Driver<D> {
-    /// The disk crashes and is opened again, and the flight is gone. The count of the world that was
-    /// opened, and its driver; or why none was, and the disk.
+    /// Crashes the disk and opens it again; the flight is gone. Returns the count of the opened
+    /// world, and the new driver; or the fault, and the disk.
     pub fn crash(self, alloc: Global) -> Result<(u64, Self), (RunFaultKind, D)>
         ensures simulates { model_held D.model self ≡ Some true →
             IfOk result (λ opened. Simulates self Crash (Opened opened.0) opened.1) }

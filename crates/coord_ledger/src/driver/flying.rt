@@ -1,4 +1,4 @@
-//! Flights go out, are committed, and come back.
+//! Sends flights out, commits them, and takes them back.
 
 ghost use Rattle.std.specs.Prelude.{◌≡◌, ◌+◌, ◌-◌, List, ℕ, None, Ok, Some};
 ghost use Rattle.coord_ledger.specs.Facade.{Begin, Commit, DiskEffect, Finish, HasFailed, IsConsistent, Machine, Release as Row, Represents, Simulates, disk_held, failed_at, finish_answer, found_by_crash, model_held, settling_releases, touches_disk};
@@ -9,7 +9,7 @@ use coord_disk::{CrashDisk, Disk};
 use coord_types::Refusal;
 
 impl<D: CrashDisk> Driver<D> {
-    /// A flight goes out. While one is out, none does. Answers `Begun`, `Nothing`, or `Refused` for
+    /// Sends a flight out, unless one is out already. Returns `Begun`, `Nothing`, or `Refused` for
     /// out of memory.
     pub fn begin(&mut self) -> Answer
         ensures simulates { Simulates self.old Begin result self.new }
@@ -30,7 +30,7 @@ impl<D: CrashDisk> Driver<D> {
         }
     }
 
-    /// The flight that is out is committed. Answers `Committed`, `Failed`, or `NoFlight`.
+    /// Commits the flight that is out. Returns `Committed`, `Failed`, or `NoFlight`.
     pub fn commit(&mut self) -> Answer
         ensures simulates { Simulates self.old Commit result self.new }
         ensures ledger { self.new.ledger ≡ self.old.ledger }
@@ -52,8 +52,8 @@ impl<D: CrashDisk> Driver<D> {
         }
     }
 
-    /// The flight that is out comes back: what it releases, or None where no flight is out. For want
-    /// of memory it stays out.
+    /// Takes back the flight that is out, and returns its releases, or None if no flight is out. If
+    /// it runs out of memory the flight stays out.
     pub fn finish(&mut self) -> Result<Option<Releases>, Refusal>
         ensures simulates { Simulates self.old Finish (finish_answer result self.new) self.new }
         ensures base { self.new.ledger.log.base ≡ self.old.ledger.log.base }
@@ -75,7 +75,7 @@ impl<D: CrashDisk> Driver<D> {
     }
 }
 
-/// Puts a flight where none is.
+/// Puts a flight into a driver that has none.
 fn put<D: CrashDisk>(place: &mut Option<Flight<D>>, flight: Flight<D>)
     requires { place.old ≡ None }
     ensures { place.new ≡ Some flight }

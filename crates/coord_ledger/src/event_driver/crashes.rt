@@ -11,7 +11,7 @@ use coord_disk::{CrashDisk, Disk};
 use std::alloc::Global;
 
 impl<D: CrashDisk> Run<D> {
-    /// The disk crashes and is opened again. Tickets and the flight are gone.
+    /// Crashes the disk and opens it again. Tickets and the flight are gone.
     pub fn crash(self, alloc: Global) -> Result<(Answer, Self), Broken<D>>
         ensures answered { (s : Machine) → IsConsistent s → Follows self s →
             IsPromised (model_held D.model self.driver) Crash

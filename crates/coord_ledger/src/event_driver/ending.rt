@@ -11,7 +11,7 @@ use crate::{Ledger, Release, RunFaultKind};
 use coord_disk::{CrashDisk, Disk};
 
 impl<D: CrashDisk> Run<D> {
-    /// Takes back the flight that is out, and drops its releases and the tickets that are left.
+    /// Takes back the flight that is out, and drops its releases and the remaining tickets.
     pub fn end(self) -> Result<(Vec<Release>, Ledger<D>), Broken<D>>
         ensures ran { (start : LedgerState D) → (first : D) → (events : List What) →
             (given : List Reaction) → (after : D)

@@ -12,7 +12,7 @@ use coord_disk::{CrashDisk, Disk};
 use std::alloc::Global;
 
 impl<D: CrashDisk> Run<D> {
-    /// Ends the run for lack of memory, and keeps only what was released.
+    /// Ends the run out of memory, and keeps only the releases.
     pub fn lose(self) -> Broken<D>
         ensures kind { result.kind ≡ OutOfMemory }
         ensures released { result.released.items ≡ self.released.items }
@@ -32,8 +32,8 @@ impl<D: CrashDisk> Run<D> {
         }
     }
 
-    /// Answers one event. Where a list of the run finds no memory, or the disk is not opened after
-    /// a crash, the run ends, and only what was released and the disk are left.
+    /// Answers one event. If a list of the run can't grow, or the disk is not opened after a crash,
+    /// the run ends, and only the releases and the disk are left.
     pub fn meet(self, alloc: Global, event: Event) -> Result<(Answer, Self), Broken<D>>
         ensures answered { (s : Machine) → IsConsistent s → Follows self s →
             IsPromised (model_held D.model self.driver) event

@@ -1,4 +1,4 @@
-//! What a run has released.
+//! The releases of a run.
 
 ghost use Rattle.std.specs.Prelude.{◌≡◌, ◌++◌, length, IfOk, OnErr};
 ghost use Rattle.coord_ledger.specs.code.Holding.{AddsSome};
@@ -7,7 +7,7 @@ use crate::{Release, Releases, Ticket};
 use coord_types::Output;
 use std::alloc::AllocError;
 
-/// Adds releases to a list, and says how many they were. Those for which it finds no memory are
+/// Appends releases to a list, and returns how many there were. If memory runs out, the rest are
 /// lost.
 pub fn push_releases(released: &mut Vec<Release>, mut releases: Releases) -> Result<u64, AllocError>
     ensures count { IfOk result (λ n. n ≡ length releases) }
@@ -27,7 +27,7 @@ pub fn push_releases(released: &mut Vec<Release>, mut releases: Releases) -> Res
     Ok((released.len() - before) as u64)
 }
 
-/// Gives up the replies that were not collected. It leaves nothing of which a clause could speak.
+/// Gives up the replies that were not collected. (No postcondition: nothing remains.)
 pub fn forget_all(mut tickets: Vec<Option<Ticket>>) {
     while let Some(place) = tickets.pop() {
         if let Some(ticket) = place {

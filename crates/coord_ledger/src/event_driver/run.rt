@@ -1,4 +1,4 @@
-//! What a run of events holds between two events.
+//! The state of a run between two events.
 
 ghost use Rattle.std.specs.Prelude.{◌≡◌, ◌+◌, ℕ, IfOk, OnErr, Some};
 ghost use Rattle.coord_ledger.specs.Facade.{Begin, Collect, Commit, DiskEffect, Finish, Follows, FollowsTo, HasFailed, IsConsistent, IsLeftOut, Machine, Resend, Show, Submit, disk_held, failed_at, found_by_crash, model_held, touches_disk};
@@ -9,8 +9,8 @@ use coord_disk::{CrashDisk, Disk};
 use coord_types::{Refusal, Step};
 use std::alloc::AllocError;
 
-/// The driver of a ledger, the tickets as they were given, what was shown last, and what was
-/// released: where the event machine is (`Follows`, specs/ledger/Follows.antt).
+/// The driver of a ledger, the tickets, the last view, and the releases. They agree with the event
+/// machine (`Follows`, specs/ledger/Follows.antt).
 pub struct Run<D: CrashDisk> {
     pub driver: Driver<D>,
     pub tickets: Vec<Option<Ticket>>,
@@ -19,7 +19,7 @@ pub struct Run<D: CrashDisk> {
 }
 
 impl<D: CrashDisk> Run<D> {
-    /// A step is handed in.
+    /// Submits a step.
     pub fn submit(&mut self, step: Step) -> Result<Answer, AllocError>
         ensures answered { (s : Machine) → IsConsistent s → Follows self.old s →
             IfOk result (λ answer. FollowsTo s (Submit step) answer self.new) }
@@ -42,7 +42,7 @@ impl<D: CrashDisk> Run<D> {
         }
     }
 
-    /// A flight goes out. While one is out, none does.
+    /// Sends a flight out, unless one is out already.
     pub fn begin(&mut self) -> Answer
         ensures answered { (s : Machine) → IsConsistent s → Follows self.old s →
             FollowsTo s Begin result self.new }
@@ -51,7 +51,7 @@ impl<D: CrashDisk> Run<D> {
         self.driver.begin()
     }
 
-    /// The flight that is out comes back, and what it releases is kept.
+    /// Takes back the flight that is out, and keeps its releases.
     pub fn finish(&mut self) -> Result<Answer, AllocError>
         ensures answered { (s : Machine) → IsConsistent s → Follows self.old s →
             IfOk result (λ answer. FollowsTo s Finish answer self.new) }
@@ -69,7 +69,7 @@ impl<D: CrashDisk> Run<D> {
         }
     }
 
-    /// A ticket is collected.
+    /// Collects a ticket.
     pub fn collect(&mut self, index: usize) -> Answer
         ensures answered { (s : Machine) → IsConsistent s → Follows self.old s →
             FollowsTo s (Collect index) result self.new }
@@ -92,7 +92,7 @@ impl<D: CrashDisk> Run<D> {
         }
     }
 
-    /// The flight that is out is committed.
+    /// Commits the flight that is out.
     pub fn commit(&mut self) -> Answer
         ensures answered { (s : Machine) → IsConsistent s → Follows self.old s →
             FollowsTo s Commit result self.new }
@@ -107,7 +107,7 @@ impl<D: CrashDisk> Run<D> {
         self.driver.commit()
     }
 
-    /// What may have been lost is released again.
+    /// Releases again the packets that may have been lost.
     pub fn resend(&mut self) -> Result<Answer, AllocError>
         ensures answered { (s : Machine) → IsConsistent s → Follows self.old s →
             IfOk result (λ answer. FollowsTo s Resend answer self.new) }
@@ -124,7 +124,7 @@ impl<D: CrashDisk> Run<D> {
         }
     }
 
-    /// The settled world is shown.
+    /// Shows the settled world.
     pub fn show(&mut self) -> Answer
         ensures answered { (s : Machine) → IsConsistent s → Follows self.old s →
             FollowsTo s Show result self.new }

@@ -25,7 +25,7 @@ fn is_kept(world: &World, ticket: &Ticket) -> bool
     }
 }
 
-/// Whether the ticket's step stands at this place of a trail.
+/// Whether this place of a trail has the ticket's step.
 fn is_step_at(trail: &[Step], place: usize, ticket: &Ticket) -> bool
     requires { place < length trail.now }
     ensures { IsTrue result ↔ (slice_get trail.now place ≡ Some ticket.now.what) }
@@ -33,7 +33,7 @@ fn is_step_at(trail: &[Step], place: usize, ticket: &Ticket) -> bool
     is_same_step(&trail[place], &ticket.what)
 }
 
-/// Whether the ticket's kind of reply stands at this place.
+/// Whether this place has the ticket's kind of reply.
 fn is_kind_at(kinds: &[Kind], place: usize, ticket: &Ticket) -> bool
     requires { place < length kinds.now }
     ensures { IsTrue result ↔ (slice_get kinds.now place ≡ Some ticket.now.kind) }
@@ -41,7 +41,7 @@ fn is_kind_at(kinds: &[Kind], place: usize, ticket: &Ticket) -> bool
     kinds[place] == ticket.kind
 }
 
-/// Whether the ticket's step stands at this place of a trail, and its kind at that of the kinds.
+/// Whether this place of a trail has the ticket's step, and the same place of the kinds its kind.
 fn stands_at(trail: &[Step], kinds: &[Kind], place: usize, ticket: &Ticket) -> bool
     requires in_trail { place < length trail.now }
     requires in_kinds { place < length kinds.now }
@@ -54,7 +54,7 @@ fn stands_at(trail: &[Step], kinds: &[Kind], place: usize, ticket: &Ticket) -> b
     is_kind_at(kinds, place, ticket)
 }
 
-/// The ticket's reply if its step is settled, and else the ticket.
+/// Returns the reply if the ticket's step is settled, and otherwise the ticket.
 fn replied(ticket: Ticket, settled: bool) -> Result<Reply, Ticket>
     ensures settled { IfOk result (λ reply. (reply ≡ reply_of ticket) × (settled ≡ true)) }
     ensures waiting { IfErr result (λ back. (back ≡ ticket) × (settled ≡ false)) }
@@ -68,8 +68,8 @@ fn replied(ticket: Ticket, settled: bool) -> Result<Reply, Ticket>
 }
 
 impl<D: Disk> Ledger<D> {
-    /// Whether the ticket's step, whose number is above the base's count, stands in the settled
-    /// part of the trail with the kind of reply that the ticket has.
+    /// Whether the settled part of the trail has the ticket's step, whose number is above the
+    /// base's count, with the ticket's kind of reply.
     fn is_settled(&self, ticket: &Ticket) -> bool
         requires { self.now.log.base.count < ticket.now.step }
         ensures { IsTrue result ↔ IsCollectable self.now.log ticket.now }
@@ -81,7 +81,7 @@ impl<D: Disk> Ledger<D> {
         stands_at(&self.trail, &self.kinds, place, ticket)
     }
 
-    /// Whether the ticket's step is settled here and was answered as the ticket says.
+    /// Whether the ticket's step is settled here, with the ticket's kind of reply.
     fn is_collectable(&self, ticket: &Ticket) -> bool
         ensures { IsTrue result ↔ IsCollectable self.now.log ticket.now }
     {
@@ -92,8 +92,8 @@ impl<D: Disk> Ledger<D> {
         }
     }
 
-    /// The reply to the ticket's step, once the step is settled; before that, and for a ticket of
-    /// another ledger, the ticket. It answers after a stop too.
+    /// Returns the reply to the ticket's step, once the step is settled; before that, and for a
+    /// ticket of another ledger, the ticket. It also answers after a stop.
     pub fn collect(&self, ticket: Ticket) -> Result<Reply, Ticket>
         ensures settled { IfOk result (λ reply. (reply ≡ reply_of ticket) ×
             IsCollectable self.now.log ticket) }

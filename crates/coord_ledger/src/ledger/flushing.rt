@@ -1,4 +1,4 @@
-//! Flights go out, and come back.
+//! Sends flights out, and takes them back.
 
 ghost use Rattle.std.specs.Prelude.{◌≡◌, ◌≢◌, ◌+◌, ◌↔◌, ◌≤◌, false, true, is_some, None, Ok, Some, drop, length, take, IfErr, IfOk, IsSomeAnd, IsTrue, OnErr, OnOk};
 ghost use Rattle.coord_types.specs.declared.limits.TheConstants.{MAX_BATCH_STEPS};
@@ -24,7 +24,7 @@ fn next_steps(trail: &[Step], done: usize, size: usize) -> &[Step]
 }
 
 impl<D: Disk> Ledger<D> {
-    /// The world after these next steps: the front world, if they are all that is pending.
+    /// The world after these next steps: the front world, if they are all pending steps.
     fn world_behind(&self, steps: &[Step]) -> Result<World, AllocError>
         requires { steps.now ≡ take (length steps.now) (pending self.now.log) }
         ensures { IfOk result (λ world. world ≡ fold (settled_world self.now.log) steps.now) }
@@ -88,8 +88,8 @@ impl<D: Disk> Ledger<D> {
         }
     }
 
-    /// Sends the store out with the next steps that are not settled, at most 256. None where
-    /// nothing is pending, a flight is out or the ledger has stopped.
+    /// Sends the store out with the next unsettled steps, at most 256. Returns None if nothing is
+    /// pending, a flight is out or the ledger has stopped.
     pub fn begin_flush(&mut self) -> Result<Option<Flight<D>>, AllocError>
         ensures nothing { keeps_store self.old ≡ true → (result ≡ Ok None) × (self.new ≡ self.old) }
         ensures begun { keeps_store self.old ≡ false →
@@ -128,7 +128,7 @@ impl<D: Disk> Ledger<D> {
         are_same(&flight.steps, next_steps(&self.trail, self.done, self.out))
     }
 
-    /// The settled world once a flight that was committed is settled, and what its steps release.
+    /// The settled world after a committed flight, and the releases of its steps.
     fn settled_by(&self, flight: &Flight<D>) -> Result<(World, Vec<Release>), AllocError>
         requires own { IsOut self.now flight.now }
         requires good { flight.now.mark ≡ Mark.Good }
@@ -174,7 +174,7 @@ impl<D: Disk> Ledger<D> {
         drop(replace(&mut self.settled, settled));
     }
 
-    /// Takes back the ledger's own flight. Without memory it hands the flight back.
+    /// Takes back the ledger's own flight. If memory runs out it returns the flight.
     fn land(&mut self, flight: Flight<D>) -> Result<Releases, Flight<D>>
         requires { IsOut self.old flight }
         ensures own { IsOut self.old flight }
@@ -198,12 +198,12 @@ impl<D: Disk> Ledger<D> {
         }
     }
 
-    /// Takes back the flight that is out, and its store with it. A good flight settles its steps,
-    /// and gives what they release. One that was not committed settles nothing. A torn one settles
-    /// nothing either, and the ledger stops.
+    /// Takes back the flight that is out, with its store. A good flight settles its steps and
+    /// returns their releases. An uncommitted one settles nothing. A torn one settles nothing
+    /// either, and the ledger stops.
     ///
-    /// A flight is refused as `Stranger` where it is not the one that went out: its first number,
-    /// its steps and the world before them are compared. A refusal gives the flight back.
+    /// A flight is refused as `Stranger` if it is not the one that left: its first number, its
+    /// steps and the world before them are compared. A refusal returns the flight.
     pub fn end_flush(&mut self, flight: Flight<D>) -> Result<Releases, (Refusal, Flight<D>)>
         ensures own { OnOk result (IsOut self.old flight) }
         ensures taken { OnOk result (self.new ≡

@@ -11,7 +11,7 @@ use coord_types::{Kind, Step};
 use coord_world::World;
 
 impl<D: Disk> Ledger<D> {
-    /// The steps that were accepted since the base.
+    /// The steps accepted since the base.
     pub fn trail(&self) -> &[Step]
         ensures { result.now ≡ self.now.log.trail }
     {
@@ -35,7 +35,7 @@ impl<D: Disk> Ledger<D> {
     }
 
     /// Takes the ledger apart into its store, base, trail and settled count, unless the store is
-    /// out with a flight. It takes no memory.
+    /// out with a flight. It allocates nothing.
     pub fn into_parts(self) -> Result<(Store<D>, World, Vec<Step>, u64), Self>
         ensures home { IfOk result (λ parts. self.disk ≡ Some parts.0.disk) }
         ensures world { IfOk result (λ parts. parts.0.world ≡ settled_world self.log) }
@@ -80,9 +80,9 @@ impl<D: Disk> Ledger<D> {
         self.store.is_none()
     }
 
-    /// Does nothing. Its contract is what the type keeps of every ledger: the log is consistent,
-    /// with the steps that are out and those in doubt; while steps are out the store is out with
-    /// them; a ledger that has stopped has its store back.
+    /// Does nothing. Its contract is the invariant of the type: the log is consistent, with the
+    /// steps that are out and those in doubt; while steps are out the store is out with them; a
+    /// stopped ledger has its store.
     pub fn lemma_log_is_consistent(&self)
         ensures log { IsConsistentLog self.now.log }
         ensures out { IfSome self.now.out (FitsOut self.now.log) }

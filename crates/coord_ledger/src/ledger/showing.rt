@@ -1,4 +1,4 @@
-//! What is sent again, and what is shown.
+//! Resending and showing.
 
 ghost use Rattle.std.specs.Prelude.{◌≡◌, ◌<◌, ◌≤◌, Err, is_some, false, true, IfOk, MatchResult, OnErr};
 ghost use Rattle.coord_types.specs.declared.refusals.Refusal.TheVariants.{OutOfMemory, Stopped, Behind};

@@ -1,4 +1,4 @@
-//! How steps are accepted.
+//! Accepts steps.
 
 ghost use Rattle.std.specs.Prelude.{◌≡◌, Err, IfOk, IsOkAnd, MatchResult, Ok, OnErr};
 ghost use Rattle.coord_types.specs.declared.refusals.Refusal.TheVariants.{OutOfMemory};
@@ -16,7 +16,7 @@ use coord_world::{StepOutcome, Verdict};
 use std::alloc::AllocError;
 
 impl<D: Disk> Ledger<D> {
-    /// What the ledger says to a step, as if there was always memory.
+    /// The ledger's answer to a step, assuming there is memory.
     fn judge(&self, step: &Step) -> Result<Verdict, Refusal>
         ensures { result ≡ verdict self.now.log step.now }
     {
@@ -33,7 +33,7 @@ impl<D: Disk> Ledger<D> {
         verdict
     }
 
-    /// Accepts a fresh step, whose reply will have this kind, and gives the reply.
+    /// Accepts a fresh step, whose reply will have this kind, and returns the reply.
     fn accept(&mut self, step: Step, kind: Kind) -> Result<Reply, AllocError>
         requires { verdict self.old.log step ≡ Ok (Verdict.Fresh kind) }
         ensures accepted { IfOk result (λ _. self.new ≡ with_accepted self.old step) }
@@ -52,8 +52,8 @@ impl<D: Disk> Ledger<D> {
         Ok(reply)
     }
 
-    /// Hands a step in as [`Ledger::submit`] does, with the same refusals, and says beside the
-    /// ticket whether the step is new: a client's last order that comes again is no step.
+    /// Submits a step like [`Ledger::submit`], with the same refusals, and also returns whether the
+    /// step is new: a client's last order, sent again, is not a step.
     pub fn hand_in(&mut self, step: Step) -> Result<Handed, Refusal>
         ensures { HandedTo self.old step result self.new }
     {
@@ -66,8 +66,8 @@ impl<D: Disk> Ledger<D> {
         }
     }
 
-    /// Accepts a step, and gives a ticket for its reply. A client's last order that comes again is
-    /// no step: its ticket is for the reply that was kept.
+    /// Accepts a step, and returns a ticket for its reply. A client's last order, sent again, is
+    /// not a step: its ticket is for the kept reply.
     ///
     /// It refuses with the first that applies of `Stopped`, `PendingFull` (1,024 steps are not
     /// settled; a repeat comes before it), `Exhausted`, the step's own refusals in the order of

@@ -1,6 +1,6 @@
 -- A transition at one node keeps its state sound and its links legal, at both ends.
 use Rattle.std.proofs.Common.{◌≡◌, ℕ, true, false, ◌&&◌, [], ◌∷◌, ◌++◌, arith, ◌≢◌, ◌+◌, Bool, not, Option, Some, None, cond, eqb, refl, sym, ap, ◌∙◌, subst, inl, inr}
-use Rattle.std.proofs.lemmas.Bool.Decides.{nat_tests, eqb_distinguishes}
+use Rattle.std.proofs.lemmas.Bool.Decides.{nat_tests, eqb_tells}
 use Rattle.std.proofs.lemmas.List.{append-nil}
 use Rattle.coord_types.specs.declared.messages.Mode.TheVariants.{Ready, Abort, Converge}
 use Rattle.coord_world.proofs.lanes.Transit.{ways}
@@ -183,7 +183,7 @@ module _ (version : ℕ) (r s : NodeState) (v : ℕ) (aside : Aside r s v) where
         let wait : l.here.mode ≡ Abort = ap (λ e. e.mode) here ∙ mode in
         let apart : s.distance ≡ l.here.distance = aside.distance ∙ sym (ap (λ e. e.distance) here) in
         let sent : carries version s ≡ l.here.carries = same_carries ∙ sym (ap (λ e. e.carries) here) in
-        elim (eqb_distinguishes y p) [
+        elim (eqb_tells y p) [
           | inl same ↦ converges_up l _ apart sent wait still (child ∙ grind (arith, nat_tests)) refl (empty_has s.pend y none) (ap (λ q. is_parent q y) up ∙ grind (arith, nat_tests)) refl
               (grind (arith, nat_tests, has_only p y)) refl both
           | inr other ↦ converges_far l _ apart sent wait still (child ∙ grind (arith, nat_tests)) refl (empty_has s.pend y none) (ap (λ q. is_parent q y) up ∙ grind (arith, nat_tests)) refl

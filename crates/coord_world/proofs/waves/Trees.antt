@@ -1,6 +1,6 @@
 -- The trees of overlapping resets: a node is signalled no more often than it was in a tree that is felled, and each start plants one.
 use Rattle.std.proofs.Common.{◌≡◌, ◌≢◌, ◌⊎◌, ℕ, ◌≤◌, ◌+◌, Bool, true, false, not, ◌||◌, List, [], ◌∷◌, Some, None, refl, sym, ap, ◌∙◌, subst, inl, inr, arith, eqb, cond, count_by, length}
-use Rattle.std.proofs.lemmas.Bool.Decides.{nat_tests, eqb_distinguishes}
+use Rattle.std.proofs.lemmas.Bool.Decides.{nat_tests, eqb_tells}
 use Rattle.std.proofs.lemmas.List.Sums.{sum_by-append}
 use Rattle.coord_types.specs.Facade.{Ideal, NodeState, contains}
 use Rattle.coord_types.specs.declared.messages.Mode.TheVariants.{Abort, Converge}
@@ -37,7 +37,7 @@ Reached z u (x ∷ xs) = IsUnder z u xs x × Reached z u xs
 -- each node of the list is u or has its parent in it
 under : (z : Ideal) (u : ℕ) (xs : List ℕ) → Reached z u xs → (x : ℕ) → among xs x ≡ true → IsUnder z u xs x
 under z u [] reached x h = cc
-under z u (y ∷ xs) reached x h = elim (eqb_distinguishes x y) [
+under z u (y ∷ xs) reached x h = elim (eqb_tells x y) [
   | inl same ↦ more (subst (IsUnder z u xs) (sym same.1) reached.0)
   | inr apart ↦ more (under z u xs reached.1 x (grind (arith, apart.0, h)))
 ]
@@ -65,7 +65,7 @@ module _ (y : Ideal) (u : ℕ) (sound : Sound y) (top : is_empty (y.state u).pen
   -- down the list
   quiet : (xs : List ℕ) → Reached y u xs → (x : ℕ) → among xs x ≡ true → is_empty (y.state x).pend ≡ true
   quiet [] reached x h = cc
-  quiet (q ∷ xs) reached x h = elim (eqb_distinguishes x q) [
+  quiet (q ∷ xs) reached x h = elim (eqb_tells x q) [
     | inl same ↦ rw same.1 (elim reached.0 [
       | inl is_u ↦ rw is_u top
       | inr from ↦ below q from.0 from.1 (quiet xs reached.1 from.0 from.2)

@@ -1,4 +1,4 @@
--- A world without a fault is legal, and the first fault fails where it says.
+-- A world without a fault is legal, and the first fault fails at the reported place.
 use Rattle.std.proofs.Common.{◌≡◌, Some, sym, ◌∙◌}
 use Rattle.std.specs.List.{flat_map}
 use Rattle.coord_world.specs.protocol.NumberedWorld.{World}

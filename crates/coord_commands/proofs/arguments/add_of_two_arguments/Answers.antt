@@ -1,6 +1,6 @@
 use Rattle.std.proofs.Common.{rules, ap, ap₂, ◌||◌, ◌∙◌}
 use Rattle.std.proofs.lemmas.Result.{IfOk-weaker}
-use Rattle.clap.specs.Arguments.{App, Shape, app_of, with_rule, with_subcommand}
+use Rattle.clap.specs.Words.{App, Shape, app_of, with_rule, with_subcommand}
 use Rattle.coord_commands.proofs.arguments.add_of_two_arguments.Goals as goal
 
 pub returns : goal.returns

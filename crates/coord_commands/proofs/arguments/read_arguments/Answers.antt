@@ -1,7 +1,7 @@
 use Rattle.std.proofs.Common.{◌≡◌, ◌⊎◌, ◌∙◌, ap, ap₂, length, ℕ, inr, map, refl, rules, string_bytes, sym, true, List, Option, Some, None, IfErr, IfOk, option_and_then, option_map}
 use Rattle.std.proofs.lemmas.List.{length-map}
 use Rattle.std.specs.Option.{ok_or}
-use Rattle.clap.specs.Arguments.{App, Row, Text, app_of, is_simple, subcommand_of, takes}
+use Rattle.clap.specs.Words.{App, Row, Text, app_of, is_simple, subcommand_of, takes}
 use Rattle.clap.proofs.OnLiterals.{clap_on_literals}
 use Rattle.coord_commands.specs.Arguments.{AskedCommand, asked_of, asked_of_name, in_arguments, resetd, task_of}
 use Rattle.coord_commands.specs.declared.fault.Fault.TheVariants.{OutOfMemory, Usage}

@@ -1,5 +1,5 @@
 use Rattle.std.proofs.Common.{codes, rules}
-use Rattle.clap.specs.Arguments.{found_of}
+use Rattle.clap.specs.Words.{found_of}
 use Rattle.clap.proofs.WalkLemmas.{first_value-rows}
 use Rattle.coord_commands.proofs.arguments.task_of_file.Goals as goal
 

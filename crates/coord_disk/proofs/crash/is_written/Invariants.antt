@@ -3,7 +3,7 @@ use Rattle.coord_disk.specs.Disks.History.{replayed}
 use Rattle.coord_disk.specs.Model.Present.{is_within, whole}
 use Rattle.coord_disk.proofs.crash.is_written.Given as goal
 
--- what was done from n on neither wrote to the place nor synced
+-- no call from n on wrote to the place or synced
 abbrev pub invariant-loop-n : goal.invariant-loop-n
 invariant-loop-n l = record {
   within : l.n ≤ length l.entries;

@@ -3,7 +3,7 @@ use Rattle.coord_disk.specs.Disks.History.{replayed}
 use Rattle.coord_disk.specs.Model.Present.{IsImage, is_within, whole}
 use Rattle.coord_disk.proofs.history.copy_written.Given as goal
 
--- what was written from n on, back to the last sync, is copied
+-- the writes from n on, back to the last sync, are copied
 abbrev pub invariant-loop-n : goal.invariant-loop-n
 invariant-loop-n l = record {
   within : l.n ≤ length l.entries;

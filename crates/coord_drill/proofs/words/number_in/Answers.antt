@@ -1,6 +1,6 @@
 use Rattle.std.proofs.Common.{◌≡◌, ◌≢◌, ℕ, ◌<◌, ◌^◌, true, List, [], ◌∷◌, length, Result, Ok, Err, None, refl, sym, ◌∙◌, arith, get_or}
 use Rattle.std.specs.Result.{result_ok}
-use Rattle.std.proofs.lemmas.Str.Parse.{numerals_by_value, recognizes_all_ascii_digits, parse_plain}
+use Rattle.std.proofs.lemmas.Str.Parse.{numerals_by_value, tells_all_ascii_digits, parse_plain}
 use Rattle.std.proofs.lemmas.Str.Pattern.{starts_char}
 use Rattle.std.proofs.lemmas.Bool.{false≢true}
 use Rattle.std.proofs.lemmas.Grind.{common_steps}
@@ -31,4 +31,4 @@ pub returns : goal.returns
 returns c =
     let reports = starts_char 43 c.args.word.now c.starts_with.result c.starts_with.ensures.cases (omega arith) (omega arith) in
     let no_plus : get_or c.args.word.now 0 0 ≢ 43 = λ e. absurd (false≢true (sym c.if-starts_with.false ∙ reports.1 e)) in
-    c.ok.ensures.value ∙ number_read c.args.word.now c.parse.result (parse_plain (numerals_by_value _ recognizes_all_ascii_digits) 64 c.args.word.now c.parse.result c.parse.ensures.value.0 no_plus)
+    c.ok.ensures.value ∙ number_read c.args.word.now c.parse.result (parse_plain (numerals_by_value _ tells_all_ascii_digits) 64 c.args.word.now c.parse.result c.parse.ensures.value.0 no_plus)

@@ -6,7 +6,7 @@ use Rattle.coord_disk.specs.Model.Present.{Present, FitsNoMore, IsImage}
 use Rattle.coord_disk.proofs.MomentLemmas.{Quiet, and_quiet, at_first}
 use Rattle.coord_journal.proofs.barrier.read_durable.Goals as goal
 
--- what leaves the disk as it is adds nothing
+-- a call that leaves the disk unchanged adds nothing
 same : (p q : Present) → q ≡ p → FitsNoMore p q
 same p q is image now = subst (λ r. IsImage r image) is now
 

@@ -2,7 +2,7 @@ use Rattle.std.proofs.Common.{◌≡◌, ◌++◌, ℕ, List, length}
 use Rattle.coord_journal.specs.Facade.{IsOpened, ReadsAs, bodies}
 use Rattle.coord_journal.proofs.read.read_batches.Given as goal
 
--- what was read stands in front of the rest, and whatever all of it reads as, the rest reads as something
+-- the batches read so far come before the rest, and if all bytes can be read, so can the rest
 abbrev pub invariant-loop-rest : goal.invariant-loop-rest
 invariant-loop-rest l = record {
   so_far : (opened : List ℕ) × (l.text ≡ opened ++ l.rest) × IsOpened (bodies l.batches.items) opened;

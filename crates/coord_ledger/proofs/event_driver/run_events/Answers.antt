@@ -9,7 +9,7 @@ use Rattle.coord_ledger.proofs.runs.Ends.{completed_all}
 use Rattle.coord_ledger.proofs.runs.Calls.{failed_as, failed_giving_up, failed_on, failed_same}
 use Rattle.coord_ledger.proofs.event_driver.run_events.Goals as goal
 
--- what a call ensures where it succeeds
+-- the clause of a call that succeeds
 on_ok_gives : {A E X : Type 0} (r : Result A E) → is_err r ≡ false → OnOk r X → X
 on_ok_gives (Ok a) fine x = x
 on_ok_gives (Err e) fine x = let no : ⊥ = cc in absurd no

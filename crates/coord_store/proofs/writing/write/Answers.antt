@@ -2,7 +2,7 @@ use Rattle.std.proofs.Common.{arith}
 use Rattle.coord_store.proofs.Holding.{either_is_only, ends_within, on_refusal, only_is_either, only_then_either, only_twice}
 use Rattle.coord_store.proofs.writing.write.Goals as goal
 
--- where the body fits
+-- if the body fits
 pub returns-then-fits-clause-ends : goal.returns-then-fits-clause-ends
 returns-then-fits-clause-ends g c = ends_within g.D.Disk.model 4 8 _ _ _ (omega arith) c.append.ensures.ends
 
@@ -26,7 +26,7 @@ returns-in-Ok-clause-stays g c holds =
       held = appended.held;
     }
 
--- where the checkpoint is refused
+-- if the checkpoint is refused
 pub returns-in-Err-clause-follows : goal.returns-in-Err-clause-follows
 returns-in-Err-clause-follows g c steps holds takes = record {
   any_moment = only_is_either g.D.Disk.model _ _ _ _ (either_is_only g.D.Disk.model _ _ _ (c.in-Err.ensures.follows c.args.world.now holds).any_moment);

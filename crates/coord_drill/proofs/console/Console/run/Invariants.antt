@@ -3,7 +3,7 @@ use Rattle.std.specs.Io.KnownBytes.{Consumes}
 use Rattle.coord_drill.specs.Facade.{IsReadyDrill, TakesPiece, WritesPart}
 use Rattle.coord_drill.proofs.console.Console.run.Given as goal
 
--- what was read, carried out and written so far
+-- the input read, carried out and answered so far
 abbrev pub invariant-loop : goal.invariant-loop
 invariant-loop g l =
     IsReadyDrill l.console.drill

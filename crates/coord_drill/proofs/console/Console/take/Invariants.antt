@@ -2,7 +2,7 @@ use Rattle.std.proofs.Common.{◌≤◌, ◌+◌, length}
 use Rattle.coord_drill.specs.Facade.{IsReadyDrill, TakesPiece, WritesPart}
 use Rattle.coord_drill.proofs.console.Console.take.Given as goal
 
--- what was carried out of the piece, and written of it
+-- the part of the piece that was carried out, and its answers
 abbrev pub invariant-loop-behind : goal.invariant-loop-behind
 invariant-loop-behind g l =
     IsReadyDrill l.console.drill

@@ -54,7 +54,7 @@ returns-in-None-clause-carried g c =
     rw here
     (reports_bad g.D.Disk.model g.D.CrashDisk.crashes d c.args.number (string_bytes c.args.text.now) (string_bytes c.report_bad-in-None.new.text) c.report_bad-in-None.result (Some line) c.report_bad-in-None.ensures.same c.report_bad-in-None.ensures.reported (λ p at number. goes_bad g.D.Disk.model g.D.CrashDisk.crashes d p at line kept asks c.args.number number))
 
--- the disk is given back as it was
+-- the disk is returned unchanged
 pub returns-in_default-clause-cut : goal.returns-in_default-clause-cut
 returns-in_default-clause-cut g c =
     let over : option_copied c.args.line ≡ None = search rules in

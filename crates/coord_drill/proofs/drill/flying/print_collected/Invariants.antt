@@ -4,7 +4,7 @@ use Rattle.coord_ledger.specs.ledger.State.{IsGranted}
 use Rattle.coord_drill.specs.Holding.{collected_lines, left, waiting}
 use Rattle.coord_drill.proofs.drill.flying.print_collected.Given as goal
 
--- what is printed and what is still to be printed, and the tickets that stay
+-- the printed text and the remaining one, and the remaining tickets
 abbrev pub invariant-loop-ticket : goal.invariant-loop-ticket
 invariant-loop-ticket g l =
     (string_bytes l.text ++ collected_lines l.version l.settled l.tickets.items (left l.ahead l.releases) ≡ string_bytes l.initial.text ++ collected_lines l.version l.settled l.initial.tickets.items (left l.initial.ahead l.initial.releases))

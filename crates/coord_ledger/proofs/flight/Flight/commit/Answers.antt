@@ -9,7 +9,7 @@ use Rattle.coord_ledger.specs.ledger.State.{FlightState}
 use Rattle.coord_ledger.proofs.follows.IsOut.{flight_of}
 use Rattle.coord_ledger.proofs.flight.Flight.commit.Goals as goal
 
--- what the store's commit says of its disk where a body fits holds of a new flight's
+-- the statement of the store's commit about its disk when a body fits holds for a new flight's disk
 where_it_fits : {D : Type 0} (model : DiskModel D) (Says : ℕ → D → Type 0) (first : ℕ) (steps items : List Step) (world : World) (next : Option World) (mark : Mark) (kept : Kept D) (f : FlightState D) → flight_of first steps world mark kept ≡ f → mark ≡ New → IsFlight steps world next mark kept → items ≡ steps
     → ((half : ℕ) (body : List ℕ) → model.keeps_model kept.disk ≡ true → kept.torn ≡ None → IsBody kept.world body items → HasPlaceIn half (length body) (model.present kept.disk).read → Says half kept.disk)
     → (half : ℕ) (body : List ℕ) → model.keeps_model f.disk ≡ true → f.mark ≡ New → IsBody f.world body f.steps → HasPlaceIn half (length body) (model.present f.disk).read → Says half f.disk

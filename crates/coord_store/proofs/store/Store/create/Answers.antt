@@ -40,7 +40,7 @@ returns-in-Err-format-clause-taken g c k some other =
 pub returns-clause-taken : goal.returns-clause-taken
 returns-clause-taken g c k some other = let no : ⊥ = omega (arith, some, c.in-Ok-format.ensures.empty k) in absurd no
 
--- what out of memory leaves, where the disk was made
+-- the disk after out of memory, if it was made
 
 memory_not_device : (why : JournalFault) (fault : StoreFault) → fault ≡ store_fault_of why → fault ≡ OutOfMemory → why ≢ journal.Device
 memory_not_device why fault is memory device = let same : OutOfMemory ≡ Device = sym memory ∙ is ∙ ap store_fault_of device in cc

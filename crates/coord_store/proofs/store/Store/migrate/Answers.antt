@@ -33,7 +33,7 @@ returns-in-Some-clause-changes g c = refused g.D.Disk.model c.args.self.now _ fa
 pub returns-in-Err-clause-changes : goal.returns-in-Err-clause-changes
 returns-in-Err-clause-changes g c = refused g.D.Disk.model c.args.self.now _ fault.Device fault.OutOfMemory (λ e. absurd cc) c.lemma_images_give_world.ensures.still
 
--- the world that is put in place is the one that is asked for, and the store tells of it with its own faults
+-- the new world is the required one, and the store reports it with its own faults
 
 pub returns-in-Ok-put-clause-changes : goal.returns-in-Ok-put-clause-changes
 returns-in-Ok-put-clause-changes g c =

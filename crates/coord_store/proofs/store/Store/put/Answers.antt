@@ -14,7 +14,7 @@ invariant_of-self g c =
     kept_after g.D.Disk.model c.self.inside.journal c.put_in_place-written.new.journal c.self.inside.world c.args.next c.conclude.new.world c.self.inside.torn c.conclude.new.torn none c.self.invariant.holds
     g.met.D.Disk.laws c.self.invariant.legal c.requires.legal 4 c.put_in_place-written.result c.conclude.ensures.keeps (c.put_in_place-written.ensures.follows c.self.inside.world) (c.put_in_place-written.ensures.stays c.self.inside.world) c.put_in_place-written.ensures.ends
 
--- what is promised: as the writing says
+-- the promise, as the writing states it
 pub returns-clause-changes : goal.returns-clause-changes
 returns-clause-changes g c =
     let journal = c.self.inside.journal in
