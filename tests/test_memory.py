@@ -268,7 +268,7 @@ class Wave(Case):
 
 
 class SentAgain(Case):
-    """What may be lost is sent again as a server starts, once; and once a client asks for that, where the start had no memory for it."""
+    """A start sends again, once, the packets that may be lost. If memory was refused to it, a client's `resend` sends them."""
 
     takes = 20
 
@@ -278,7 +278,8 @@ class SentAgain(Case):
         self.refusing = Refusing(PROGRAM, self.folder)
 
     def first_of_sending(self, content: bytes) -> int:
-        """Of the first thread's allocations the first one without which a server listens, but can't send again: it ends."""
+        """The number of the first allocation of the first thread after the line `listening`. If it and all later ones are refused, the
+        server has printed that line, and ends as it sends again."""
         with Serving(self.write("store", content), env=self.refusing.environment(threads=FIRST_THREAD)) as server:
             server.await_rest()
             listens, fails = self.refusing.count() + 1, 0
@@ -301,8 +302,8 @@ class SentAgain(Case):
             return False
 
     def test_once_at_a_start(self) -> None:
-        """The start asks for about as many allocations as a client does who has all of it sent again. The world takes no further
-        step, so there is as much to be sent each time."""
+        """A start makes about as many allocations as a client's `resend`. The world takes no further step, so each sends the same
+        packets."""
         content = stores.store(stores.longest_world(), version=2)
         first = self.first_of_sending(content)
         with Serving(self.write("store", content), env=self.refusing.environment(threads=FIRST_THREAD)) as server:
@@ -319,7 +320,7 @@ class SentAgain(Case):
         self.assertLess(abs(at_start - by_client), by_client // 3, (at_start, by_client))
 
     def lost_at_a_start(self, content: bytes, wanted: int) -> Serving:
-        """A server whose start has lost all packets, as it had no memory for them: its workers and its flusher sleep."""
+        """A server whose start has lost all packets, since memory was refused. Its workers and its flusher sleep."""
         first = self.first_of_sending(content)
         for refused in range(first, first + 60):
             server = Serving(self.write("store", content), env=self.refusing.environment(refused, ALL, threads=FIRST_THREAD))
@@ -340,7 +341,7 @@ class SentAgain(Case):
         self.assertEqual(server.close().status, 0)
 
     def test_many_packets_for_one_worker_by_a_client(self) -> None:
-        """256 of them, since each link has an end whose number is divisible by 8: none is lost."""
+        """Each of the 128 links has an end whose number is divisible by 8, so its data and its receipt go to one worker: 256 packets. None is lost."""
         others = [node for node in range(1, 65) if node % 8]
         pairs = sorted(tuple(sorted((8 * hub, others[(7 * hub + near) % 56]))) for hub in range(1, 9) for near in range(16))
         sent, taken = (0, 0, [stores.IS_READY]), (0, 1, [stores.IS_READY])

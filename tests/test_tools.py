@@ -45,7 +45,7 @@ class Run(Case):
 
 
 class Nightly(Case):
-    """`tools/nightly` with parts that miss what they need."""
+    """`tools/nightly` with parts whose package or library is missing."""
 
     takes = 10
 

@@ -71,8 +71,7 @@ def processor_seconds(process: int) -> float:
 
 
 def sleeps(process: int) -> bool:
-    """Whether each thread of a process waits for something. One that waits for a processor alone does not, and none does in a process
-    that ends."""
+    """Whether each thread of a process sleeps. A thread that waits for a processor does not. False if the process has ended."""
     folder, states = f"/proc/{process}/task", set[str]()
     with contextlib.suppress(FileNotFoundError, ProcessLookupError):
         for thread in os.listdir(folder):
@@ -117,7 +116,7 @@ class Serving:
         return lines[0] if lines else None
 
     def await_rest(self) -> bool:
-        """Waits until each of its threads waits for something. False if it has ended."""
+        """Waits until all its threads sleep. False if it has ended."""
         until("the server rests", lambda: self.process.poll() is not None or sleeps(self.process.pid))
         return self.process.poll() is None
 

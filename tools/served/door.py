@@ -25,7 +25,7 @@ HALF = 32_768
 OF_C, OF_GO = range(1, 8), range(8, 15)
 # Of a text what is replaced, and by what.
 Exchanges = Sequence[tuple[str, str]]
-# Has the member in Go count its starts beside what it keeps.
+# Adds to the state of the member in Go a count of its starts.
 COUNTS_STARTS: Exchanges = [
     ("\tFence   string          // of that moment\n", "\tFence   string          // of that moment\n\tStarts  int\n"),
     ('kept.Begun, kept.First = epoch, ""', 'kept.Begun, kept.First, kept.Starts = epoch, "", kept.Starts+1')]
@@ -46,8 +46,8 @@ class Programs:
 
 
 def build_members(folder: str, library: str, coordinator: str, exchanges: Exchanges = ()) -> Programs:
-    """Compiles the members. Those in Go count their starts, and then have these exchanges in their text. Raises Failed where a
-    compiler is missing: nothing is left out."""
+    """Compiles the members. The source of those in Go gets a count of starts and then these exchanges. Raises Failed if a compiler is
+    missing: nothing is left out."""
     missing = [package for command, package in (("cc", "gcc"), ("go", "golang-go")) if not shutil.which(command)]
     if missing:
         raise Failed(f"these Debian packages are missing: {' '.join(missing)}")

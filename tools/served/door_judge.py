@@ -13,7 +13,7 @@ LOOK_SECONDS = 0.1
 
 
 class Start(NamedTuple):
-    """A start of a member: the epoch that was begun, and what another one of that member does not have."""
+    """A start of a member: the epoch that was begun, and a name that no other start of that member has."""
 
     epoch: str
     name: tuple[int, int]
@@ -28,8 +28,8 @@ class Talk(NamedTuple):
 
 
 def start_of(folder: str) -> Start | None:
-    """The start that a member's file has now: of a member in Go its count, of others the file itself, which is another one after each
-    begin. None if it has none."""
+    """The start that a member has now, by its files: a member in Go counts its starts, and the others write a new file at each. None if
+    it has begun nothing."""
     with contextlib.suppress(FileNotFoundError), open(f"{folder}/kept", encoding="utf-8") as file:
         kept = json.load(file)
         return Start(kept["Begun"], (kept["Starts"], 0)) if kept["Begun"] else None

@@ -20,8 +20,8 @@ MEBIBYTES = {"ext4": 48, "xfs": 320, "btrfs": 128, "f2fs": 64}  # about the leas
 
 @dataclass(frozen=True)
 class FileSystem:
-    """A file system with its mount options. `no_barrier` is the option with which it sends no flush, where it has one. `syncs_at_start`
-    says why a start there has all synced, also without the barrier; it is empty where it has not."""
+    """A file system with its mount options. `no_barrier` is the option with which it sends no flush, if it has one. `syncs_at_start`
+    says why a start syncs the store there even without the barrier; it is empty if a start does not."""
 
     name: str
     kind: str

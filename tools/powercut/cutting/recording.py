@@ -18,8 +18,8 @@ STILL_MILLISECONDS = 1_500  # so that the file system writes what it wrote late
 
 @dataclass
 class Run:
-    """What a run is. `scenario` is one of SCENARIOS. If the nodes are apart, an order is the only step that it makes. With
-    `has_late_syncs` a kill often finds writes that are not synced. In a further life `owed` and `signalled` are what was answered and
+    """What a run is. `scenario` is one of SCENARIOS. If the nodes are apart, no order sends packets. With
+    `has_late_syncs` a kill often finds unsynced writes. In a further life `owed` and `signalled` are what was answered and
     signalled before the cut."""
 
     scenario: str

@@ -15,8 +15,8 @@ from .recording import Run, load_run, record
 WITHOUT_BARRIER = "barrier_left_out"
 MUTANTS = ("body_not_synced", "gate_not_synced", WITHOUT_BARRIER)
 TRIES = 4  # seeds with which a control is tried until it finds something
-# A run in which many kills find writes that are not synced, and where it is cut: as soon as an answer after a kill was read. After a
-# kill no packet is on its way, whose step would have all synced before that.
+# A run in which many kills find unsynced writes. It is cut as soon as an answer after a kill was read. No packet is on its way then,
+# since its step would sync the file before that answer.
 KILLS: dict[str, Any] = {"orders": 120, "kills": 20, "noise": False, "is_apart": True, "has_late_syncs": True}
 KILLED = Places(("killed",), is_at_markers=True)
 

@@ -1,5 +1,5 @@
-/* Stands before the C library in a program: each sync begins late, so that a kill often finds writes that are not synced; much later after
- * a write of one byte, which opens the gate of a batch. */
+/* Preloaded into a program: it delays each sync, so that a kill often finds unsynced writes. After a write of one byte, which opens the
+ * gate of a batch, the delay is long. */
 #include <sys/syscall.h>
 #include <unistd.h>
 
