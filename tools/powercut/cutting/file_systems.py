@@ -15,7 +15,7 @@ MKFS = {
     "btrfs": ["mkfs.btrfs", "-f", "-q"],
     "f2fs": ["mkfs.f2fs", "-f", "-q"],
 }
-MEBIBYTES = {"ext4": 48, "xfs": 320, "btrfs": 128, "f2fs": 64}  # about the least of each
+MEBIBYTES = {"ext4": 160, "xfs": 320, "btrfs": 128, "f2fs": 64}  # about the least of each; ext4 has a second superblock from 128 on
 
 
 @dataclass(frozen=True)
