@@ -44,6 +44,18 @@ class Run(Case):
         return printed
 
 
+class Door(Run):
+    takes = 120
+    programs = ("RESETD", "RESETD_MEMBER")
+
+    def test_a_short_soak(self) -> None:
+        """Some rounds with all 64 members. How long they may be stuck is no matter of this test."""
+        self.needs("a C compiler", bool(shutil.which("cc")))
+        self.needs("Go", bool(shutil.which("go")), is_optional=True)
+        printed = self.expect(tool("soak_door"), "--library", os.path.dirname(os.environ["RESETD_MEMBER"]), "--minutes", "0.5", "--stuck", "1500")
+        self.assertRegex(printed.splitlines()[-1], r"^[1-9]\d* rounds: .* looks at 64 members, 0 mixed, ")
+
+
 class Nightly(Case):
     """`tools/nightly` with parts whose package or library is missing."""
 
