@@ -3,7 +3,8 @@
 import os
 import struct
 import subprocess
-from dataclasses import dataclass
+from collections.abc import Mapping
+from dataclasses import dataclass, field
 
 MEBIBYTE = 1 << 20
 START = MEBIBYTE  # where the file system begins
@@ -20,14 +21,14 @@ MEBIBYTES = {"ext4": 160, "xfs": 320, "btrfs": 128, "f2fs": 64}  # about the lea
 
 @dataclass(frozen=True)
 class FileSystem:
-    """A file system with its mount options. `no_barrier` is the option with which it sends no flush, if it has one. `syncs_at_start`
-    says why a start syncs the store there even without the barrier; it is empty if a start does not."""
+    """A file system with its mount options. `no_barrier` is the option with which it sends no flush, if it has one. `harmless` are
+    the mutants that lose nothing there, each with the reason."""
 
     name: str
     kind: str
     options: str = ""
     no_barrier: str | None = None
-    syncs_at_start: str = ""
+    harmless: Mapping[str, str] = field(default_factory=dict)
 
 
 ALL = {
@@ -35,7 +36,8 @@ ALL = {
         FileSystem("ext4", "ext4", no_barrier="barrier=0"),
         FileSystem("ext4-writeback", "ext4", "data=writeback", "data=writeback,barrier=0"),
         FileSystem("ext4-journal", "ext4", "data=journal", "data=journal,barrier=0",
-                   syncs_at_start="the sync of the store's folder commits its bytes too"),
+                   {"barrier_left_out": "a start syncs the store's folder, which commits the store's bytes too",
+                    "body_not_synced": "one transaction of the journal has a batch's body and its gate"}),
         FileSystem("xfs", "xfs"),
         FileSystem("btrfs", "btrfs", no_barrier="nobarrier"),
         FileSystem("f2fs", "f2fs", no_barrier="nobarrier"),

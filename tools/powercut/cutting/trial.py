@@ -97,8 +97,8 @@ class Trial:
         else:
             self._control("no flushes", self._without_flushes)
         for number, name in enumerate(MUTANTS, 1) if self._setting.wrong is not None else ():
-            if name == WITHOUT_BARRIER and self._of.syncs_at_start:
-                self.controls[name] = f"not tried: {self._of.syncs_at_start}"
+            if name in self._of.harmless:
+                self.controls[name] = f"not tried: {self._of.harmless[name]}"
             else:
                 self._control(name, partial(self._of_mutant, number))
 
