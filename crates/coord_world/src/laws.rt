@@ -9,7 +9,7 @@ ghost use Rattle.coord_world.specs.laws.Trails.{FoldCounts, TrailGoesOn, TrailIs
 ghost use Rattle.coord_world.specs.laws.Version1.{Version1AsksNoDistance};
 ghost use Rattle.coord_world.specs.laws.Waves.{OncePerWave};
 ghost use Rattle.coord_world.specs.laws.Between.{BoundBetween};
-ghost use Rattle.coord_world.specs.laws.Overlaps.{AllOrNone, AloneAsFinished, AskedIsSignalled, AskedReachesAll, EpochsCountSignals, NoMoreThanStarted, OnceIfOneStarted, OnceOrMore};
+ghost use Rattle.coord_world.specs.laws.Overlaps.{AllOrNone, AloneAsFinished, AskedIsSignalled, AskedReachesAll, EpochsCountSignals, EpochsRiseTogether, NoMoreThanStarted, OnceIfOneStarted, OnceOrMore};
 
 /// A world that takes a step over some settled world also takes it over itself.
 #[tactic(auto, using(crate::proofs::Acceptance::itself))]
@@ -130,7 +130,13 @@ pub fn epochs_count_signals()
     ensures { EpochsCountSignals }
 {}
 
-/// Both bounds hold of the steps of a history between two moments at which every node of a part that no
+/// If every node of a part that no link leaves is Ready before and after such steps, then of the nodes
+/// that links connect with each other all have entered a new epoch or none has.
+pub fn epochs_rise_together()
+    ensures { EpochsRiseTogether }
+{}
+
+/// Both bounds hold for the steps of a history between two moments at which every node of a part that no
 /// link leaves is Ready.
 pub fn bound_between()
     ensures { BoundBetween }

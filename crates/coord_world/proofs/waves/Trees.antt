@@ -1,4 +1,4 @@
--- The trees of overlapping resets: a node is signalled no more often than it was in a tree that is felled, and each start plants one.
+-- The trees of overlapping resets: each start plants a tree, each finish of an initiator fells one, and no node is signalled more often than its trees are felled.
 use Rattle.std.proofs.Common.{◌≡◌, ◌≢◌, ◌⊎◌, ℕ, ◌≤◌, ◌+◌, Bool, true, false, not, ◌||◌, List, [], ◌∷◌, Some, None, refl, sym, ap, ◌∙◌, subst, inl, inr, arith, eqb, cond, count_by, length}
 use Rattle.std.proofs.lemmas.Bool.Decides.{nat_tests, eqb_tells}
 use Rattle.std.proofs.lemmas.List.Sums.{sum_by-append}
@@ -45,7 +45,7 @@ under z u (y ∷ xs) reached x h = elim (eqb_tells x y) [
     more : IsUnder z u xs x → IsUnder z u (y ∷ xs) x
     more known = elim known [ inl is_u ↦ inl is_u | inr from ↦ inr (from.0, from.1, grind (arith, from.2)) ]
 
--- the list stays where the parents of its nodes do
+-- the list stays as it is if the parents of its nodes do
 reached_same : (z y : Ideal) (u : ℕ) (xs : List ℕ) → ((x : ℕ) → among xs x ≡ true → x ≢ u → (y.state x).parent ≡ (z.state x).parent) → Reached z u xs → Reached y u xs
 reached_same z y u [] same reached = tt
 reached_same z y u (x ∷ xs) same reached = (again, reached_same z y u xs (λ q h far. same q (grind (arith, h)) far) reached.1)
@@ -131,7 +131,7 @@ module _ (part : ℕ → Bool) (z : Ideal) (u : ℕ) (xs : List ℕ) (sound : So
         omega arith;
   }
 
-  -- where a node that is not u and not in it changes alone
+  -- if only one node changes, and it is neither u nor in the tree
   stays_far : (y : Ideal) (t : ℕ) → u ≢ t → ((x : ℕ) → among xs x ≡ true → x ≢ t) → ((x : ℕ) → x ≢ t → y.state x ≡ z.state x) →
       ((x p : ℕ) → among xs x ≡ true → among xs p ≡ true → aborts (y.in_transit p x) ≤ aborts (z.in_transit p x)) → Grown part y u xs
   stays_far y t top far elsewhere fewer = stays y (in_place u top) (λ x h. in_place x (far x h)) fewer
@@ -242,7 +242,7 @@ length-felled : (t : ℕ) (ts : List Tree) → length (felled t ts) ≤ length t
 length-felled t [] = omega arith
 length-felled t (tree ∷ ts) = let later = length-felled t ts in grind (arith, nat_tests, later)
 
--- a node is in a tree only where there is one
+-- if a node is in a tree, there is a tree
 some_tree : (ts : List Tree) (x : ℕ) → one (in_trees ts x) ≤ length ts
 some_tree [] x = omega arith
 some_tree (t ∷ ts) x = grind (arith, nat_tests)
@@ -262,7 +262,7 @@ module _ (part : ℕ → Bool) where
   each z y keep [] grown = tt
   each z y keep (t ∷ ts) grown = (keep t.0 t.1 grown.0, each z y keep ts grown.1)
 
-  -- a node that is in no tree by itself is in none of them
+  -- a node that no tree can hold is in none of them
   outside : (z : Ideal) (t : ℕ) → ((u : ℕ) (xs : List ℕ) → Grown part z u xs → among xs t ≡ true → ⊥) → (ts : List Tree) → AllGrown z ts → in_trees ts t ≡ false
   outside z t out [] grown = refl
   outside z t out (tree ∷ ts) grown =
@@ -344,13 +344,13 @@ module _ (part : ℕ → Bool) (z y : Ideal) (ts : List Tree) (signals : ℕ →
     paid = λ x inside some. let none = silent x some in let same = ap (λ m. one (not (is_ready m))) (passes.same x).mode in omega arith;
   }
 
-  -- t leaves Ready, and enters trees where it is in the part
+  -- t leaves Ready, and enters trees if it is in the part
   module _ (t : ℕ) (was : is_ready (z.state t).mode ≡ true) (elsewhere : Elsewhere z y t) where
     -- it was in none
     free : in_trees ts t ≡ false
     free = outside part z t (λ u xs grown h. not_in part z u xs sound grown t was t h refl) ts forest.grown
 
-    -- where it enters none
+    -- if it enters none
     far_covered : part t ≡ false → (x : ℕ) → part x ≡ true → is_abort (y.state x).mode ≡ true → in_trees ts x ≡ true
     far_covered out x inside h = forest.covered x inside (elim (same_or_apart x t) [
       | inl here ↦ absurd (let in_t = subst (λ q. part q ≡ true) here inside in cc)
