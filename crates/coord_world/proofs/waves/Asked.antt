@@ -94,7 +94,7 @@ two_owed z a b da db apart owed_a owed_b x busy = elim (same_or_apart x b) [
 ]
 
 -- a node without neighbours is Ready
-lone_ready : (z : Ideal) → Sound z → (u : ℕ) → is_empty (z.state u).neighbours ≡ true → is_ready (z.state u).mode ≡ true
+pub lone_ready : (z : Ideal) → Sound z → (u : ℕ) → is_empty (z.state u).neighbours ≡ true → is_ready (z.state u).mode ≡ true
 lone_ready z sound u alone = in_mode (z.state u).mode refl
   where
     -- it awaits nobody

@@ -21,7 +21,7 @@ use Rattle.coord_world.proofs.waves.Running.{AllGo, Start, all_go, near_kept, st
 use Rattle.coord_world.proofs.waves.SignalsOf.{all_explained, signals_given}
 use Rattle.coord_world.proofs.waves.Spread.{all_among, among, among-append, reached_signals}
 use Rattle.coord_world.proofs.waves.StepEffects.{signals_in}
-use Rattle.coord_world.proofs.waves.Trees.{no_more}
+use Rattle.coord_world.proofs.waves.Bounded.{no_more}
 
 -- ---- each signal is explained
 
