@@ -149,7 +149,7 @@ class Searches(Case):
         return subprocess.run([tool(name), *words], capture_output=True, text=True, check=False)
 
     def test_the_rules_with_a_link_that_is_dropped(self) -> None:
-        found = self.search("overlap_search", "--drops", "1")
+        found = self.search("overlap_search", "--drops", "1", "--joins", "1")
         self.assertEqual(found.returncode, 0, found.stdout)
 
     def test_wrong_rules(self) -> None:
