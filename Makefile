@@ -54,11 +54,11 @@ soak:
 instances:
 	@tools/soak --instances 32 --rounds $(or $(ROUNDS),100)
 
-soak-door: bin/resetd lib/libresetd_member.a
-	@tools/soak_door --minutes $(or $(MINUTES),30)
+soak-door: $(PROGRAM) lib/libresetd_member.a
+	@tools/soak_door --program $(PROGRAM) --minutes $(or $(MINUTES),30)
 
-powercut: bin/resetd
-	@tools/powercut/run --jobs $(JOBS) --images $(or $(IMAGES),2000)
+powercut: $(PROGRAM)
+	@tools/powercut/run --program $(PROGRAM) --jobs $(JOBS) --images $(or $(IMAGES),2000)
 
 takeover: bin/resetd
 	@tools/takeover
@@ -92,8 +92,8 @@ bench: build
 sweep:
 	bench/refused_allocations --seconds $(or $(EACH),12) units resetd
 
-nightly: bin/resetd lib/libresetd_member.a
-	@tools/nightly --jobs $(JOBS)
+nightly: $(PROGRAM) lib/libresetd_member.a
+	@tools/nightly --program $(PROGRAM) --jobs $(JOBS) --images $(or $(IMAGES),2000)
 
 test:
 	@tools/layers

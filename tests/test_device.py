@@ -5,13 +5,14 @@ that was synced, and any first part of what was written since. Each such file ha
 that was answered, or whose signal was printed, before that moment.
 """
 
+import os
 import random
 import re
 from collections.abc import Iterable, Iterator, Mapping, Sequence
 
 from support import preloaded, stores
 from support.case import Case
-from support.program import ran
+from support.program import Ended, faulted, ran
 from support.serving import Serving
 from support.stores import ring, topology
 
@@ -22,6 +23,9 @@ BEGUN = re.compile(r"^node (\d+) 1 \w+ \d+ 1 ", re.MULTILINE)
 Order = dict[str, str | int]
 # A call as it was written down: its name, its file, its place and its bytes.
 Call = tuple[str, int, int, bytes]
+# What `init` prints of a ring of three, and what `check` says of what a cut of it leaves.
+WHOLE, LEGAL = Ended(0, "created 6\n", ""), Ended(0, "legal 6\n", "")
+CUT = [faulted(1, "NoMagic"), faulted(1, "BadRecord"), Ended(0, "legal 0\n", ""), LEGAL]
 RESET: Order = {"op": "reset", "node": 1}
 # The second step is the one that signals.
 EACH_KIND: list[Order] = [RESET, {"op": "add", "node": 2, "group": 1}, {"op": "join", "a": 1, "b": 2}, {"op": "drop", "a": 1, "b": 2},
@@ -103,6 +107,21 @@ class Moments(Case):
         ended = ran("check", self.write("left", image))
         self.assertEqual((ended.status, ended.told), (0, ""), ended.printed)
         self.assertGreaterEqual(int(ended.printed.split()[1]), answered)
+
+    def test_a_store_that_is_made(self) -> None:
+        """A cut of `init` leaves no store, one without a step, or the whole one; once it has printed its line, the whole one."""
+        path, calls = self.path("store"), self.path("calls")
+        self.assertEqual(ran("init", path, self.write("topology", ring(3)),
+                             env={**os.environ, **preloaded.environment(self.folder, CALLS=calls)}), WHOLE)
+        is_printed, found = False, set[Ended]()
+        for name, _, text, device in self.follow(b"", calls_of(calls)):
+            is_printed |= name == "out" and text == WHOLE.printed.encode()
+            for image in device.images():
+                ended = ran("check", self.write("left", image))
+                self.assertIn(ended, [LEGAL] if is_printed else CUT)
+                found.add(ended)
+        self.assertTrue(is_printed)
+        self.assertEqual(found, set(CUT))
 
     def serve(self, first: int, orders: Sequence[Order]) -> tuple[bytes, list[Call]]:
         """Serves orders, from one number to another: the store before, and the calls."""

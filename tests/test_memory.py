@@ -267,6 +267,93 @@ class Wave(Case):
         return count
 
 
+class SentAgain(Case):
+    """A start sends again, once, the packets that may be lost. If memory was refused to it, a client's `resend` sends them."""
+
+    takes = 20
+
+    def setUp(self) -> None:
+        super().setUp()
+        self.needs("a C compiler", preloaded.has_compiler())
+        self.refusing = Refusing(PROGRAM, self.folder)
+
+    def first_of_sending(self, content: bytes) -> int:
+        """The number of the first allocation of the first thread after the line `listening`. If it and all later ones are refused, the
+        server has printed that line, and ends as it sends again."""
+        with Serving(self.write("store", content), env=self.refusing.environment(threads=FIRST_THREAD)) as server:
+            server.await_rest()
+            listens, fails = self.refusing.count() + 1, 0
+        while listens - fails > 1:
+            middle = (listens + fails) // 2
+            if self.listens_without(content, middle):
+                listens = middle
+            else:
+                fails = middle
+        return listens
+
+    def listens_without(self, content: bytes, first: int) -> bool:
+        """Whether a server listens to which all allocations from this one on are refused."""
+        environment = self.refusing.environment(first, ALL, threads=FIRST_THREAD)
+        try:
+            with Serving(self.write("store", content), env=environment):
+                return True
+        except AssertionError as early:
+            self.assertIn(str(NO_MEMORY), str(early))
+            return False
+
+    def test_once_at_a_start(self) -> None:
+        """A start makes about as many allocations as a client's `resend`. The world takes no further step, so each sends the same
+        packets."""
+        content = stores.store(stores.longest_world(), version=2)
+        first = self.first_of_sending(content)
+        with Serving(self.write("store", content), env=self.refusing.environment(threads=FIRST_THREAD)) as server:
+            server.await_rest()
+            before = self.refusing.count()
+            at_start = before - first + 1
+            self.assertEqual(server.ask(b"{\n"), {"fault": "BadJson"})
+            server.await_rest()
+            between = self.refusing.count()
+            self.assertEqual(server.ask({"op": "resend"}), {"count": 512, "kind": "resent"})
+            server.await_rest()
+            by_client = self.refusing.count() - between - (between - before)
+        self.assertGreater(by_client, 32)
+        self.assertLess(abs(at_start - by_client), by_client // 3, (at_start, by_client))
+
+    def lost_at_a_start(self, content: bytes, wanted: int) -> Serving:
+        """A server whose start has lost all packets, since memory was refused. Its workers and its flusher sleep."""
+        first = self.first_of_sending(content)
+        for refused in range(first, first + 60):
+            server = Serving(self.write("store", content), env=self.refusing.environment(refused, ALL, threads=FIRST_THREAD))
+            self.addCleanup(server.kill)
+            server.__enter__()
+            if server.await_rest():
+                self.refusing.refuse(0, 0)
+                if server.show()["settled"] < wanted:
+                    return server
+            server.kill()
+        self.fail("no start has lost its packets")
+
+    def test_a_wave_by_a_client(self) -> None:
+        """The flusher sleeps. Nobody asks for anything after the `resend`, and the wave comes to its end all the same."""
+        server = self.lost_at_a_start(stores.store(IN_A_RESET), 10)
+        self.assertEqual(server.ask({"op": "resend"}), {"count": 1, "kind": "resent"})
+        self.assertEqual(sorted(server.await_signals(2)), [(1, 1), (2, 1)])
+        self.assertEqual(server.close().status, 0)
+
+    def test_many_packets_for_one_worker_by_a_client(self) -> None:
+        """Each of the 128 links has an end whose number is divisible by 8, so its data and its receipt go to one worker: 256 packets. None is lost."""
+        others = [node for node in range(1, 65) if node % 8]
+        pairs = sorted(tuple(sorted((8 * hub, others[(7 * hub + near) % 56]))) for hub in range(1, 9) for near in range(16))
+        sent, taken = (0, 0, [stores.IS_READY]), (0, 1, [stores.IS_READY])
+        links = [link(a, b, 65 + place, *((sent, taken) if b % 8 == 0 else (taken, sent))) for place, (a, b) in enumerate(pairs)]
+        rows = [node(at, epoch=3, version=2) for at in range(1, 65)]
+        server = self.lost_at_a_start(stores.store(world(1_000, rows, links), version=2), 1_000 + 256)
+        self.assertGreater(server.ask({"op": "resend"})["count"], 16)
+        until("each packet", lambda: bool(server.show()["settled"] == 1_000 + 128 + 256))
+        self.assertEqual(server.ask({"op": "resend"}), {"count": 0, "kind": "resent"})
+        self.assertEqual(server.close().status, 0)
+
+
 class Waves(Case):
     """Waves over a star, with eight packets to its middle in one flight."""
 
@@ -344,6 +431,14 @@ class Kept(Case):
                 connection.socket.shutdown(socket.SHUT_WR)
                 self.assertEqual(len(connection.rest()), len(lines))
         self.expect_no_more(PROGRAM, self.made(PAIR), ask)
+
+    def test_of_views_of_64_nodes(self) -> None:
+        """More than a thousand of them, of as many nodes and links as there may be, over connections that each ask for several."""
+        def show(server: Serving, _: int) -> None:
+            with server.connect() as connection:
+                connection.send(*[{"op": "show"}] * 16)
+                self.assertEqual([len(connection.reply()["nodes"]) for _ in range(16)], [64] * 16)
+        self.expect_no_more(PROGRAM, self.write("store", stores.store(stores.longest_world(), version=2)), show)
 
     def test_of_a_connection_that_was_torn_off(self) -> None:
         """By its client: in the midst of a line, before a reply, or before it was served."""

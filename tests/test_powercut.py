@@ -7,6 +7,7 @@ import sys
 
 from support.case import Case, tool
 from support.program import PROGRAM, ran
+from support.serving import Serving
 
 sys.path.insert(0, tool("powercut"))
 from cutting import nbd, stores  # noqa: E402
@@ -116,6 +117,14 @@ class Stores(Case):
             self.assertEqual(verdict_of(looker.look(data[:-200]), data[:-200]).kind, "refused")
         self.assertEqual(verdict_of(looker.look(b""), b"").kind, "empty")
         self.assertEqual(ran("check", path).printed, f"legal {stores.STEPS_MADE}\n")
+
+    def test_nodes_that_are_apart(self) -> None:
+        """Each reset there is the only step that it makes, and no link can be made."""
+        with Serving(self.made(stores.TOPOLOGY_APART)) as server:
+            self.assertEqual(server.order(1, "join", a=1, b=2), {"name": "OtherGroup", "refused": 10})
+            for node in range(1, stores.NODES + 1):
+                self.assertEqual(server.order(node, "reset", node=node), {"kind": "finished", "step": stores.NODES + node})
+            self.assertEqual(server.show()["accepted"], 2 * stores.NODES)
 
     def test_one_history(self) -> None:
         history = stores.History()

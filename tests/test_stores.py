@@ -187,6 +187,21 @@ class Refused(Case):
                     self.assertEqual(server.order(1, "reset", node=1), answered(STARTED, 7))
                     self.assertEqual(server.close().status, 0)
 
+    def test_names_that_begin_or_end_in_a_blank(self) -> None:
+        """Each names its own file: another one, whose name has no blank, lies beside it."""
+        self.made(stores.ring(3))
+        for number, name in enumerate(("store ", " store", "store  ", "\tstore", "store\t", "store\n"), 4):
+            content = self.read("store")
+            with self.subTest(name=name):
+                self.write("topology", stores.ring(number))
+                for words, said in ((["init", name, "topology"], f"created {2 * number}"), (["check", name], f"legal {2 * number}"),
+                                    (["migrate", name], f"migrated {2 * number}"), (["show", name], f"view {2 * number} {2 * number}")):
+                    self.assertEqual(ran(*words, cwd=self.folder).printed.split("\n")[0], said)
+                with Serving(name, cwd=self.folder, output=self.path("output")) as server:
+                    self.assertEqual(server.order(1, "reset", node=1), answered(STARTED, 2 * number + 1))
+                    self.assertEqual(server.close().status, 0)
+                self.assertEqual(self.read("store"), content)
+
     def test_a_world_that_is_not_legal(self) -> None:
         """`check` alone says where, and nothing is written."""
         path = self.write("store", stores.store(UNAWAITED))

@@ -4,6 +4,7 @@ import contextlib
 import json
 import os
 import re
+import shlex
 import shutil
 import signal
 import socket
@@ -41,6 +42,45 @@ class Run(Case):
         self.assertEqual(run.returncode, 0, printed[-3_000:])
         self.assertTrue(printed.splitlines()[-1].startswith(ends_with), printed[-1_000:])
         return printed
+
+
+class Nightly(Case):
+    """`tools/nightly` with parts whose package or library is missing."""
+
+    takes = 10
+
+    def nightly(self, *words: str) -> subprocess.CompletedProcess[str]:
+        return subprocess.run([tool("nightly"), "--program", PROGRAM, "--library", self.folder, "--results", self.path("results"), *words],
+                              env={**os.environ, "TMPDIR": self.folder, "PATH": self.path("bin")}, stdin=subprocess.DEVNULL,
+                              capture_output=True, text=True, check=False)
+
+    def test_what_is_missing_is_named(self) -> None:
+        """A line for each part, with its commit, kit, seed and duration, and the command that repeats it, which does. A line of another
+        part stays."""
+        os.mkdir(self.path("bin"))
+        for command in ("env", "python3", "git"):
+            os.symlink(shutil.which(command) or command, self.path(f"bin/{command}"))
+        self.write("bin/rt", "#!/bin/sh\necho the kit\n")
+        os.chmod(self.path("bin/rt"), 0o755)
+        first = self.nightly("--seed", "7", "--images", "30", "powercut", "soak-door")
+        again = [line for line in first.stdout.splitlines() if line.startswith("to repeat it: ")]
+        self.assertEqual((first.returncode, len(again)), (1, 2), first.stderr)
+        lines = self.read("results").decode().splitlines()
+        self.assertEqual(len(lines), 3)
+        for line, (part, missing) in zip(lines[1:], (("powercut", "qemu-system-x86"), ("soak-door", "there is no library of the members"))):
+            name, result, _, minutes, commit, kit, seed, last = line.split("\t")
+            self.assertEqual((name, result, seed, kit), (part, "FAILED (1)", "7", "the kit, another program than bin/resetd"))
+            self.assertIn(missing, last)
+            self.assertRegex(f"{commit} {minutes}", r"^[0-9a-f]{7,40}\+? \d+\.\d$")
+        repeat = next(line for line in again if line.endswith("/powercut has what it printed)"))
+        words = shlex.split(repeat.removeprefix("to repeat it: ").split("    (which runs ")[0])
+        self.assertEqual(words[0], "tools/nightly")
+        second = subprocess.run(words, cwd=ROOT, env={**os.environ, "TMPDIR": self.folder, "PATH": self.path("bin")}, stdin=subprocess.DEVNULL,
+                                capture_output=True, text=True, check=False)
+        self.assertEqual(second.returncode, 1, second.stderr)
+        self.assertIn("\t7\tthese Debian packages are missing: ", second.stdout)
+        self.assertIn("--images 30 ", second.stdout)
+        self.assertEqual([line.split("\t")[0] for line in self.read("results").decode().splitlines()], ["part", "powercut", "soak-door"])
 
 
 class Tools(Run):

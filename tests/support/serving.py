@@ -1,5 +1,6 @@
 """A server over a store, and the connections to it."""
 
+import contextlib
 import json
 import os
 import socket
@@ -69,6 +70,17 @@ def processor_seconds(process: int) -> float:
     return (int(words[11]) + int(words[12])) / os.sysconf("SC_CLK_TCK")
 
 
+def sleeps(process: int) -> bool:
+    """Whether each thread of a process sleeps. A thread that waits for a processor does not. False if the process has ended."""
+    folder, states = f"/proc/{process}/task", set[str]()
+    with contextlib.suppress(FileNotFoundError, ProcessLookupError):
+        for thread in os.listdir(folder):
+            with open(f"{folder}/{thread}/stat", encoding="ascii") as file:
+                states.add(file.read().rsplit(")", 1)[1].split()[0])
+        return states == {"S"}
+    return False
+
+
 class Serving:
     """`resetd serve` over a store, whose output goes to a file. It is killed at the end, unless it has ended. One whose
     instances are short may end a connection before a line is answered, since workers make an instance old too: what is asked over a
@@ -102,6 +114,11 @@ class Serving:
         if not (lines := self.lines()) and self.process.poll() is not None:
             raise AssertionError(f"the server ended before its first line: {self.ended()}")
         return lines[0] if lines else None
+
+    def await_rest(self) -> bool:
+        """Waits until all its threads sleep. False if it has ended."""
+        until("the server rests", lambda: self.process.poll() is not None or sleeps(self.process.pid))
+        return self.process.poll() is None
 
     def lines(self) -> list[str]:
         """The whole lines that it has printed."""

@@ -21,11 +21,14 @@ from .server import Away, Server
 ROOT = os.path.dirname(os.path.dirname(os.path.dirname(os.path.abspath(__file__))))
 NODES = range(1, 65)
 HALF = 32_768
-# The members in C and in Go order under the number of their node, of which the front has one for itself. The others, in Python, leave
-# numbers to the front.
+# The other members are in Python. All leave the numbers of their orders to the front.
 OF_C, OF_GO = range(1, 8), range(8, 15)
 # Of a text what is replaced, and by what.
 Exchanges = Sequence[tuple[str, str]]
+# Adds to the state of the member in Go a count of its starts.
+COUNTS_STARTS: Exchanges = [
+    ("\tFence   string          // of that moment\n", "\tFence   string          // of that moment\n\tStarts  int\n"),
+    ('kept.Begun, kept.First = epoch, ""', 'kept.Begun, kept.First, kept.Starts = epoch, "", kept.Starts+1')]
 START_SECONDS = 120  # within which a process of the door starts, on a busy machine too
 
 
@@ -43,8 +46,8 @@ class Programs:
 
 
 def build_members(folder: str, library: str, coordinator: str, exchanges: Exchanges = ()) -> Programs:
-    """Compiles the members, those in Go with these exchanges in their text. Raises Failed where a compiler is missing: nothing is left
-    out."""
+    """Compiles the members. The source of those in Go gets a count of starts and then these exchanges. Raises Failed if a compiler is
+    missing: nothing is left out."""
     missing = [package for command, package in (("cc", "gcc"), ("go", "golang-go")) if not shutil.which(command)]
     if missing:
         raise Failed(f"these Debian packages are missing: {' '.join(missing)}")
@@ -52,7 +55,7 @@ def build_members(folder: str, library: str, coordinator: str, exchanges: Exchan
     include = f"{ROOT}/crates/resetd_member/include"
     with open(f"{examples}/plain_member.go", encoding="utf-8") as file:
         text = file.read()
-    for old, new in exchanges:
+    for old, new in [*COUNTS_STARTS, *exchanges]:
         if text.count(old) != 1:
             raise Failed(f"{text.count(old)} places of plain_member.go have {old!r}")
         text = text.replace(old, new)
@@ -143,10 +146,10 @@ class Members:
         return f"{self._folder}/{node}"
 
     def _words(self, node: int) -> list[str]:
-        if node in OF_C or node in OF_GO:
-            program = self._programs.of_c if node in OF_C else self._programs.of_go
-            return [program, str(node), "127.0.0.1", str(self._front.port), self.folder(node)]
-        return [sys.executable, f"{ROOT}/tools/served/door_member.py", str(node), f"unix:{self._front.socket}", self.folder(node)]
+        if node in OF_C:
+            return [self._programs.of_c, str(node), f"127.0.0.1:{self._front.port}", self.folder(node)]
+        of_others = [self._programs.of_go] if node in OF_GO else [sys.executable, f"{ROOT}/tools/served/door_member.py"]
+        return [*of_others, str(node), f"unix:{self._front.socket}", self.folder(node)]
 
     def start(self, node: int) -> None:
         if node not in self._running:

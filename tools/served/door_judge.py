@@ -1,5 +1,7 @@
 """Whether the members of a door keep their rule: no two starts of one member talk in one run, and all come to talk again."""
 
+import contextlib
+import json
 import os
 import threading
 import time
@@ -10,38 +12,47 @@ from .door import NODES, Failed, Members, until
 LOOK_SECONDS = 0.1
 
 
+class Start(NamedTuple):
+    """A start of a member: the epoch that was begun, and a name that no other start of that member has."""
+
+    epoch: str
+    name: tuple[int, int]
+
+
 class Talk(NamedTuple):
-    """A start of a member that talks: the run by the first half of its tag, and the file of its work, which is another one after each
-    begin."""
+    """A start of a member that talks: the run is the first half of its tag."""
 
     node: int
     run: str
-    start: tuple[int, int]
+    start: Start
 
 
-def identity(path: str) -> tuple[int, int] | None:
-    try:
-        found = os.stat(path)
-    except FileNotFoundError:
-        return None
-    return found.st_ino, found.st_mtime_ns
+def start_of(folder: str) -> Start | None:
+    """The start that a member has now, by its files: a member in Go counts its starts, and the others write a new file at each. None if
+    it has begun nothing."""
+    with contextlib.suppress(FileNotFoundError), open(f"{folder}/kept", encoding="utf-8") as file:
+        kept = json.load(file)
+        return Start(kept["Begun"], (kept["Starts"], 0)) if kept["Begun"] else None
+    with contextlib.suppress(FileNotFoundError), open(f"{folder}/work", encoding="ascii") as file:
+        found = os.stat(file.fileno())
+        return Start(file.read().strip(), (found.st_ino, found.st_mtime_ns))
+    return None
 
 
 def talk_of(node: int, folder: str) -> Talk | None:
     """What a member talks with now; None if it does not, or begins just now."""
-    before = identity(f"{folder}/work")
+    before = start_of(folder)
     try:
         with open(f"{folder}/run", encoding="ascii") as file:
             words = file.read().split()
-        with open(f"{folder}/work", encoding="ascii") as file:
-            begun = file.read().strip()
+        after = start_of(folder)
         is_there = os.path.exists(f"{folder}/run")
     except FileNotFoundError:
         return None
-    if before is None or not is_there or before != identity(f"{folder}/work") or len(words) != 2:
+    if before is None or not is_there or before != after or len(words) != 2:
         return None
-    if words[0] != begun:
-        raise Failed(f"member {node} talks at epoch {words[0]}, and its work is of epoch {begun}")
+    if words[0] != before.epoch:
+        raise Failed(f"member {node} talks at epoch {words[0]}, and its work is of epoch {before.epoch}")
     return Talk(node, words[1].partition("-")[0], before)
 
 
@@ -50,7 +61,7 @@ class Judge(threading.Thread):
 
     def __init__(self, members: Members) -> None:
         super().__init__(daemon=True)
-        self._members, self._starts = members, dict[tuple[int, str], tuple[int, int]]()
+        self._members, self._starts = members, dict[tuple[int, str], Start]()
         self._is_over, self.mixed = threading.Event(), list[str]()
         self.looks, self.talks = 0, 0
 

@@ -15,24 +15,27 @@ MKFS = {
     "btrfs": ["mkfs.btrfs", "-f", "-q"],
     "f2fs": ["mkfs.f2fs", "-f", "-q"],
 }
-MEBIBYTES = {"ext4": 48, "xfs": 320, "btrfs": 128, "f2fs": 64}  # about the least of each
+MEBIBYTES = {"ext4": 160, "xfs": 320, "btrfs": 128, "f2fs": 64}  # about the least of each; ext4 has a second superblock from 128 on
 
 
 @dataclass(frozen=True)
 class FileSystem:
-    """A file system with its mount options. `no_barrier` is the option with which it sends no flush, where it has one."""
+    """A file system with its mount options. `no_barrier` is the option with which it sends no flush, if it has one. `syncs_at_start`
+    says why a start syncs the store there even without the barrier; it is empty if a start does not."""
 
     name: str
     kind: str
     options: str = ""
     no_barrier: str | None = None
+    syncs_at_start: str = ""
 
 
 ALL = {
     each.name: each for each in (
         FileSystem("ext4", "ext4", no_barrier="barrier=0"),
         FileSystem("ext4-writeback", "ext4", "data=writeback", "data=writeback,barrier=0"),
-        FileSystem("ext4-journal", "ext4", "data=journal", "data=journal,barrier=0"),
+        FileSystem("ext4-journal", "ext4", "data=journal", "data=journal,barrier=0",
+                   syncs_at_start="the sync of the store's folder commits its bytes too"),
         FileSystem("xfs", "xfs"),
         FileSystem("btrfs", "btrfs", no_barrier="nobarrier"),
         FileSystem("f2fs", "f2fs", no_barrier="nobarrier"),

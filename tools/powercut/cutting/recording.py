@@ -10,7 +10,7 @@ from .disk import Disk, Entry
 from .file_systems import DEVICE, MARKER_DEVICE, MARKER_SIZE, make_disk
 from .initramfs import LATE_SYNCS, program_path
 from .machine import Gone, Machine, Maker, Refused
-from .stores import STEPS_MADE, TOPOLOGY, store_of_version_1
+from .stores import NODES, STEPS_MADE, TOPOLOGY, TOPOLOGY_APART, store_of_version_1
 
 LOAD_SECONDS = 3_000
 STILL_MILLISECONDS = 1_500  # so that the file system writes what it wrote late
@@ -18,8 +18,9 @@ STILL_MILLISECONDS = 1_500  # so that the file system writes what it wrote late
 
 @dataclass
 class Run:
-    """What a run is. `scenario` is one of SCENARIOS. With `has_late_syncs` a kill often finds writes that are not synced. In a further life `owed` and `signalled` are what was answered and signalled
-    before the cut."""
+    """What a run is. `scenario` is one of SCENARIOS. If the nodes are apart, no order sends packets. With
+    `has_late_syncs` a kill often finds unsynced writes. In a further life `owed` and `signalled` are what was answered and
+    signalled before the cut."""
 
     scenario: str
     kind: str
@@ -28,6 +29,7 @@ class Run:
     orders: int = 300
     kills: int = 0
     noise: bool = True
+    is_apart: bool = False
     has_late_syncs: bool = False
     program: int = 0
     mutant: int | None = None
@@ -47,7 +49,7 @@ def make_first(machine: Machine, run: Run) -> None:
     if os.path.dirname(run.store) != "/mnt":
         machine.must("mkdir", os.path.dirname(run.store))
     machine.must("run", 120, program_path(run.program), "init", run.store, "/topology")
-    machine.must("mark", f"made|least {STEPS_MADE}")
+    machine.must("mark", f"made|least {NODES if run.is_apart else STEPS_MADE}")
 
 
 def migrate_first(machine: Machine, run: Run) -> None:
@@ -74,7 +76,7 @@ def carry_out(machine: Machine, run: Run) -> str:
         machine.must("variable", "MUTANT", run.mutant)
     if run.has_late_syncs:
         machine.must("variable", "LD_PRELOAD", LATE_SYNCS)
-    machine.put("/topology", TOPOLOGY.encode())
+    machine.put("/topology", (TOPOLOGY_APART if run.is_apart else TOPOLOGY).encode())
     machine.must("marker", MARKER_DEVICE)
     if machine.must("get", "/sys/block/vda/queue/write_cache").strip() != b"write back":
         raise Refused("the machine does not see the disk's volatile cache")

@@ -9,6 +9,8 @@ LINKS = sorted({(min(a, b), max(a, b)) for a in range(1, NODES + 1) for far in (
 STEPS_MADE = NODES + len(LINKS)  # of a store that was just made
 TOPOLOGY = f"half = {HALF}\n" + "".join(f"[[node]]\nid = {node}\ngroup = 1\n" for node in range(1, NODES + 1)) + "".join(
     f"[[link]]\na = {a}\nb = {b}\n" for a, b in LINKS)
+# Each node has its own group, so no link can be made and no order sends packets.
+TOPOLOGY_APART = f"half = {HALF}\n" + "".join(f"[[node]]\nid = {node}\ngroup = {node}\n" for node in range(1, NODES + 1))
 MAGIC = b"ACRRESET"
 COMMAND_SIZES = {0: 3, 1: 2, 2: 3, 3: 3, 4: 2, 5: 10}  # by the kind of a command
 ORDER, PACKET = 0, 1  # kinds of a step

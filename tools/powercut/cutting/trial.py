@@ -12,10 +12,12 @@ from .lives import cut_disk
 from .machine import MACHINES, Maker
 from .recording import Run, load_run, record
 
-MUTANTS = ("body_not_synced", "gate_not_synced", "barrier_left_out")
+WITHOUT_BARRIER = "barrier_left_out"
+MUTANTS = ("body_not_synced", "gate_not_synced", WITHOUT_BARRIER)
 TRIES = 4  # seeds with which a control is tried until it finds something
-# A run in which many kills find writes that are not synced, and where it is cut: as soon as an answer after a kill was read.
-KILLS: dict[str, Any] = {"orders": 120, "kills": 20, "noise": False, "has_late_syncs": True}
+# A run in which many kills find unsynced writes. It is cut as soon as an answer after a kill was read. No packet is on its way then,
+# since its step would sync the file before that answer.
+KILLS: dict[str, Any] = {"orders": 120, "kills": 20, "noise": False, "is_apart": True, "has_late_syncs": True}
 KILLED = Places(("killed",), is_at_markers=True)
 
 
@@ -94,8 +96,10 @@ class Trial:
             self.controls["no flushes"] = f"not tried: {self._of.kind} has no option to send none"
         else:
             self._control("no flushes", self._without_flushes)
-        for number, name in enumerate(MUTANTS, 1):
-            if self._setting.wrong is not None:
+        for number, name in enumerate(MUTANTS, 1) if self._setting.wrong is not None else ():
+            if name == WITHOUT_BARRIER and self._of.syncs_at_start:
+                self.controls[name] = f"not tried: {self._of.syncs_at_start}"
+            else:
                 self._control(name, partial(self._of_mutant, number))
 
     def _control(self, name: str, finds: Callable[[int], str | None]) -> None:
@@ -120,6 +124,6 @@ class Trial:
     def _of_mutant(self, number: int, seed: int) -> str | None:
         """A mutant. The barrier at a start matters if a kill has left unsynced bytes."""
         name = MUTANTS[number - 1]
-        values, places = (KILLS, KILLED) if name == "barrier_left_out" else ({"orders": 40, "noise": False}, Places())
+        values, places = (KILLS, KILLED) if name == WITHOUT_BARRIER else ({"orders": 40, "noise": False}, Places())
         folder = self._record(name, self._run(seed=seed, program=1, mutant=number, **values), self._setting.wrong_machine)
         return self._finds(folder, seed, places)
