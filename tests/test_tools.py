@@ -74,10 +74,6 @@ class Tools(Run):
         self.assertEqual(weaker.returncode, 1, weaker.stderr)
         self.assertIn("mixed after 10 events", weaker.stdout)
 
-    def test_a_member_in_bash_keeps_the_rule(self) -> None:
-        self.expect(tool("try_member"), "--program", PROGRAM, "--seconds", "300", f"{ROOT}/examples/plain_member", "{node}", "{host}",
-                    "{port}", "{folder}", ends_with="the member keeps the rule")
-
     def test_the_demo(self) -> None:
         printed = self.expect(tool("demo"), ends_with="nodes: 8, signals: ")
         self.assertIn("ends with status 0\n  resetd check store                      legal ", printed)
