@@ -18,7 +18,7 @@ class Front(Run):
     def files(self, *names: str) -> None:
         for name in names:
             with self.subTest(name):
-                self.expect(sys.executable, "-m", "unittest", "discover", "-s", FOLDER, "-p", f"{name}.py", ends_with="OK")
+                self.expect(sys.executable, "-m", "unittest", "discover", "-v", "-s", FOLDER, "-p", f"{name}.py", ends_with="OK")
 
     def test_the_parts_by_themselves(self) -> None:
         self.files("test_pairing", "test_policy", "test_own_orders", "test_judging")

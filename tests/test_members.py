@@ -29,6 +29,7 @@ from resetd_client.starts import Shelf, Starts  # noqa: E402
 
 STATES = 25_000  # at random, of each of four seeds
 EXAMPLES = f"{ROOT}/examples/members"
+COMPILERS = {"cc": "a C compiler", "rustc": "Rust", "go": "Go"}
 HEADER = f"{ROOT}/crates/resetd_member/include"
 # What is shown, the member's node, what it keeps, the digests of its history, and the epoch that stands with its work.
 State = tuple[View, int, Kept, list[str], int | None]
@@ -403,7 +404,7 @@ class InOtherLanguages(Case):
 
     def make(self, compiler: str, *words: str, env: dict[str, str] | None = None) -> str:
         """Makes a member without a warning: its program."""
-        self.needs(f"the compiler {compiler}", shutil.which(compiler) is not None, is_optional=True)
+        self.needs(COMPILERS[compiler], shutil.which(compiler) is not None, is_optional=True)
         made = subprocess.run([compiler, *words], capture_output=True, text=True, cwd=EXAMPLES, env={**os.environ, **(env or {})}, timeout=600)
         self.assertEqual((made.returncode, made.stderr), (0, ""))
         return self.path("member")
@@ -415,7 +416,7 @@ class InOtherLanguages(Case):
 
     def library(self) -> str:
         """The library that a member is linked with."""
-        self.needs("the members' library, which a C compiler makes", os.path.exists(PATH))
+        self.needs("a C compiler: for the members' library", os.path.exists(PATH))
         return PATH.replace(".so", ".a")
 
     def test_python(self) -> None:

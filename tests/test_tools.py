@@ -38,6 +38,7 @@ class Run(Case):
             with contextlib.suppress(ProcessLookupError):
                 os.killpg(run.pid, signal.SIGKILL)
             run.wait()
+        self.note_skipped(printed)
         self.assertEqual(run.returncode, 0, printed[-3_000:])
         self.assertTrue(printed.splitlines()[-1].startswith(ends_with), printed[-1_000:])
         return printed
@@ -50,7 +51,7 @@ class Tools(Run):
 
     def test_faults_of_the_device(self) -> None:
         """Each write and each sync fails once, by strace."""
-        self.needs("strace that may trace", faults.can_inject(), is_optional=True)
+        self.needs("strace: one that may trace", faults.can_inject(), is_optional=True)
         printed = self.expect(tool("soak"), "--program", PROGRAM, "--rounds", "0", "--faults", "3", "--migrations", "0",
                               ends_with="nothing was lost")
         self.assertIn("failed at 3 places", printed)
@@ -96,7 +97,7 @@ class Tools(Run):
 
     def test_types_of_all_programs(self) -> None:
         """By mypy --strict, in each folder."""
-        self.needs("mypy (apt-get install mypy)", shutil.which("mypy") is not None, is_optional=True)
+        self.needs("mypy", shutil.which("mypy") is not None, is_optional=True)
         printed = self.expect(tool("check_types"), ends_with="bench: Success: ")
         self.assertEqual(printed.count(": Success: no issues found in "), 6)
 
@@ -115,7 +116,7 @@ class Tools(Run):
             self.assertIn(f"`{text}`", page)
 
     def test_the_client_library(self) -> None:
-        self.expect(sys.executable, "-m", "unittest", "discover", "-s", "client/tests", ends_with="OK")
+        self.expect(sys.executable, "-m", "unittest", "discover", "-v", "-s", "client/tests", ends_with="OK")
 
 
 class ShortLives(Run):

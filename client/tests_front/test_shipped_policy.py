@@ -26,7 +26,7 @@ def printed_policy() -> str:
     return f'{policy}\n[[allow]]\nuser = "root"\nops = ["show", "confirm", "reset"]\n'
 
 
-@unittest.skipUnless(shutil.which("openssl") and os.getuid() == 0, "it needs openssl, and root, whom the policy names")
+@unittest.skipUnless(shutil.which("openssl") and os.getuid() == 0, "it needs openssl and root: for certificates, and since the policy names root")
 class Shipped(Case):
     has_front = False
 
@@ -85,7 +85,7 @@ class Shipped(Case):
 
     def test_the_member_in_go(self) -> None:
         if not shutil.which("go"):
-            self.skipTest("go is not installed")
+            self.skipTest("it needs Go")
         folders = {name: f"{self.folder}/{name}" for name in ("GOCACHE", "GOPATH", "GOTMPDIR")}
         os.mkdir(folders["GOTMPDIR"])
         subprocess.run(["go", "build", "-o", f"{self.folder}/member", f"{ROOT}/examples/members/plain_member.go"], check=True, capture_output=True,
