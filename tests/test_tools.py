@@ -163,6 +163,13 @@ class Services(Run):
     def test_lines_that_do_not_come(self) -> None:
         self.trials("torn", "lost", "unread", "doubled")
 
+    def test_lines_that_do_not_come_at_the_port(self) -> None:
+        """Services that read the lines themselves, without a front."""
+        self.trials("--at-port", "torn", "lost", "unread", "doubled")
+
+    def test_services_at_the_port(self) -> None:
+        self.trials("--at-port", "restore", "plain", "queue", "messages")
+
     def test_many_members_and_messages(self) -> None:
         self.trials("members", "messages")
 

@@ -190,7 +190,7 @@ class Between:
         self.watching, self.ordering = set[socket.socket](), set[socket.socket]()  # who watches, and whose order has no answer yet
         self.text = b""  # the last view that was shown in this life
         self.path = f"{trial.folder}/between.socket"
-        self.front = Port(f"unix:{trial.start_front().path}", 30)
+        self.front = Port(trial.address, 30)
         self.listen()
 
     def listen(self) -> None:
