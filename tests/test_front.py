@@ -10,15 +10,17 @@ from support.program import ROOT
 FOLDER = f"{ROOT}/client/tests_front"
 
 
-class Front(Run):
-    """`resetd-front` before the program."""
-
+class Files(Run):
     takes = 15
 
     def files(self, *names: str) -> None:
         for name in names:
             with self.subTest(name):
-                self.expect(sys.executable, "-m", "unittest", "discover", "-s", FOLDER, "-p", f"{name}.py", ends_with="OK")
+                self.expect(sys.executable, "-m", "unittest", "discover", "-v", "-s", FOLDER, "-p", f"{name}.py", ends_with="OK")
+
+
+class Front(Files):
+    """`resetd-front` before the program."""
 
     def test_the_parts_by_themselves(self) -> None:
         self.files("test_pairing", "test_policy", "test_own_orders", "test_judging")
@@ -47,9 +49,6 @@ class Front(Run):
     def test_silent_servers(self) -> None:
         self.files("test_silent_servers")
 
-    def test_the_shipped_policy(self) -> None:
-        self.files("test_shipped_policy")
-
     def test_a_fenced_database(self) -> None:
         self.files("test_fence")
 
@@ -61,4 +60,13 @@ class Front(Run):
                 self.assertIn(f'"{name[:-3]}"', text)
 
 
-del Run  # or its tests would be found here once more
+class BeforeMembers(Files):
+    """The same, before members of which one is linked with the members' library."""
+
+    programs = ("RESETD", "RESETD_MEMBER")
+
+    def test_the_shipped_policy(self) -> None:
+        self.files("test_shipped_policy")
+
+
+del Files, Run  # or their tests would be found here once more

@@ -15,7 +15,7 @@ import threading
 from collections.abc import Iterable, Iterator
 from typing import Self
 
-from support.case import tool
+from support.case import Case, tool
 from support.library_case import OfLibrary
 from support.memberlib import PATH, Library, Order, Orders, Refused
 from support.program import PROGRAM, ROOT
@@ -29,6 +29,7 @@ from resetd_client.starts import Shelf, Starts  # noqa: E402
 
 STATES = 25_000  # at random, of each of four seeds
 EXAMPLES = f"{ROOT}/examples/members"
+COMPILERS = {"cc": "a C compiler", "rustc": "Rust", "go": "Go"}
 HEADER = f"{ROOT}/crates/resetd_member/include"
 # What is shown, the member's node, what it keeps, the digests of its history, and the epoch that stands with its work.
 State = tuple[View, int, Kept, list[str], int | None]
@@ -389,40 +390,60 @@ class Searches(OfLibrary):
         self.assertIn("mixed after 10 events", self.last_line(*weaker, "--library", PATH))
 
 
-class InOtherLanguages(OfLibrary):
+class InOtherLanguages(Case):
+    """Whole members, each before a front, which tools/try_member leads through the table of docs/SERVICES.md."""
+
     takes = 100
     programs = ("RESETD", "RESETD_MEMBER")
 
-    def keeps_the_rule(self, compiler: str, *words: str, address: tuple[str, ...] = ("{host}", "{port}")) -> None:
-        """The compiler makes a member, and tools/try_member finds nothing wrong with it."""
-        self.needs(f"the compiler {compiler}", shutil.which(compiler) is not None, is_optional=True)
-        made = subprocess.run([compiler, *words], capture_output=True, text=True, cwd=EXAMPLES, timeout=600)
-        self.assertEqual((made.returncode, made.stderr), (0, ""))
-        tried = subprocess.run([tool("try_member"), "--seconds", "180", self.path("member"), "{node}", *address, "{folder}"],
-                               capture_output=True, text=True, env={**os.environ, "RESETD": PROGRAM, "TMPDIR": self.folder})
+    def keeps_the_rule(self, *command: str) -> None:
+        """tools/try_member finds nothing wrong with a member."""
+        tried = subprocess.run([tool("try_member"), "--seconds", "180", *command], capture_output=True, text=True,
+                               env={**os.environ, "RESETD": PROGRAM, "TMPDIR": self.folder})
         self.assertEqual(tried.returncode, 0, tried.stdout + tried.stderr)
 
+    def make(self, compiler: str, *words: str, env: dict[str, str] | None = None) -> str:
+        """Makes a member without a warning: its program."""
+        self.needs(COMPILERS[compiler], shutil.which(compiler) is not None, is_optional=True)
+        made = subprocess.run([compiler, *words], capture_output=True, text=True, cwd=EXAMPLES, env={**os.environ, **(env or {})}, timeout=600)
+        self.assertEqual((made.returncode, made.stderr), (0, ""))
+        return self.path("member")
+
+    def make_in_go(self, *files: str, env: dict[str, str]) -> str:
+        folders = {name: self.path(name) for name in ("GOCACHE", "GOPATH", "GOTMPDIR")}
+        os.mkdir(folders["GOTMPDIR"])
+        return self.make("go", "build", "-o", self.path("member"), *files, env={**folders, **env})
+
+    def library(self) -> str:
+        """The library that a member is linked with."""
+        self.needs("a C compiler: for the members' library", os.path.exists(PATH))
+        return PATH.replace(".so", ".a")
+
+    def test_python(self) -> None:
+        self.keeps_the_rule(f"{EXAMPLES}/member.py", "{node}", "{front}", "{folder}", "parts")
+
+    def test_python_whose_work_is_replaced_as_a_whole(self) -> None:
+        self.keeps_the_rule(f"{EXAMPLES}/member.py", "{node}", "{front}", "{folder}", "whole")
+
+    def test_bash(self) -> None:
+        self.keeps_the_rule(f"{ROOT}/examples/plain_member", "{node}", "{host}", "{port}", "{folder}")
+
     def test_c(self) -> None:
-        self.keeps_the_rule("cc", "-Wall", "-Wextra", "-O1", "-I", HEADER, "-o", self.path("member"), "member.c",
-                            PATH.replace(".so", ".a"))
+        member = self.make("cc", "-std=c11", "-Wall", "-Wextra", "-Wconversion", "-O1", "-I", HEADER, "-o", self.path("member"), "member.c",
+                           self.library())
+        self.keeps_the_rule(member, "{node}", "{front}", "{folder}")
 
     def test_rust(self) -> None:
-        self.keeps_the_rule("rustc", "--edition", "2024", "-O", "-o", self.path("member"), "member.rs",
-                            "-L", os.path.dirname(PATH), "-l", "static=resetd_member")
-
-    def keeps_the_rule_in_go(self, words: list[str], *files: str, address: tuple[str, ...] = ("{host}", "{port}")) -> None:
-        self.needs("the compiler go", shutil.which("go") is not None, is_optional=True)
-        folders = [f"{name}={self.path(name)}" for name in ("GOCACHE", "GOPATH", "GOTMPDIR")]
-        os.mkdir(self.path("GOTMPDIR"))
-        self.keeps_the_rule("env", *folders, *words, "go", "build", "-o", self.path("member"), *files, address=address)
+        member = self.make("rustc", "--edition", "2024", "-O", "-o", self.path("member"), "member.rs", "-L", os.path.dirname(self.library()),
+                           "-l", "static=resetd_member")
+        self.keeps_the_rule(member, "{node}", "{host}", "{port}", "{folder}")
 
     def test_go(self) -> None:
-        words = [f"CGO_CFLAGS=-I{HEADER}", f"CGO_LDFLAGS={PATH.replace('.so', '.a')}"]
-        self.keeps_the_rule_in_go(words, "member.go", "resetd_member.go")
+        member = self.make_in_go("member.go", "resetd_member.go", env={"CGO_CFLAGS": f"-I{HEADER}", "CGO_LDFLAGS": self.library()})
+        self.keeps_the_rule(member, "{node}", "{host}", "{port}", "{folder}")
 
     def test_go_without_the_library(self) -> None:
-        """Through a front, over one connection."""
-        self.keeps_the_rule_in_go(["CGO_ENABLED=0"], "plain_member.go", address=("{front}",))
+        self.keeps_the_rule(self.make_in_go("plain_member.go", env={"CGO_ENABLED": "0"}), "{node}", "{front}", "{folder}")
 
 
 class Vectors(OfLibrary):

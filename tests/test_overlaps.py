@@ -12,6 +12,7 @@ from support.serving import Answer, Serving
 from support.stores import topology
 
 RESETS = 125  # of each graph
+ROUNDS = 60  # of resets while links come and go
 FEWEST_OVERLAPS = 10  # times that two resets or more were started before all nodes were ready again, of each graph
 
 
@@ -138,6 +139,43 @@ class Overlaps(Served):
         """One group is ready at moments at which another one is in a reset."""
         self.expect_overlaps([Group((1, 2, 3)), Group((5, 6, 7)), Group([9])], [(1, 2), (2, 3), (5, 6), (6, 7), (5, 7)])
 
+    def test_links_that_come_and_go(self) -> None:
+        """While links are dropped and added, no node is signalled more often than resets were started and links dropped, and its
+        own resets answered `finished`."""
+        random.seed(5)
+        links = [(node, node % 5 + 1) for node in range(1, 6)]
+        group, away, numbers = Group(range(1, 6)), set[tuple[int, int]](), collections.Counter[int]()
+        with Serving(self.made(topology([(node, 1) for node in group.nodes], links))) as server:
+            for _ in range(ROUNDS):
+                changed = random.sample(links, 2)
+                orders: list[dict[str, Any]] = [{"op": "reset", "node": node} for node in random.sample(group.nodes, 3)]
+                orders += [{"op": "join" if link in away else "drop", "a": link[0], "b": link[1]} for link in changed]
+                random.shuffle(orders)
+                away ^= set(changed)
+                replies = self.order_each(server, orders, numbers)
+                now = until("the end of the resets", lambda: group.moment(server.show()))
+                printed = until(f"the signals of {now}", lambda: self.printed_up_to(server, now))
+                last, group.last = group.last, now
+                bound = sum(reply["kind"] == STARTED for reply in replies) + sum(order["op"] == "drop" for order in orders)
+                for node, epoch in now.epochs.items():
+                    signals = count_up_to(printed[node], epoch) - count_up_to(printed[node], last.epochs[node])
+                    alone = sum(reply["kind"] == FINISHED and order["node"] == node for order, reply in zip(orders, replies))
+                    self.assertLessEqual(signals, bound + alone, f"node {node}: {orders}, {replies}")
+            self.expect_each_signal_once(server)
+            self.assertEqual(server.close().status, 0)
+
+    def order_each(self, server: Serving, orders: list[dict[str, Any]], numbers: collections.Counter[int]) -> list[Answer]:
+        """Sends orders at once, each by a client of the number of its node, and returns their replies. A link's order is of client 6."""
+        numbered = []
+        for order in orders:
+            client = order.get("node", 6)
+            numbers[client] += 1
+            numbered.append(order | {"client": client, "number": numbers[client]})
+        with server.connect() as connection:
+            connection.send(*numbered)
+            return [connection.reply() for _ in orders]
+
+
 
 class Searches(Case):
     """All short runs, in models: of the reset rules, and of members while resets overlap."""
@@ -149,7 +187,7 @@ class Searches(Case):
         return subprocess.run([tool(name), *words], capture_output=True, text=True, check=False)
 
     def test_the_rules_with_a_link_that_is_dropped(self) -> None:
-        found = self.search("overlap_search", "--drops", "1")
+        found = self.search("overlap_search", "--drops", "1", "--joins", "1")
         self.assertEqual(found.returncode, 0, found.stdout)
 
     def test_wrong_rules(self) -> None:

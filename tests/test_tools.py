@@ -39,6 +39,7 @@ class Run(Case):
             with contextlib.suppress(ProcessLookupError):
                 os.killpg(run.pid, signal.SIGKILL)
             run.wait()
+        self.note_skipped(printed)
         self.assertEqual(run.returncode, 0, printed[-3_000:])
         self.assertTrue(printed.splitlines()[-1].startswith(ends_with), printed[-1_000:])
         return printed
@@ -102,7 +103,7 @@ class Tools(Run):
 
     def test_faults_of_the_device(self) -> None:
         """Each write and each sync fails once, by strace."""
-        self.needs("strace that may trace", faults.can_inject(), is_optional=True)
+        self.needs("strace: one that may trace", faults.can_inject(), is_optional=True)
         printed = self.expect(tool("soak"), "--program", PROGRAM, "--rounds", "0", "--faults", "3", "--migrations", "0",
                               ends_with="nothing was lost")
         self.assertIn("failed at 3 places", printed)
@@ -126,10 +127,6 @@ class Tools(Run):
         self.assertEqual(weaker.returncode, 1, weaker.stderr)
         self.assertIn("mixed after 10 events", weaker.stdout)
 
-    def test_a_member_in_bash_keeps_the_rule(self) -> None:
-        self.expect(tool("try_member"), "--program", PROGRAM, "--seconds", "300", f"{ROOT}/examples/plain_member", "{node}", "{host}",
-                    "{port}", "{folder}", ends_with="the member keeps the rule")
-
     def test_the_demo(self) -> None:
         printed = self.expect(tool("demo"), ends_with="nodes: 8, signals: ")
         self.assertIn("ends with status 0\n  resetd check store                      legal ", printed)
@@ -152,7 +149,7 @@ class Tools(Run):
 
     def test_types_of_all_programs(self) -> None:
         """By mypy --strict, in each folder."""
-        self.needs("mypy (apt-get install mypy)", shutil.which("mypy") is not None, is_optional=True)
+        self.needs("mypy", shutil.which("mypy") is not None, is_optional=True)
         printed = self.expect(tool("check_types"), ends_with="bench: Success: ")
         self.assertEqual(printed.count(": Success: no issues found in "), 6)
 
@@ -171,7 +168,7 @@ class Tools(Run):
             self.assertIn(f"`{text}`", page)
 
     def test_the_client_library(self) -> None:
-        self.expect(sys.executable, "-m", "unittest", "discover", "-s", "client/tests", ends_with="OK")
+        self.expect(sys.executable, "-m", "unittest", "discover", "-v", "-s", "client/tests", ends_with="OK")
 
 
 class ShortLives(Run):
@@ -217,6 +214,13 @@ class Services(Run):
 
     def test_lines_that_do_not_come(self) -> None:
         self.trials("torn", "lost", "unread", "doubled")
+
+    def test_lines_that_do_not_come_at_the_port(self) -> None:
+        """Services that read the lines themselves, without a front."""
+        self.trials("--at-port", "torn", "lost", "unread", "doubled")
+
+    def test_services_at_the_port(self) -> None:
+        self.trials("--at-port", "restore", "plain", "queue", "messages")
 
     def test_many_members_and_messages(self) -> None:
         self.trials("members", "messages")

@@ -28,7 +28,7 @@ def names() -> list[str]:
 
 def test_of(name: str) -> Callable[[Case], None]:
     def test(case: Case) -> None:
-        case.needs("cc, for a trial build of tests/units", os.path.isfile(PROGRAM))
+        case.needs("a C compiler: for a trial build of tests/units", os.path.isfile(PROGRAM))
         ran = subprocess.run([PROGRAM, name], cwd=case.folder, env=ENVIRONMENT, capture_output=True, check=False)
         said = (ran.stdout + ran.stderr).decode(errors="replace")
         case.assertEqual(ran.returncode, 0, said[-3_000:])
@@ -50,12 +50,12 @@ class Listed(Case):
     programs = ("RESETD_UNITS",)
 
     def test_each_test_of_the_program_is_run(self) -> None:
-        self.needs("cc, for a trial build of tests/units", os.path.isfile(PROGRAM))
+        self.needs("a C compiler: for a trial build of tests/units", os.path.isfile(PROGRAM))
         ran = subprocess.run([PROGRAM, "--list"], env=ENVIRONMENT, capture_output=True, text=True, check=True)
         self.assertEqual(sorted(re.findall(r"^(\S+): test$", ran.stdout, re.MULTILINE)), sorted(names()))
 
     def test_a_test_that_is_not_there_fails(self) -> None:
-        self.needs("cc, for a trial build of tests/units", os.path.isfile(PROGRAM))
+        self.needs("a C compiler: for a trial build of tests/units", os.path.isfile(PROGRAM))
         self.assertNotEqual(subprocess.run([PROGRAM, "engine::nothing"], env=ENVIRONMENT, capture_output=True, check=False).returncode, 0)
 
     def test_the_layout_is_that_of_the_formatter(self) -> None:

@@ -76,7 +76,7 @@ class Sockets(Case):
         self.assertEqual(self.server.row(1)[1], 1)
 
 
-@unittest.skipUnless(shutil.which("openssl"), "openssl is not installed: no certificates to try")
+@unittest.skipUnless(shutil.which("openssl"), "it needs openssl: for certificates")
 class Certificates(Case):
     @classmethod
     def setUpClass(cls) -> None:

@@ -256,7 +256,7 @@ class OverTls(FrontCase):
 
     def started_front(self) -> tuple[Pushing, Port]:
         if not shutil.which("openssl"):
-            self.skipTest("openssl is not installed: no certificates to try")
+            self.skipTest("it needs openssl: for certificates")
         pem = tempfile.mkdtemp()
         self.addCleanup(shutil.rmtree, pem)
         make_certificates(pem)

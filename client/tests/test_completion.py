@@ -19,7 +19,7 @@ printf '%s\\n' "${COMPREPLY[@]}"
 """
 
 
-@unittest.skipUnless(shutil.which("bash"), "bash is not installed")
+@unittest.skipUnless(shutil.which("bash"), "it needs bash")
 class Bash(unittest.TestCase):
     def setUp(self) -> None:
         temporary = tempfile.TemporaryDirectory()
@@ -67,7 +67,7 @@ class Zsh(Case):
             self.assertIn(f"\n        '{command.name}:", text)
             self.assertIn(f"\n        {command.name}) _arguments", text)
 
-    @unittest.skipUnless(shutil.which("zsh"), "zsh is not installed")
+    @unittest.skipUnless(shutil.which("zsh"), "it needs zsh")
     def test_zsh_reads_it(self) -> None:
         done = subprocess.run(["zsh", "-n", "-c", zsh(parser())], capture_output=True, encoding="utf-8", check=False)
         self.assertEqual((done.returncode, done.stderr), (0, ""))

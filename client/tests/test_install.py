@@ -40,7 +40,7 @@ class Installed(unittest.TestCase):
         status, told = self.run_words(f"{self.folder}/there/bin/resetctl", "--version", PYTHONPATH="there")
         self.assertEqual(status, 0, told)
 
-    @unittest.skipUnless(shutil.which("mypy"), "mypy is not installed (apt-get install mypy): no types are checked")
+    @unittest.skipUnless(shutil.which("mypy"), "it needs mypy: no types are checked")
     def test_its_types_hold_and_are_seen_from_outside(self) -> None:
         done = subprocess.run(["mypy", "--cache-dir", f"{self.folder}/cache"], cwd=CLIENT, capture_output=True, encoding="utf-8",
                               check=False)

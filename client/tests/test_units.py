@@ -90,7 +90,7 @@ class Units(unittest.TestCase):
             self.assertTrue(made, name)
             self.assertFalse([line for line in made if "-o resetd" in line], name)
 
-    @unittest.skipUnless(shutil.which("systemd-analyze"), "systemd-analyze is not installed: no unit is verified")
+    @unittest.skipUnless(shutil.which("systemd-analyze"), "it needs systemd-analyze: no unit is verified")
     def test_the_units_are_understood(self) -> None:
         names = [name for name in os.listdir(EXAMPLES) if name.endswith((".service", ".timer", ".socket"))]
         self.assertLessEqual({"resetd.service", "resetd-front.service", "resetd-health.timer", "resetd-member@.service"}, {*names})
@@ -104,7 +104,7 @@ class Units(unittest.TestCase):
             wrong = [line for line in done.stderr.splitlines() if self.folder in line or name in line]
             self.assertEqual(wrong, [], name)
 
-    @unittest.skipUnless(shutil.which("logrotate"), "logrotate is not installed: nothing is rotated")
+    @unittest.skipUnless(shutil.which("logrotate"), "it needs logrotate: nothing is rotated")
     def test_the_file_of_signals_is_rotated(self) -> None:
         """In place, as the server keeps it open; the lines are in the file before."""
         signals = os.path.join(self.folder, "signals")
@@ -126,7 +126,7 @@ class Units(unittest.TestCase):
             self.assertEqual(file.read(), "signal 1 1\n")
 
 
-    @unittest.skipUnless(shutil.which("logrotate"), "logrotate is not installed: nothing is rotated")
+    @unittest.skipUnless(shutil.which("logrotate"), "it needs logrotate: nothing is rotated")
     def test_the_audit_is_rotated(self) -> None:
         """By its name, as the front opens it again when it is signalled."""
         audit, told = (os.path.join(self.folder, name) for name in ("audit", "told"))
@@ -156,7 +156,7 @@ class Alerts(unittest.TestCase):
         self.assertTrue(used)
         self.assertLessEqual(used, written)
 
-    @unittest.skipUnless(shutil.which("promtool"), "promtool is not installed (Debian's prometheus has it): no rule is tried")
+    @unittest.skipUnless(shutil.which("promtool"), "it needs promtool: no rule is tried")
     def test_each_rule_fires_in_its_case_alone(self) -> None:
         with tempfile.TemporaryDirectory() as folder:
             shutil.copy(os.path.join(EXAMPLES, "resetd.rules.yml"), folder)

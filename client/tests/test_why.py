@@ -96,7 +96,7 @@ class Files(Case):
         self.assertEqual((status, lines[-1]), (1, "a server that runs meets the end by a signal: limit: this shell may let a file "
                                                   "grow to 65,552 bytes alone: beyond it ends by SIGXFSZ, without a word"))
 
-    @unittest.skipUnless(os.geteuid() == 0, "needs root: it acts as another user")
+    @unittest.skipUnless(os.geteuid() == 0, "it needs root: it acts as another user")
     def test_the_user_of_the_server(self) -> None:
         """Root sees the faults of that user: by default the owner of the folder."""
         self.move_to_all()
@@ -116,7 +116,7 @@ class Files(Case):
         os.chmod(self.folder, 0o300)
         self.assertIn("access: the user nobody can't open its folder: Permission denied", self.why(store)[1][-1])
 
-    @unittest.skipUnless(os.geteuid() == 0, "needs root: it acts as another user")
+    @unittest.skipUnless(os.geteuid() == 0, "it needs root: it acts as another user")
     def test_a_folder_of_a_lost_machine(self) -> None:
         """Its owner has no name here, which is reported; whoever may open the file as that number, may."""
         self.move_to_all()

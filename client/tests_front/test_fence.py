@@ -167,7 +167,7 @@ class OverPostgres(Workers):
         binaries = sorted(glob.glob("/usr/lib/postgresql/*/bin"))
         self.python = python_with_psycopg2()
         if not binaries or not self.python or not shutil.which("psql"):
-            self.skipTest("postgresql and python3-psycopg2 are not installed")
+            self.skipTest("it needs PostgreSQL and psycopg2")
         super().setUp()
         self.binaries = binaries[-1]
         self.user = ["runuser", "-u", "postgres", "--"] if os.getuid() == 0 else []

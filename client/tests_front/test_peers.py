@@ -70,7 +70,7 @@ class Ruled(Case):
             file.write(text)
 
 
-@unittest.skipUnless(os.getuid() == 0 and shutil.which("setpriv"), "it needs root and setpriv, to be other users")
+@unittest.skipUnless(os.getuid() == 0 and shutil.which("setpriv"), "it needs root and setpriv: to be other users")
 class Users(Ruled):
     parent = "/tmp"
 
@@ -206,7 +206,7 @@ def certificates() -> tempfile.TemporaryDirectory[str]:
     return folder
 
 
-@unittest.skipUnless(shutil.which("openssl"), "it needs openssl, to make certificates")
+@unittest.skipUnless(shutil.which("openssl"), "it needs openssl: for certificates")
 class Certificates(Ruled):
     def setUp(self) -> None:
         super().setUp()

@@ -1,20 +1,26 @@
 """The policy of docs/FRONT.md, as it is printed: with its certificate the member of node 3 begins, confirms and is told of resets
-over TLS, in Python, behind a gateway, and in Go."""
+over TLS: in Python, at a gateway, in Go, and in C with a TLS tunnel like stunnel."""
 
 from __future__ import annotations
 
 import os
 import re
+import select
 import shutil
+import socket
+import ssl
 import subprocess
 import sys
+import threading
 import unittest
+from contextlib import suppress
 
 from case import ROOT, Case, until
 from test_peers import certificates, sign
 
 GROUPS = {"resetd": "daemon", "resetd-look": "games"}  # of this machine, in the place of those of the units
 NODE = 3
+LIBRARY = os.environ.get("RESETD_MEMBER", "")  # for members in C
 
 
 def printed_policy() -> str:
@@ -26,7 +32,45 @@ def printed_policy() -> str:
     return f'{policy}\n[[allow]]\nuser = "root"\nops = ["show", "confirm", "reset"]\n'
 
 
-@unittest.skipUnless(shutil.which("openssl") and os.getuid() == 0, "it needs openssl, and root, whom the policy names")
+class Tunnel:
+    """Connects each client of a Unix socket to a front's TLS port."""
+
+    def __init__(self, path: str, host: str, port: int, context: ssl.SSLContext) -> None:
+        self._place, self._context = (host, port), context
+        self._listener = socket.socket(socket.AF_UNIX)
+        self._listener.bind(path)
+        self._listener.listen()
+        threading.Thread(target=self._serve, daemon=True).start()
+
+    def close(self) -> None:
+        self._listener.shutdown(socket.SHUT_RDWR)
+        self._listener.close()
+
+    def _serve(self) -> None:
+        with suppress(OSError):
+            while True:
+                near, _ = self._listener.accept()
+                threading.Thread(target=self._pass_on, args=[near], daemon=True).start()
+
+    def _pass_on(self, near: socket.socket) -> None:
+        """Copies bytes both ways until one side ends. A single thread uses the TLS connection, and never blocks in a read of it."""
+        with near, suppress(OSError), socket.create_connection(self._place) as plain, \
+                self._context.wrap_socket(plain, server_hostname=self._place[0]) as far:
+            while True:
+                readable = select.select([near, far], [], [])[0]
+                if near in readable:
+                    far.setblocking(True)
+                    far.sendall(data := near.recv(65536))
+                    if not data:
+                        return
+                far.setblocking(False)
+                with suppress(ssl.SSLWantReadError):
+                    while data := far.recv(65536):
+                        near.sendall(data)
+                    return
+
+
+@unittest.skipUnless(shutil.which("openssl") and os.getuid() == 0, "it needs openssl and root: for certificates, and since the policy names root")
 class Shipped(Case):
     has_front = False
 
@@ -85,12 +129,22 @@ class Shipped(Case):
 
     def test_the_member_in_go(self) -> None:
         if not shutil.which("go"):
-            self.skipTest("go is not installed")
+            self.skipTest("it needs Go")
         folders = {name: f"{self.folder}/{name}" for name in ("GOCACHE", "GOPATH", "GOTMPDIR")}
         os.mkdir(folders["GOTMPDIR"])
         subprocess.run(["go", "build", "-o", f"{self.folder}/member", f"{ROOT}/examples/members/plain_member.go"], check=True, capture_output=True,
                        env={**os.environ, **folders, "CGO_ENABLED": "0"}, timeout=600)
         self.expect_member(self.run_as_service3(f"{self.folder}/member", "3", self.address, f"{self.folder}/3"))
+
+    def test_the_member_in_c(self) -> None:
+        if not shutil.which("cc") or not os.path.exists(LIBRARY):
+            self.skipTest("it needs a C compiler: for the members' library")
+        subprocess.run(["cc", "-I", f"{ROOT}/crates/resetd_member/include", "-o", f"{self.folder}/member", f"{ROOT}/examples/members/member.c",
+                        LIBRARY.replace(".so", ".a")], check=True, timeout=600)
+        context = ssl.create_default_context(cafile=f"{self.folder}/authority.pem")
+        context.load_cert_chain(f"{self.folder}/service3.pem", f"{self.folder}/service3.key")
+        self.addCleanup(Tunnel(f"{self.folder}/tunnel", *self.front.listening("tls:"), context).close)
+        self.expect_member(self.run_as_service3(f"{self.folder}/member", "3", f"unix:{self.folder}/tunnel", f"{self.folder}/3"))
 
     def test_the_policy_allows_no_other_node(self) -> None:
         ended = self.run_as_service3(sys.executable, f"{ROOT}/examples/service", "2", self.address, f"{self.folder}/2", "--no-signals")

@@ -1,52 +1,70 @@
-/* A member in C, by resetd_member.h and docs/SERVICES.md. Its client has the number of its node.
+/* A member in C, through a front, by resetd_member.h and docs/SERVICES.md.
  *
- * usage: member NODE HOST PORT FOLDER    (made by cc -o member member.c -lresetd_member)
+ * usage: member NODE unix:PATH|HOST:PORT FOLDER    (made by cc -o member member.c -lresetd_member)
  *
- * FOLDER has `work`, with the epoch that was begun; `start-NODE.json` and `start-NODE.history`, as those of
- * the client library; `orders`; and, while the group is in a run, `run`, with the epoch and the tag (- for a
- * member that is alone). Whoever refuses a message of another run writes its tag into `refused`. */
+ * HOST:PORT is the address of a front on the loopback, or of stunnel, which connects to the TLS port of a front elsewhere.
+ *
+ * FOLDER has `work`, with the epoch that was begun; `start-NODE.json` and `start-NODE.history`, in the client library's
+ * formats; and, while the group is in a run, `run`, with the epoch and the tag (- for a member that is alone). Whoever
+ * refuses a message of another run writes its tag into `refused`. */
 #define _POSIX_C_SOURCE 200809L
 #include <errno.h>
 #include <fcntl.h>
 #include <inttypes.h>
 #include <netdb.h>
+#include <poll.h>
 #include <resetd_member.h>
+#include <stdbool.h>
 #include <stdio.h>
 #include <stdlib.h>
 #include <string.h>
 #include <sys/socket.h>
 #include <sys/stat.h>
-#include <sys/time.h>
+#include <sys/un.h>
 #include <time.h>
 #include <unistd.h>
 
-#define MOST_VIEW 65536 /* bytes of a line that answers `show` */
-#define ANSWER_SECONDS 20
-#define LOOK_MILLISECONDS 300
+#define MOST_LINE 65536   /* bytes of a line of the front */
+#define SILENT_SECONDS 45 /* a front that is there sends a view every 15 seconds */
+#define SHOW "{\"op\":\"show\"}\n"
+#define WATCH "{\"op\":\"watch\"}\n"
 
-/* The bytes of a file, with a zero behind them. */
+/* The bytes of a file, and a zero after them. */
 struct text {
     uint8_t *bytes;
     size_t length;
 };
 
-static uint8_t node;
-static const char *host, *port;
-static char start_file[32], history_file[32];
+struct front {
+    int socket;
+    size_t length; /* of the bytes that no line was taken from yet */
+    char received[MOST_LINE];
+};
 
-static void end_unless(int holds, const char *what)
+struct member {
+    uint8_t node;
+    struct text boot; /* the name of this boot */
+    struct resetd_work work;
+    uint8_t start[RESETD_MOST_TEXT]; /* the start as resetd_judge takes it */
+    size_t start_length;
+    bool is_start_read; /* this process has not written the start file yet */
+    char start_file[32], history_file[32];
+};
+
+static void expect(bool holds, const char *what)
 {
     if (!holds) {
         perror(what);
-        exit(1);
+        exit(EXIT_FAILURE);
     }
 }
 
-static void sleep_milliseconds(long milliseconds)
+static void expect_ok(uint32_t status, const char *what)
 {
-    struct timespec time = {milliseconds / 1000, milliseconds % 1000 * 1000000};
-
-    nanosleep(&time, NULL);
+    if (status != RESETD_OK) {
+        fprintf(stderr, "%s: status %" PRIu32 " of resetd_member.h\n", what, status);
+        exit(EXIT_FAILURE);
+    }
 }
 
 /* ---- files ---- */
@@ -54,79 +72,98 @@ static void sleep_milliseconds(long milliseconds)
 /* Reads a file. Returns no bytes if it is not there; a file that can't be read ends the member. */
 static struct text read_file(const char *path)
 {
-    struct stat info = {.st_size = 0};
     struct text text = {NULL, 0};
+    size_t room = 0;
+    ssize_t count = 0;
     int file = open(path, O_RDONLY | O_CLOEXEC);
 
-    end_unless(file >= 0 ? fstat(file, &info) == 0 : errno == ENOENT, path);
-    text.bytes = malloc((size_t)info.st_size + 1);
-    end_unless(text.bytes != NULL, path);
-    while (file >= 0 && text.length < (size_t)info.st_size) {
-        ssize_t count = read(file, text.bytes + text.length, (size_t)info.st_size - text.length);
-
-        end_unless(count >= 0, path);
-        if (count == 0)
-            break;
+    expect(file >= 0 || errno == ENOENT, path);
+    do {
         text.length += (size_t)count;
-    }
-    text.bytes[text.length] = 0;
+        if (text.length + 1 >= room) {
+            room += 4096;
+            text.bytes = realloc(text.bytes, room);
+            expect(text.bytes != NULL, path);
+        }
+        count = file < 0 ? 0 : read(file, text.bytes + text.length, room - text.length - 1);
+        expect(count >= 0, path);
+    } while (count > 0);
+    text.bytes[text.length] = '\0';
     if (file >= 0)
         close(file);
     return text;
 }
 
-static void sync_folder(void)
-{
-    int folder = open(".", O_RDONLY | O_CLOEXEC);
-
-    end_unless(folder >= 0 && fsync(folder) == 0 && close(folder) == 0, ".");
-}
-
-/* Syncs a file as it is, if it is there. */
-static void sync_file(const char *path)
+/* Syncs a file or a folder, if it is there. */
+static void sync_path(const char *path)
 {
     int file = open(path, O_RDONLY | O_CLOEXEC);
 
     if (file < 0 && errno == ENOENT)
         return;
-    end_unless(file >= 0 && fsync(file) == 0 && close(file) == 0, path);
+    expect(file >= 0 && fsync(file) == 0 && close(file) == 0, path);
 }
 
-/* Writes bytes into a file, in the place of all that stands from there on; then it is on the disk. */
+/* Replaces the bytes of a file from an offset on. */
 static void write_at(const char *path, size_t at, const void *bytes, size_t size)
 {
     int file = open(path, O_WRONLY | O_CREAT | O_CLOEXEC, 0666);
 
-    end_unless(file >= 0 && ftruncate(file, (off_t)at) == 0, path);
-    end_unless(pwrite(file, bytes, size, (off_t)at) == (ssize_t)size && fsync(file) == 0 && close(file) == 0, path);
-    sync_folder();
+    expect(file >= 0 && ftruncate(file, (off_t)at) == 0, path);
+    expect(pwrite(file, bytes, size, (off_t)at) == (ssize_t)size && close(file) == 0, path);
 }
 
-/* Replaces a file as a whole; then it is on the disk. */
-static void keep(const char *path, const void *bytes, size_t size)
+/* Replaces a file as a whole, durably if it is to be synced. */
+static void replace(const char *path, const void *bytes, size_t size, bool is_synced)
 {
     char new_path[64];
 
     snprintf(new_path, sizeof new_path, "%s.new", path);
     write_at(new_path, 0, bytes, size);
-    end_unless(rename(new_path, path) == 0, path);
-    sync_folder();
+    if (is_synced)
+        sync_path(new_path);
+    expect(rename(new_path, path) == 0, path);
+    if (is_synced)
+        sync_path(".");
 }
 
-/* ---- the coordinator ---- */
-
-static int connect_to_port(void)
+/* Replaces the start file. The first write of a process is always synced: after a power cut the text of an earlier
+ * version, which counts in any boot, must not come back. */
+static void write_start(struct member *member, const void *bytes, size_t size, bool is_synced)
 {
-    struct addrinfo hints = {.ai_socktype = SOCK_STREAM}, *found;
-    struct timeval patience = {.tv_sec = ANSWER_SECONDS};
-    int connection;
+    replace(member->start_file, bytes, size, is_synced || member->is_start_read);
+    member->is_start_read = false;
+}
 
-    if (getaddrinfo(host, port, &hints, &found) != 0)
+/* ---- the front ---- */
+
+static int connect_unix(const char *path)
+{
+    struct sockaddr_un address = {.sun_family = AF_UNIX};
+    int connection = socket(AF_UNIX, SOCK_STREAM | SOCK_CLOEXEC, 0);
+
+    snprintf(address.sun_path, sizeof address.sun_path, "%s", path);
+    if (connection >= 0 && connect(connection, (struct sockaddr *)&address, sizeof address) == 0)
+        return connection;
+    close(connection);
+    return -1;
+}
+
+static int connect_tcp(const char *address)
+{
+    struct addrinfo hints = {.ai_socktype = SOCK_STREAM}, *found = NULL;
+    char host[256] = "";
+    const char *colon = strrchr(address, ':');
+    int connection = -1;
+
+    if (colon == NULL)
         return -1;
-    connection = socket(found->ai_family, SOCK_STREAM | SOCK_CLOEXEC, 0);
-    if (connection >= 0) {
-        setsockopt(connection, SOL_SOCKET, SO_RCVTIMEO, &patience, sizeof patience);
-        if (connect(connection, found->ai_addr, found->ai_addrlen) != 0) {
+    snprintf(host, sizeof host, "%.*s", (int)(colon - address), address);
+    if (getaddrinfo(host, colon + 1, &hints, &found) != 0)
+        return -1;
+    for (struct addrinfo *each = found; each != NULL && connection < 0; each = each->ai_next) {
+        connection = socket(each->ai_family, SOCK_STREAM | SOCK_CLOEXEC, 0);
+        if (connection >= 0 && connect(connection, each->ai_addr, each->ai_addrlen) != 0) {
             close(connection);
             connection = -1;
         }
@@ -135,178 +172,206 @@ static int connect_to_port(void)
     return connection;
 }
 
-/* Sends a line over a connection of its own, and reads the line that answers it. Returns its length, 0 if none came whole. */
-static size_t ask(const void *line, size_t size, uint8_t *answer, size_t room)
+/* Sends a line. If the connection has ended, the next read reports it. */
+static void send_line(struct front *front, const char *line)
 {
-    size_t length = 0;
-    ssize_t count = 0;
-    int connection = connect_to_port();
-
-    if (connection < 0)
-        return 0;
-    if (send(connection, line, size, MSG_NOSIGNAL) == (ssize_t)size) {
-        do {
-            length += (size_t)count;
-            if (length > 0 && answer[length - 1] == '\n')
-                break;
-            count = recv(connection, answer + length, room - length, 0);
-        } while (count > 0);
-    }
-    close(connection);
-    return length > 0 && answer[length - 1] == '\n' ? length : 0;
+    send(front->socket, line, strlen(line), MSG_NOSIGNAL);
 }
 
-/* ---- orders ---- */
-
-static void keep_orders(const struct resetd_orders *orders)
+/* Waits at most a second for a line. Returns its length with the line feed, 0 after a second, -1 at the connection's end. */
+static ssize_t receive_line(struct front *front)
 {
-    const struct resetd_order *in_hand = &orders->in_hand;
+    struct pollfd readable = {.fd = front->socket, .events = POLLIN};
+    const char *end;
+
+    while ((end = memchr(front->received, '\n', front->length)) == NULL) {
+        ssize_t count;
+
+        if (poll(&readable, 1, 1000) == 0)
+            return 0;
+        count = recv(front->socket, front->received + front->length, sizeof front->received - front->length, 0);
+        if (count <= 0)
+            return -1;
+        front->length += (size_t)count;
+    }
+    return end + 1 - front->received;
+}
+
+static void drop_line(struct front *front, size_t length)
+{
+    front->length -= length;
+    memmove(front->received, front->received + length, front->length);
+}
+
+static bool begins_with(const struct front *front, const char *text)
+{
+    return front->length >= strlen(text) && memcmp(front->received, text, strlen(text)) == 0;
+}
+
+static void order(struct front *front, const char *op, uint8_t node, uint64_t epoch)
+{
     char line[RESETD_MOST_LINE];
-    int size = snprintf(line, sizeof line, "%" PRIu64 " %d %d %d %" PRIu64 "\n", orders->last, in_hand->op, in_hand->a, in_hand->b,
-                        in_hand->epoch);
 
-    keep("orders", line, (size_t)size);
+    snprintf(line, sizeof line, "{\"op\":\"%s\",\"node\":%d,\"epoch\":%" PRIu64 "}\n", op, node, epoch);
+    send_line(front, line);
 }
 
-/* Sends the order in hand, the same line until there is an answer; if the count is lost, with all numbers from 1. */
-static void settle(struct resetd_orders *orders)
-{
-    uint8_t line[RESETD_MOST_LINE], answer[512];
-    uint32_t meaning;
-    size_t length;
-    int is_lost = 0;
+/* ---- the rule ---- */
 
-    for (keep_orders(orders); orders->in_hand.op != 0; keep_orders(orders)) {
-        end_unless(resetd_order_line(orders, node, line, sizeof line, &length) == RESETD_OK, "orders");
-        length = ask(line, length, answer, sizeof answer);
-        if (resetd_hear(orders, answer, length, &meaning) != RESETD_OK || meaning == RESETD_SEND_AGAIN) {
-            sleep_milliseconds(500);
-        } else if (meaning == RESETD_COUNT_LOST) {
-            orders->last = is_lost ? orders->last + 1 : 0;
-            is_lost = 1;
-        }
-    }
-}
-
-/* Carries out an order. An earlier one without an answer comes first; if it is the same one, it counts as this one. */
-static void order(uint8_t op, uint64_t epoch)
-{
-    struct resetd_orders orders = {0, {0, 0, 0, 0}};
-    struct resetd_order wanted = {op, node, 0, epoch}, *in_hand = &orders.in_hand;
-    struct text text = read_file("orders");
-    int is_same;
-
-    sscanf((char *)text.bytes, "%" SCNu64 " %" SCNu8 " %" SCNu8 " %" SCNu8 " %" SCNu64, &orders.last, &in_hand->op, &in_hand->a,
-           &in_hand->b, &in_hand->epoch);
-    free(text.bytes);
-    is_same = in_hand->op == op && in_hand->a == node && in_hand->epoch == epoch;
-    settle(&orders);
-    if (!is_same && resetd_write_down(&orders, &wanted) == RESETD_OK)
-        settle(&orders);
-}
-
-/* ---- what is due ---- */
-
-/* Begins an epoch; "nothing begun" is on the disk. */
-static void begin(uint64_t epoch)
+/* Drops the work and begins an epoch. The start file says on the disk that nothing is begun. */
+static void begin(struct member *member, uint64_t epoch)
 {
     uint8_t text[RESETD_MOST_TEXT];
     size_t length = (size_t)snprintf((char *)text, sizeof text, "%" PRIu64 "\n", epoch);
 
-    keep("work", text, length); /* the common start itself would stand here */
-    end_unless(resetd_begun(node, epoch, text, sizeof text, &length) == RESETD_OK, "begun");
-    keep(start_file, text, length);
-    printf("member %d: starts anew, epoch %" PRIu64 "\n", node, epoch);
+    replace("work", text, length, true); /* the common start itself would stand here */
+    member->work = (struct resetd_work){.is_there = true, .epoch = epoch};
+    expect_ok(resetd_loaded(member->node, epoch, member->boot.bytes, member->boot.length, text, sizeof text, &length), "loaded");
+    write_start(member, text, length, false);
+    expect_ok(resetd_begun(member->node, epoch, member->start, sizeof member->start, &member->start_length), "begun");
+    printf("member %d: starts anew, epoch %" PRIu64 "\n", member->node, epoch);
     fflush(stdout);
-    order(RESETD_CONFIRM, epoch);
 }
 
-/* Says in which run the member may talk, and asks for a reset if a tag was refused that no look can bring to its own. */
-static void talk(uint64_t epoch, const uint8_t *view, size_t view_length)
+/* Publishes the member's run in `run`. Returns whether a message was refused whose sender can't come to the same run. */
+static bool talk(const struct member *member, uint64_t epoch, const struct front *front, size_t length)
 {
     uint8_t tag[RESETD_MOST_TAG];
     char line[RESETD_MOST_TAG + 32];
-    size_t length;
+    size_t tag_length;
     int size;
-    struct text start = read_file(start_file), run = read_file("run"), refused = read_file("refused");
+    bool are_parted;
+    struct text refused = read_file("refused");
 
-    end_unless(resetd_tag(view, view_length, node, start.bytes, start.length, (const uint8_t *)"", 0, tag, sizeof tag, &length)
-               == RESETD_OK, "tag");
-    size = snprintf(line, sizeof line, "%" PRIu64 " %.*s\n", epoch, length ? (int)length : 1, length ? (const char *)tag : "-");
-    if (run.length != (size_t)size || memcmp(run.bytes, line, (size_t)size) != 0)
-        keep("run", line, (size_t)size);
-    unlink("refused");
-    if (resetd_are_parted(tag, length, refused.bytes, strcspn((char *)refused.bytes, "\n")))
-        order(RESETD_ORDER_RESET, 0);
-    free(start.bytes);
-    free(run.bytes);
+    expect_ok(resetd_tag((const uint8_t *)front->received, length, member->node, member->start, member->start_length,
+                         (const uint8_t *)"", 0, tag, sizeof tag, &tag_length), "tag");
+    size = snprintf(line, sizeof line, "%" PRIu64 " %.*s\n", epoch, tag_length ? (int)tag_length : 1,
+                    tag_length ? (const char *)tag : "-");
+    replace("run", line, (size_t)size, false);
+    are_parted = resetd_are_parted(tag, tag_length, refused.bytes, strcspn((char *)refused.bytes, "\n"));
     free(refused.bytes);
+    unlink("refused");
+    return are_parted;
 }
 
-/* Judges a view by what the member keeps. Returns a status of resetd_member.h. */
-static uint32_t judge(const uint8_t *view, size_t length, uint8_t *out, size_t room, struct resetd_judged *judged)
+/* Judges the received view and carries out the result. Returns whether it sent an order. */
+static bool look(struct member *member, struct front *front, size_t length)
 {
-    struct text start = read_file(start_file), history = read_file(history_file), text = read_file("work");
-    struct resetd_work work = {false, 0};
-    uint32_t status;
+    uint8_t out[RESETD_MOST_TEXT];
+    struct resetd_judged judged = {.due = RESETD_WAIT};
+    struct text history = read_file(member->history_file);
+    uint32_t status = resetd_judge((const uint8_t *)front->received, length, member->node, member->start, member->start_length,
+                                   history.bytes, history.length, &member->work, out, sizeof out, &judged);
 
-    work.is_there = sscanf((char *)text.bytes, "%" SCNu64, &work.epoch) == 1;
-    status = resetd_judge(view, length, node, start.bytes, start.length, history.bytes, history.length, &work, out, room, judged);
-    free(start.bytes);
     free(history.bytes);
-    free(text.bytes);
-    return status;
-}
-
-static void look(void)
-{
-    static const char show[] = "{\"op\":\"show\"}\n";
-    static uint8_t view[MOST_VIEW], out[RESETD_MOST_TEXT];
-    struct resetd_judged judged;
-    size_t length = ask(show, sizeof show - 1, view, sizeof view);
-    uint32_t status = judge(view, length, out, sizeof out, &judged);
-
-    if (status == RESETD_BAD_LINE)
-        return; /* no answer, or a torn one: what it talks in goes on */
     if (status != RESETD_OK || judged.due != RESETD_TALK)
         unlink("run");
     if (status == RESETD_NO_NODE)
-        return;
-    end_unless(status == RESETD_OK, "a file does not read");
-    if (judged.line_length > 0)
-        write_at(history_file, judged.history_size, out + judged.start_length, judged.line_length);
-    if (judged.start_length > 0)
-        keep(start_file, out, judged.start_length);
-    if (judged.due == RESETD_BEGIN)
-        begin(judged.epoch);
-    else if (judged.due == RESETD_RESET)
-        order(RESETD_ORDER_RESET, 0);
-    else if (judged.due == RESETD_TALK)
-        talk(judged.epoch, view, length);
+        return false;
+    expect_ok(status, "judge");
+    if (judged.line_length > 0) {
+        write_at(member->history_file, judged.history_size, out + judged.start_length, judged.line_length);
+        sync_path(member->history_file);
+        if (judged.history_size == 0)
+            sync_path(".");
+    }
+    if (judged.start_length > 0) {
+        write_start(member, out, judged.start_length, judged.due == RESETD_BEGIN);
+        memcpy(member->start, out, judged.start_length);
+        member->start_length = judged.start_length;
+    }
+    switch (judged.due) {
+    case RESETD_BEGIN:
+        begin(member, judged.epoch);
+        order(front, "confirm", member->node, judged.epoch);
+        return true;
+    case RESETD_TALK:
+        if (!talk(member, judged.epoch, front, length))
+            return false;
+        break;
+    case RESETD_WAIT:
+        return false;
+    }
+    order(front, "reset", member->node, judged.epoch);
+    return true;
+}
+
+/* Watches, and judges each view, until the connection ends. */
+static void follow(struct member *member, struct front *front)
+{
+    bool is_ordered = false; /* an order has no answer yet, so a view may be older than the order */
+    int silence = 0;
+    ssize_t length;
+
+    send_line(front, WATCH);
+    while (silence < SILENT_SECONDS && (length = receive_line(front)) >= 0) {
+        if (length == 0) {
+            silence++;
+            if (access("refused", F_OK) == 0)
+                send_line(front, SHOW);
+            continue;
+        }
+        silence = 0;
+        if (!begins_with(front, "{\"accepted\":")) { /* the answer to the order: judge a view from after it */
+            if (begins_with(front, "{\"fault\":") && !begins_with(front, "{\"fault\":\"OutOfMemory\"")) {
+                fprintf(stderr, "the front answers %.*s", (int)length, front->received);
+                exit(EXIT_FAILURE);
+            }
+            is_ordered = false;
+            send_line(front, SHOW);
+        } else if (!is_ordered) {
+            is_ordered = look(member, front, (size_t)length);
+        }
+        drop_line(front, (size_t)length);
+    }
+}
+
+/* Syncs the member's files, since the previous process may have been killed before its sync, and reads them. */
+static void load(struct member *member)
+{
+    struct text start, work;
+
+    snprintf(member->start_file, sizeof member->start_file, "start-%d.json", member->node);
+    snprintf(member->history_file, sizeof member->history_file, "start-%d.history", member->node);
+    sync_path("work");
+    sync_path(member->start_file);
+    sync_path(member->history_file);
+    sync_path(".");
+    member->boot = read_file("/proc/sys/kernel/random/boot_id");
+    member->boot.length = strcspn((char *)member->boot.bytes, "\n");
+    work = read_file("work");
+    member->work.is_there = sscanf((char *)work.bytes, "%" SCNu64, &member->work.epoch) == 1;
+    start = read_file(member->start_file);
+    expect_ok(resetd_carried(member->node, start.bytes, start.length, member->boot.bytes, member->boot.length, member->start,
+                             sizeof member->start, &member->start_length), member->start_file);
+    member->is_start_read = true;
+    free(work.bytes);
+    free(start.bytes);
 }
 
 int main(int count, char **words)
 {
-    const char *kept[] = {"work", start_file, history_file, "orders"};
+    static struct member member;
+    static struct front front;
 
-    if (count != 5) {
-        fprintf(stderr, "usage: member NODE HOST PORT FOLDER\n");
+    if (count != 4) {
+        fprintf(stderr, "usage: member NODE unix:PATH|HOST:PORT FOLDER\n");
         return 2;
     }
-    node = (uint8_t)atoi(words[1]);
-    host = words[2];
-    port = words[3];
-    mkdir(words[4], 0777);
-    end_unless(chdir(words[4]) == 0, words[4]);
-    snprintf(start_file, sizeof start_file, "start-%d.json", node);
-    snprintf(history_file, sizeof history_file, "start-%d.history", node);
-    /* what is there lasts: whoever wrote, renamed or removed it may have been killed before its sync */
-    for (size_t place = 0; place < sizeof kept / sizeof kept[0]; place++)
-        sync_file(kept[place]);
-    sync_folder();
-    unlink("run"); /* before the first look nothing is known */
+    member.node = (uint8_t)atoi(words[1]);
+    mkdir(words[3], 0777);
+    expect(chdir(words[3]) == 0, words[3]);
+    load(&member);
+    unlink("run"); /* before the first view nothing is known */
     for (;;) {
-        look();
-        sleep_milliseconds(LOOK_MILLISECONDS);
+        bool is_unix = strncmp(words[2], "unix:", 5) == 0;
+
+        front.length = 0;
+        front.socket = is_unix ? connect_unix(words[2] + 5) : connect_tcp(words[2]);
+        if (front.socket >= 0) {
+            follow(&member, &front);
+            close(front.socket);
+        }
+        nanosleep(&(struct timespec){.tv_nsec = 300 * 1000 * 1000}, NULL);
     }
 }

@@ -1,4 +1,4 @@
-// A member in Go, by resetd_member.go and docs/SERVICES.md, with the same files as member.c.
+// A member in Go, by resetd_member.go and docs/SERVICES.md, at the server's port, with the files of member.c and `orders`.
 //
 // usage: member NODE HOST PORT FOLDER    (made by CGO_LDFLAGS=-lresetd_member go build member.go resetd_member.go)
 package main

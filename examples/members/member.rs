@@ -1,4 +1,4 @@
-// A member in Rust, by resetd_member.rs and docs/SERVICES.md, with the same files as member.c.
+// A member in Rust, by resetd_member.rs and docs/SERVICES.md, at the server's port, with the files of member.c and `orders`.
 //
 // usage: member NODE HOST PORT FOLDER    (made by rustc -O member.rs -L FOLDER_OF_THE_LIBRARY -l static=resetd_member)
 use std::fs::{self, File, OpenOptions};

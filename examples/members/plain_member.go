@@ -1,20 +1,19 @@
-// A member in Go without the library, through a front (docs/SERVICES.md, "In another language"): over one connection come a view
-// at each change and the answers to its orders. Usage: plain_member NODE unix:PATH|tls:HOST:PORT FOLDER
+// A member in plain Go, through a front, by docs/SERVICES.md, "In another language".
 //
-// FOLDER/log has a line for each start that was begun, where its work would be too, and for each party that one first talked with. In
-// a run FOLDER/run has the epoch and the tag (- if it is alone), and FOLDER/fence what a database needs. Whoever refuses a message of
-// another run writes its tag into FOLDER/refused.
+// usage: plain_member NODE unix:PATH|tls:HOST:PORT FOLDER
+//
+// FOLDER/kept has the member's state, and would have its work. While the member may talk, FOLDER/run has the epoch and the tag (- if
+// it is alone), and FOLDER/fence its fence for a database. Whoever refuses a message of another run writes its tag into FOLDER/refused.
 package main
 
 import (
-	"bufio"
-	"bytes"
 	"crypto/sha256"
 	"crypto/tls"
 	"crypto/x509"
 	"encoding/json"
+	"errors"
 	"fmt"
-	"io"
+	"io/fs"
 	"log"
 	"net"
 	"os"
@@ -23,14 +22,24 @@ import (
 	"time"
 )
 
-var node, begun, first, steps string // of the last start: its epoch, with whom it first talked, after how many steps
-var history, disk = map[string]bool{}, (*os.File)(nil)
+type Field string // of a row, as the line spells it
 
-type View struct {
-	Settled json.Number
-	Nodes   [][6]json.RawMessage // node, group, mode, parent, epoch, confirmed
-	Links   [][3]json.RawMessage // two nodes, incarnation
+func (field *Field) UnmarshalJSON(text []byte) error { *field = Field(text); return nil }
+
+type Line struct { // from the front: a view, or the answer to an order, which has no nodes
+	Settled Field
+	Nodes   [][6]Field // node, group, mode, parent, epoch, confirmed
+	Links   [][3]Field // two nodes, incarnation
+	Fault   string
 }
+
+var node Field // of this member
+var kept = struct {
+	Begun   string          // the epoch of the work, "" for none
+	First   string          // the party with which this start first talked, "" for none
+	Fence   string          // of that moment
+	History map[string]bool // the digests of such parties of all starts
+}{History: map[string]bool{}}
 
 func must[T any](value T, err error) T {
 	if err != nil {
@@ -39,146 +48,116 @@ func must[T any](value T, err error) T {
 	return value
 }
 
-func openLog() { // what was read is synced: whoever wrote it may have been killed before. A line that a power cut tore is no line
-	disk = must(os.OpenFile("log", os.O_RDWR|os.O_CREATE|os.O_APPEND, 0o666))
-	text := must(io.ReadAll(disk))
-	end := bytes.LastIndexByte(text, '\n') + 1
-	must(0, disk.Truncate(int64(end)))
-	must(0, disk.Sync())
-	must(0, must(os.Open(".")).Sync())
-	for _, line := range strings.Split(string(text[:end]), "\n") {
-		take(line)
-	}
+func keep() { // on the disk when it returns
+	file, folder := must(os.Create("kept.new")), must(os.Open("."))
+	must(0, json.NewEncoder(file).Encode(kept))
+	must(file, file.Sync()).Close()
+	must(0, os.Rename("kept.new", "kept"))
+	must(folder, folder.Sync()).Close()
 }
 
-func take(line string) {
-	if words := strings.SplitN(line, " ", 3); words[0] == "begun" {
-		begun, first, steps = words[1], "", ""
-	} else if words[0] == "talked" {
-		first, steps = words[2], words[1]
-		history[first] = strings.Contains(first, ",") // not that of one node alone
-	}
-}
+func digest(text string) string { return fmt.Sprintf("%x", sha256.Sum256([]byte(text))) }
 
-func add(words ...string) { // on the disk when it returns
-	line := strings.Join(words, " ")
-	must(disk.WriteString(line + "\n"))
-	must(0, disk.Sync())
-	take(line)
-}
-
-func digest(party string) string {
-	return fmt.Sprintf("%x", sha256.Sum256([]byte(strings.ReplaceAll(party, ",", "\n")+"\n")))[:32]
-}
-
-func isWithin(party []string, first string) bool {
-	for _, line := range party {
-		if !strings.Contains(","+first+",", ","+line+",") {
-			return false
-		}
-	}
-	return true
-}
-
-func look(view View) string { // does what is due by the table, and returns what is to be ordered
-	near, party, epoch, confirmed, isQuiet, isAll := map[string]bool{node: true}, []string{}, "", "", true, true
-	for before := 0; before != len(near); {
-		before = len(near)
+func look(view Line) string { // judges a view by the table, and returns the order to send, if any
+	near, own, party, isReady, isThrough := map[Field]bool{node: true}, [6]Field{}, []string{}, true, true
+	for range view.Links { // no way has more of them
 		for _, link := range view.Links {
-			if a, b := string(link[0]), string(link[1]); near[a] || near[b] {
-				near[a], near[b] = true, true
+			if near[link[0]] || near[link[1]] {
+				near[link[0]], near[link[1]] = true, true
 			}
 		}
 	}
 	for _, row := range view.Nodes {
-		if near[string(row[0])] {
-			party = append(party, fmt.Sprintf("%s %s", row[0], row[4]))
-			isReady := string(row[2]) == `"ready"`
-			isQuiet, isAll = isQuiet && isReady, isAll && isReady && bytes.Equal(row[4], row[5])
+		if row[0] == node {
+			own = row
 		}
-		if string(row[0]) == node {
-			epoch, confirmed = string(row[4]), string(row[5])
+		if near[row[0]] {
+			party = append(party, fmt.Sprintln(row[0], row[4]))
+			isReady = isReady && row[2] == `"ready"`
+			isThrough = isThrough && isReady && row[4] == row[5]
 		}
 	}
 	for _, link := range view.Links {
-		if near[string(link[0])] {
-			party = append(party, fmt.Sprintf("%s %s %s", link[0], link[1], link[2]))
+		if near[link[0]] {
+			party = append(party, fmt.Sprintln(link[0], link[1], link[2]))
 		}
 	}
 	sort.Strings(party)
-	shown, isBegun := strings.Join(party, ","), epoch == confirmed && epoch == begun
-	if isBegun && isAll && first == "" && !history[shown] {
-		add("talked", view.Settled.String(), shown)
+	epoch, shown := string(own[4]), strings.Join(party, "")
+	isBegun, isKnown := epoch != "" && own[4] == own[5] && epoch == kept.Begun, kept.History[digest(shown)]
+	if isBegun && isThrough && kept.First == "" && !isKnown {
+		name := shown
+		if kept.History[digest(shown)] = len(party) > 1; len(party) == 1 {
+			name = fmt.Sprintf("@%s\n%s", view.Settled, shown) // the party of one alone may come again
+		}
+		kept.First, kept.Fence = shown, fmt.Sprintf("%s %.32s\n", view.Settled, digest(name))
+		keep()
 	}
-	if epoch != "" && isBegun && isAll && first != "" && isWithin(party, first) {
-		return talk(epoch, shown)
+	isOurs := isBegun && isThrough && kept.First != ""
+	for _, line := range party {
+		isOurs = isOurs && strings.Contains("\n"+kept.First, "\n"+line)
+	}
+	order := fmt.Sprintf(`"node":%s,"epoch":%s}`, node, epoch)
+	if isOurs && talk(epoch, shown) {
+		return `{"op":"reset",` + order
+	} else if isOurs {
+		return ""
 	}
 	os.Remove("run")
-	if epoch != confirmed && !history[shown] {
-		add("begun", epoch) // with the common start, in the place of all work
-		return fmt.Sprintf(`{"op":"confirm","node":%s,"epoch":%s}`, node, epoch)
-	}
-	if epoch != "" && isQuiet && !(isBegun && !isAll) {
-		return fmt.Sprintf(`{"op":"reset","node":%s,"epoch":%s}`, node, epoch)
+	if own[4] != own[5] && !isKnown {
+		kept.Begun, kept.First = epoch, "" // and the common start, in the place of all work
+		keep()
+		return `{"op":"confirm",` + order
+	} else if epoch != "" && isReady && (isThrough || !isBegun) {
+		return `{"op":"reset",` + order
 	}
 	return ""
 }
 
-func talk(epoch string, shown string) string { // says in which run it may talk; a reset where a refused tag needs one
-	tag := digest(first) + "-" + digest(shown)
-	if !strings.Contains(first, ",") {
+func talk(epoch, shown string) bool { // publishes the run, and returns whether a refused tag needs a reset
+	tag := fmt.Sprintf("%.32s-%.32s", digest(kept.First), digest(shown))
+	if strings.Count(kept.First, "\n") == 1 {
 		tag = "-" // it is alone
 	}
-	must(0, os.WriteFile("fence", []byte(steps+" "+digest(first)+"\n"), 0o666))
+	must(0, os.WriteFile("fence", []byte(kept.Fence), 0o666))
 	must(0, os.WriteFile("run.new", []byte(epoch+" "+tag+"\n"), 0o666))
 	must(0, os.Rename("run.new", "run"))
 	refused, err := os.ReadFile("refused")
 	os.Remove("refused")
-	own, other := strings.Split(tag, "-"), strings.Split(strings.TrimSpace(string(refused)), "-")
-	if err == nil && len(other) == 2 && own[0] != other[0] && own[1] == other[1] {
-		return fmt.Sprintf(`{"op":"reset","node":%s,"epoch":%s}`, node, epoch)
-	}
-	return ""
-}
-
-func receive(connection net.Conn, lines chan<- []byte) {
-	defer close(lines)
-	for in := bufio.NewReader(connection); ; {
-		connection.SetReadDeadline(time.Now().Add(45 * time.Second)) // the front says something every 15 seconds
-		line, err := in.ReadBytes('\n')
-		if err != nil {
-			return
-		}
-		lines <- line
-	}
+	run, seen, _ := strings.Cut(tag, "-")
+	otherRun, otherSeen, _ := strings.Cut(strings.TrimSpace(string(refused)), "-")
+	return err == nil && run != otherRun && seen == otherSeen
 }
 
 func follow(connection net.Conn) { // until it ends
-	lines, isAwaited, asked := make(chan []byte), false, time.Time{} // whether an order has no answer yet, and since when
-	go receive(connection, lines)
+	done := make(chan bool)
+	defer close(done)
+	go lookWhereRefused(connection, done)
 	fmt.Fprintln(connection, `{"op":"watch"}`)
+	for lines, isOrdered := json.NewDecoder(connection), false; ; {
+		line := Line{}
+		connection.SetReadDeadline(time.Now().Add(45 * time.Second)) // the front sends a view every 15 seconds
+		if lines.Decode(&line) != nil {
+			return
+		} else if line.Fault != "" && line.Fault != "OutOfMemory" {
+			log.Fatal(line.Fault)
+		} else if line.Nodes == nil { // the answer to the order: judge a view from after it
+			isOrdered = false
+			fmt.Fprintln(connection, `{"op":"show"}`)
+		} else if isOrdered {
+			continue // the view may be older than the order
+		} else if order := look(line); order != "" {
+			isOrdered = true
+			fmt.Fprintln(connection, order)
+		}
+	}
+}
+
+func lookWhereRefused(connection net.Conn, done <-chan bool) {
 	for {
 		select {
-		case line, isOpen := <-lines:
-			view, answer := View{}, struct{ Fault string }{}
-			if !isOpen {
-				return
-			} else if json.Unmarshal(line, &view) == nil && view.Nodes != nil {
-				if isAwaited && time.Since(asked) > 30*time.Second {
-					return // the answer is lost: another connection's first view says what is due
-				} else if isAwaited {
-					continue // it may be of before the order
-				}
-				if order := look(view); order != "" {
-					isAwaited, asked = true, time.Now()
-					fmt.Fprintln(connection, order)
-				}
-			} else if json.Unmarshal(line, &answer); answer.Fault != "" && answer.Fault != "OutOfMemory" {
-				log.Fatal(answer.Fault)
-			} else { // carried out or refused: a look that is asked for now tells more
-				isAwaited = false
-				fmt.Fprintln(connection, `{"op":"show"}`)
-			}
+		case <-done:
+			return
 		case <-time.After(time.Second):
 			if _, err := os.Stat("refused"); err == nil {
 				fmt.Fprintln(connection, `{"op":"show"}`)
@@ -188,8 +167,8 @@ func follow(connection net.Conn) { // until it ends
 }
 
 func dial(address string) (net.Conn, error) {
-	if strings.HasPrefix(address, "unix:") {
-		return net.Dial("unix", strings.TrimPrefix(address, "unix:"))
+	if path := strings.TrimPrefix(address, "unix:"); path != address {
+		return net.Dial("unix", path)
 	}
 	pair := must(tls.LoadX509KeyPair(os.Getenv("RESETD_CERTIFICATE"), os.Getenv("RESETD_KEY")))
 	config := &tls.Config{Certificates: []tls.Certificate{pair}, RootCAs: x509.NewCertPool()}
@@ -201,11 +180,15 @@ func main() {
 	if len(os.Args) != 4 {
 		log.Fatal("usage: plain_member NODE unix:PATH|tls:HOST:PORT FOLDER")
 	}
-	node = os.Args[1]
+	node = Field(os.Args[1])
 	must(0, os.MkdirAll(os.Args[3], 0o777))
 	must(0, os.Chdir(os.Args[3]))
-	openLog()
-	os.Remove("run") // before the first look nothing is known
+	if text, err := os.ReadFile("kept"); !errors.Is(err, fs.ErrNotExist) {
+		must(0, err)
+		must(0, json.Unmarshal(text, &kept))
+	}
+	keep()           // again, since the previous process may have been killed before its sync
+	os.Remove("run") // before the first view nothing is known
 	for ; ; time.Sleep(300 * time.Millisecond) {
 		if connection, err := dial(os.Args[2]); err == nil {
 			follow(connection)

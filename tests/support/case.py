@@ -1,17 +1,20 @@
 """A test with a scratch folder."""
 
 import os
+import re
 import shutil
 import tempfile
 import time
 import unittest
-from collections.abc import Callable
+from collections.abc import Callable, Iterable
 from typing import Literal, TypeVar
 
 from .program import PROGRAM, ROOT, ran
 
 T = TypeVar("T")
 OPTIONAL = "optional: "  # how the reason begins of what may be skipped in CI too
+LACK = re.compile(rf"(?:{OPTIONAL})?it needs ([^:]+)")  # the reason of a skipped test: the missing thing, and after a colon more
+SKIPPED = re.compile(r"""\.\.\. skipped (['"])(.*)\1$""", re.MULTILINE)  # the line of a skipped test in the output of unittest -v
 
 
 def until(what: str, holds: Callable[[], T | Literal[False] | None], seconds: float = 300.0) -> T:
@@ -33,6 +36,10 @@ class Case(unittest.TestCase):
     most = 1_800
     program: str = PROGRAM
     programs: tuple[str, ...] = ("RESETD",)
+
+    def __init__(self, method: str = "runTest") -> None:
+        super().__init__(method)
+        self.skipped_within = list[str]()  # the reasons of the tests that were skipped in a command of this test
 
     def setUp(self) -> None:
         self.folder = tempfile.mkdtemp(prefix="resetd-test-")
@@ -61,6 +68,15 @@ class Case(unittest.TestCase):
         """What a test can't do without: without it the test is skipped, which fails in CI unless it is optional."""
         if not has:
             self.skipTest(f"{OPTIONAL if is_optional else ''}it needs {what}")
+
+    def note_skipped(self, printed: str) -> None:
+        """Notes the skipped tests in the output of `unittest -v`."""
+        self.skipped_within += [reason for _, reason in SKIPPED.findall(printed)]
+
+
+def lacking(reasons: Iterable[str]) -> list[str]:
+    """The missing things of these reasons, one for each skipped test."""
+    return [lack[1] for reason in reasons if (lack := LACK.match(reason))]
 
 
 def tool(name: str) -> str:

@@ -40,7 +40,7 @@ class OfLibrary(Case):
 
     def setUp(self) -> None:
         super().setUp()
-        self.needs("the members' library, which a C compiler makes", os.path.exists(PATH))
+        self.needs("a C compiler: for the members' library", os.path.exists(PATH))
 
 
 class CountedLibrary(Library):

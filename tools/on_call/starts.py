@@ -86,6 +86,15 @@ def no_store(desk: Desk) -> None:
     desk.expect_served(store)
 
 
+@row("`resetd: NotEmpty`")
+def made_before(desk: Desk) -> None:
+    store = desk.store()
+    topology = desk.write("again", b"[[node]]\nid = 1\ngroup = 1\n")
+    expect(ran("init", store, topology), faulted(1, "NotEmpty"))
+    see(ran("check", store).printed, "legal ")
+    desk.expect_served(store)
+
+
 @row("`BadRecord`, `BadSnapshot`")
 def damaged(desk: Desk) -> None:
     store = desk.store()

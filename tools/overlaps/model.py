@@ -141,6 +141,9 @@ class World:
         elif node.mode == CONVERGE and (node.parent == v or self.rule == "any_ready"):
             self.finish(u)
 
+    def join(self, a: int, b: int) -> None:
+        self.ways[self.graph.at[a, b]] = self.ways[self.graph.at[b, a]] = ()
+
     def drop(self, a: int, b: int) -> None:
         self.ways[self.graph.at[a, b]] = self.ways[self.graph.at[b, a]] = None
         for u, v in ((a, b), (b, a)):

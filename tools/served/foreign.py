@@ -180,16 +180,17 @@ class Between:
     """A port and a socket for the member alone, before the coordinator's front. `spoil` says how the next looks are spoiled. Each
     process of the member has its own port: a request of a dead one may still wait there, and means nothing.
 
-    A member that watches is shown a view once it has done what was due by the one before, at each change and now and then."""
+    A member that watches is pushed a view once it has done what was due by the previous one, at each change and now and then. While
+    its order has no answer only the previous view is pushed again, as by a front that has not read the order yet."""
 
     def __init__(self, trial: Trial, rule: Rule) -> None:
         self.trial, self.rule, self.spoil = trial, rule, list[Spoil]()
         self.on_confirm: Callable[[], None] | None = None
         self.lives, self.lock = 0, threading.RLock()  # how often the member died
-        self.watching, self.is_asked = set[socket.socket](), False  # who watches, and whether one of them asks for a look
+        self.watching, self.ordering = set[socket.socket](), set[socket.socket]()  # who watches, and whose order has no answer yet
         self.text = b""  # the last view that was shown in this life
         self.path = f"{trial.folder}/between.socket"
-        self.front = Port(f"unix:{trial.start_front().path}", 30)
+        self.front = Port(trial.address, 30)
         self.listen()
 
     def listen(self) -> None:
@@ -226,13 +227,10 @@ class Between:
     def answer(self, connection: socket.socket, line: bytes, lives: int) -> bool:
         """Whether more is answered on this connection."""
         request: Json = json.loads(line)
-        if request["op"] == "show" and connection in self.watching:
-            self.is_asked = True  # it may not have seen the previous push yet
-            return True
         if request["op"] in ("show", "watch"):
             if request["op"] == "watch":
                 self.watching.add(connection)
-            goes_on = self.show(connection, lives, bool(self.watching))
+            goes_on = self.show(connection, lives)
             if goes_on and request["op"] == "watch":
                 threading.Thread(target=self.push, args=[connection, lives], daemon=True).start()
             return goes_on
@@ -240,22 +238,29 @@ class Between:
             if lives != self.lives:
                 return False
             self.rule.ordered(request)
+            self.ordering.add(connection)
+            if connection in self.watching:
+                connection.sendall(self.text + b"\n")
         if request["op"] == "confirm" and self.on_confirm:
             self.on_confirm()
             return False
         text = self.direct(line)
         with self.lock:
+            self.ordering.discard(connection)
             connection.sendall(text + b"\n")
         return True
 
-    def show(self, connection: socket.socket, lives: int, watches: bool = False) -> bool:
-        """Shows the present to the member, which has done what was due by the last view. To one that watches and has not yet,
-        perhaps since it has not seen that view, it is shown again. Whether more is answered."""
+    def show(self, connection: socket.socket, lives: int, is_pushed: bool = False) -> bool:
+        """Sends the present view, which judges the member by the previous one. A member that watches, asks for a look and has not yet
+        carried out the previous view, perhaps since it has not read it, gets that one again. Whether more is answered."""
         self.direct(SHOW)  # waits while the server is away, and keeps nobody else waiting
         with self.lock:
             if lives != self.lives:
                 return False
-            if watches and self.text and not self.rule.has_done():
+            is_done = self.rule.has_done() and not self.ordering
+            if is_pushed and not is_done:
+                return True  # since `await_done` it was shown another view, or has begun to order
+            if self.watching and self.text and not is_done:
                 connection.sendall(self.text + b"\n")
                 return True
             self.rule.looks_again()
@@ -268,12 +273,11 @@ class Between:
             return True
 
     def push(self, connection: socket.socket, lives: int) -> None:
-        """Shows the present repeatedly to a member that watches, each time that it has done what was due, or has had all the time
-        for it; and if nothing has changed less often."""
+        """Sends the present view to a member that watches, each time that it has carried out the previous one; less often if nothing has
+        changed."""
         with contextlib.suppress(OSError):
             while self.await_done(lives):
-                is_done = self.rule.has_done()  # else it had all the time for it
-                if not self.show(connection, lives, watches=is_done):
+                if not self.show(connection, lives, is_pushed=True):
                     connection.shutdown(socket.SHUT_RDWR)
                     return
 
@@ -284,12 +288,11 @@ class Between:
             time.sleep(STEP_SECONDS)
             now = time.monotonic()
             with self.lock:
-                since = (since or now) if self.rule.has_done() else None
+                since = (since or now) if self.rule.has_done() and not self.ordering else None
                 shown = self.rule.view
-            is_due = since is not None and now - since >= REST_SECONDS and (
-                self.is_asked or shown is None or shown.nodes != self.present().nodes)
-            if is_due or now - began > (BEAT_SECONDS if since is not None else self.trial.words.seconds):
-                self.is_asked = False
+            if since is None or now - since < REST_SECONDS:
+                continue
+            if now - began > BEAT_SECONDS or shown is None or shown.nodes != self.present().nodes:
                 return True
         return False
 
@@ -299,7 +302,7 @@ class Between:
     def died(self) -> None:
         with self.lock:
             self.lives += 1
-            self.watching, self.text = set(), b""
+            self.watching, self.ordering, self.text = set(), set(), b""
             self.rule.died()
             self.end()
             self.listen()
@@ -386,7 +389,8 @@ class Tried:
             if self.process.poll() is not None and not may_end:
                 raise Failed(f"{what}: it has ended: {read(f'{self.trial.folder}/foreign.lines')[-300:]}")
             if time.monotonic() > until:
-                raise Failed(f"{what}, within {self.trial.words.seconds} s: {self.trial.told()}; due to it is {self.rule.due}")
+                raise Failed(f"{what}, within {self.trial.words.seconds} s: {self.rule.found()[0] or self.trial.told()}; due to it is "
+                             f"{self.rule.due}")
             time.sleep(0.02)
 
     def looks(self, what: str, times: int = 2) -> None:

@@ -1,30 +1,57 @@
 """A front before a coordinator, as a process."""
 
 import os
+import pwd
 import subprocess
 import sys
 import time
 
+from .ports import held_address
+
 ROOT = os.path.dirname(os.path.dirname(os.path.dirname(os.path.abspath(__file__))))
-SECONDS = 60.0  # until it listens, on a busy machine
+SECONDS = 300.0  # until it listens, on a busy machine
+
+
+# Whoever comes by TCP may do what a member does.
+POLICY = """[[allow]]
+user = "{user}"
+ops = ["show", "watch", "reset", "confirm", "add", "remove", "join", "drop", "resend", "close"]
+
+[[allow]]
+user = "nobody"
+ops = ["show", "watch", "reset", "confirm"]
+"""
 
 
 class Front:
-    """`resetd-front serve` at a socket in a folder, before a server that may be started again at its address."""
+    """`resetd-front serve` before a server that may be started again at its address: at a socket in a folder, and on the loopback."""
 
-    def __init__(self, folder: str, server: str) -> None:
-        self.path = f"{folder}/front.socket"
-        with open(f"{folder}/front.errors", "wb") as errors:
+    def __init__(self, folder: str, server: str, signals: str) -> None:
+        """`signals` is the server's file of signals."""
+        self.path, self.tcp, said = f"{folder}/front.socket", held_address(), f"{folder}/front.errors"
+        with open(f"{folder}/front.toml", "w", encoding="utf-8") as policy:
+            policy.write(POLICY.format(user=pwd.getpwuid(os.getuid()).pw_name))
+        with open(said, "wb") as errors:
             self._process = subprocess.Popen(
-                [sys.executable, f"{ROOT}/client/resetd-front", "serve", "--server", server, "--socket", self.path, "--state", f"{folder}/front",
-                 "--patience", "600"], stdin=subprocess.DEVNULL, stdout=subprocess.DEVNULL, stderr=errors)
+                [sys.executable, f"{ROOT}/client/resetd-front", "serve", "--server", server, "--socket", self.path, "--tcp", self.tcp, "--policy",
+                 policy.name, "--signals", signals, "--state", f"{folder}/front", "--patience", "600"], stdin=subprocess.DEVNULL,
+                stdout=subprocess.DEVNULL, stderr=errors)
         until = time.monotonic() + SECONDS
-        while not os.path.exists(self.path):
+        while f"listening tcp:{self.tcp}" not in (text := read(said)):
             if self._process.poll() is not None or time.monotonic() > until:
-                with open(f"{folder}/front.errors", encoding="utf-8") as said:
-                    raise RuntimeError(f"the front does not listen: {said.read()}")
+                raise RuntimeError(f"the front does not listen: {text}")
             time.sleep(0.01)
+
+    @property
+    def address(self) -> str:
+        """That of its socket, as the client library takes it."""
+        return f"unix:{self.path}"
 
     def end(self) -> None:
         self._process.kill()
         self._process.wait()
+
+
+def read(path: str) -> str:
+    with open(path, encoding="utf-8") as file:
+        return file.read()

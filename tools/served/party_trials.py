@@ -28,7 +28,7 @@ class Slow:
             self.heard[node] = {(node, self.starts)}
             while self.while_it_begins:
                 self.while_it_begins.pop()(self.trial)
-        orders = Orders(Port(self.trial.server.address, 30), node, f"{self.trial.folder}/slow{node}", recovers=True,
+        orders = Orders(Port(self.trial.address, 30), node, f"{self.trial.folder}/slow{node}", recovers=True,
                         told=lambda _: None)
         return Member(orders.port, orders, node, None, begin, told=lambda _: None)
 

@@ -32,7 +32,7 @@ from typing import Any
 
 sys.dont_write_bytecode = True
 sys.path.insert(0, os.path.join(os.path.dirname(os.path.abspath(__file__)), "..", "..", "client"))
-from resetd_client import Due, Follower, Member, Node, Orders, OutOfRun, Port, Starts, View, keep  # noqa: E402
+from resetd_client import Clock, Due, Member, Node, OutOfRun, Port, Starts, View, Wakes, keep, orders_of, wakes_of  # noqa: E402
 from resetd_client.rule import Judged, Kept, judge, shown_to  # noqa: E402
 from resetd_client.starts import Barred  # noqa: E402
 
@@ -180,19 +180,20 @@ def main() -> None:
     os.makedirs(folder, exist_ok=True)
     queue = Queue(int(node), folder)
     member: Member | Alone
+    wakes: Wakes = Clock()
     if "coordinator" in without:
         member = Alone(queue)
     else:
-        port = Port(address, 30)
-        orders = Orders(port, int(node), folder, recovers=True, held_seconds=5)
-        member = Member(port, orders, int(node), queue.work["epoch"] if queue.work else None, queue.begin)
+        orders = orders_of(Port(address, 30), int(node), folder, held_seconds=5)
+        wakes = wakes_of(orders.port, signals, orders)
+        member = Member(orders.port, orders, int(node), queue.work["epoch"] if queue.work else None, queue.begin)
         if without:
             Weaker.without = frozenset(without)
             member._starts.__class__ = Weaker
     threading.Thread(target=listener(int(own), member, queue).serve_forever, daemon=True).start()
     threading.Thread(target=send, args=(int(peer), member, queue), daemon=True).start()
     signal.signal(signal.SIGTERM, lambda *_: member.stop())
-    member.follow(Follower(signals), LOOK_SECONDS)
+    member.follow(wakes, LOOK_SECONDS)
 
 
 main()

@@ -42,7 +42,7 @@ class Queue(Trial):
             return
         with open(f"{self.folder}/{node}.lines", "ab") as lines:
             self.up[node] = subprocess.Popen(
-                [sys.executable, MEMBER, str(node), self.server.address, f"{self.folder}/{node}", str(self.ports[node - 1]),
+                [sys.executable, MEMBER, str(node), self.address, f"{self.folder}/{node}", str(self.ports[node - 1]),
                  str(self.ports[node % len(self.ports)]), self.server.signals, *sorted(WEAKER & self.words.without)],
                 stdin=subprocess.DEVNULL, stdout=lines, stderr=lines)
 

@@ -21,7 +21,7 @@ from resetd_client import Away, Member, Orders, OutOfRun, Port, Reply, View, pat
 __all__ = ["ROOT", "Away", "Failed", "Member", "Orders", "OutOfRun", "Port", "Trial", "View", "Words", "patiently", "read",
            "tag_in", "tags_at"]
 
-OPERATOR = 16
+OPERATOR, RESETCTL = 16, 14  # clients that no member has, and the front has not
 
 
 class Failed(Exception):
@@ -36,6 +36,7 @@ class Words(argparse.Namespace):
     without: set[str]
     seed: int | None
     events: int
+    is_at_port = False  # whether no front is before the coordinator
 
 
 class Trial:
@@ -45,7 +46,7 @@ class Trial:
         self.words, self.folder, self.nodes = words, folder, range(1, nodes + 1)
         self.server = Server(words.program, f"{folder}/store", held_address())  # of all its starts
         self.helpers = list[subprocess.Popen[bytes]]()
-        self.front: Front | None = None
+        self._front: Front | None = None
         links = [(node, node % nodes + 1) for node in self.nodes][:nodes if is_ring and nodes > 2 else nodes - 1]
         done = self.server.found(
             "".join(f"[[node]]\nid = {node}\ngroup = 1\n" for node in self.nodes) +
@@ -53,17 +54,24 @@ class Trial:
         if done[0] != 0:
             raise Failed(f"resetd init: {done}")
         self.start()
-        self.port = Port(self.server.address, 30)
+        if not words.is_at_port:
+            self._front = Front(folder, self.server.address, self.server.signals)
+        self.port = Port(self.address, 30)
         self.orders = Orders(self.port, OPERATOR, f"{folder}/operator", told=lambda _: None)
 
     def start(self) -> None:
         if not self.server.start():
             raise Failed(f"the coordinator did not start: {self.server.ended()}")
 
-    def start_front(self) -> Front:
-        """A front before it, which ends with the trial."""
-        self.front = Front(self.folder, self.server.address)
-        return self.front
+    @property
+    def address(self) -> str:
+        """The front's, if there is one, else the server's."""
+        return self._front.address if self._front else self.server.address
+
+    @property
+    def tcp(self) -> list[str]:
+        """The host and the port for a member that comes by TCP."""
+        return (self._front.tcp if self._front else self.server.address).split(":")
 
     def kill(self) -> None:
         """Signal 9, and a new start."""
@@ -93,7 +101,7 @@ class Trial:
                                 stderr=subprocess.DEVNULL)
         assert tail.stdout
         self.helpers.append(tail)
-        service = self.run("service", node, self.server.address, f"{self.folder}/{node}", "--look", 1, name=node,
+        service = self.run("service", node, self.address, f"{self.folder}/{node}", "--look", 1, name=node,
                            stdin=tail.stdout)
         tail.stdout.close()
         return tail, service
@@ -196,14 +204,14 @@ class Trial:
 
     def resetctl(self, *words: str) -> tuple[int, str]:
         """A command of the person on call, with a separate client. Its status and its output."""
-        done = subprocess.run([f"{ROOT}/client/resetctl", "--address", self.server.address, "--client", str(OPERATOR - 1),
+        done = subprocess.run([f"{ROOT}/client/resetctl", "--address", self.address, "--client", str(RESETCTL),
                                "--state", f"{self.folder}/state", *words], capture_output=True, encoding="utf-8", check=False)
         return done.returncode, done.stdout + done.stderr
 
     def end(self) -> None:
         self.stop_helpers()
-        if self.front:
-            self.front.end()
+        if self._front:
+            self._front.end()
         self.orders.close()
         self.server.end()
 

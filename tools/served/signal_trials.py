@@ -125,7 +125,7 @@ def doubled(trial: Trial) -> None:
 
 def members(trial: Trial) -> None:
     nodes = len(trial.nodes)
-    trial.run("gateway", f"1-{nodes}", 1, trial.server.address, f"{trial.folder}/gateway", "--signals",
+    trial.run("gateway", f"1-{nodes}", 1, trial.address, f"{trial.folder}/gateway", "--signals",
               trial.server.signals, "--look", 5, name="gateway")
     for node in trial.nodes:
         trial.run("member", f"{trial.folder}/gateway/{node}", name=node)
@@ -140,7 +140,7 @@ def messages(trial: Trial) -> str:
     places = held_ports(2)
     tag = ["--without-tag"] if "tag" in trial.words.without else []
     for node, signals, look in ((1, "/nonexistent", 1.2), (2, trial.server.signals, 5)):
-        trial.run("talk", node, trial.server.address, f"{trial.folder}/{node}", places[node - 1], places[2 - node],
+        trial.run("talk", node, trial.address, f"{trial.folder}/{node}", places[node - 1], places[2 - node],
                   signals, look, *tag, name=node)
     for reset in range(1, 7):
         trial.expect(f"messages before reset {reset}", lambda: talk_goes_on(trial))

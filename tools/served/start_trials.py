@@ -60,11 +60,11 @@ def again(trial: Trial) -> None:
 def plain(trial: Trial) -> None:
     """A member in plain bash beside two behind a gateway: they begin together, and come to one tag."""
     def up() -> None:
-        trial.run("gateway", "1-2", 1, trial.server.address, f"{trial.folder}/gateway", "--signals",
+        trial.run("gateway", "1-2", 1, trial.address, f"{trial.folder}/gateway", "--signals",
                   trial.server.signals, "--look", 0.3, name="gateway")
         for node in (1, 2):
             trial.run("member", f"{trial.folder}/gateway/{node}", name=node)
-        trial.run("plain_member", 3, *trial.server.address.split(":"), f"{trial.folder}/3", name=3)
+        trial.run("plain_member", 3, *trial.tcp, f"{trial.folder}/3", name=3)
 
     def goes_on(what: str, before: dict[int, int] | None = None) -> None:
         trial.expect_begun(what, before)

@@ -3,7 +3,7 @@
 
 ghost use Rattle.coord_ledger.specs.laws.Commits.{CommitIsSafe};
 ghost use Rattle.coord_ledger.specs.laws.Laws.{AdoptedIsConsistent, FinishKeepsKept, HasAnswer, KeptIsSafe, LogStays, NoSignalTwice, PrefixFromImages, RunGoesOn, RunIsConsistent, SettledStays, StaysConsistent, SubmitOrder};
-ghost use Rattle.coord_ledger.specs.laws.SignalsBetween.{ReleasedBetween};
+ghost use Rattle.coord_ledger.specs.laws.SignalsBetween.{ReleasedBetween, ReleasedWithDrops};
 ghost use Rattle.coord_ledger.specs.laws.Rebasing.{CrashReopens, RebasedAnswersAlike, RebasedGoesOn, RebasedIsConsistent};
 
 /// The first refusal that applies: Stopped; unless it is a repeat, PendingFull; then Exhausted, and
@@ -80,6 +80,13 @@ pub fn signals_once()
 /// asked to reset is signalled.
 pub fn released_between()
     ensures { ReleasedBetween }
+{}
+
+/// While nodes and links come and go, but no link joins the part with the rest: a ledger releases no more
+/// signals of a node of the part than resets were started and links dropped there since every node of it
+/// was Ready, and its own resets answered Finished.
+pub fn released_with_drops()
+    ensures { ReleasedWithDrops }
 {}
 
 /// Taking a flight back at the end of a run changes nothing of what a crash may keep.

@@ -10,7 +10,7 @@ pub use Rattle.coord_world.proofs.release.KeptReplies.{kept_reply_law}
 pub use Rattle.coord_world.proofs.release.ReleaseStays.{released_from_base, released_grows, fresh_where_released, release_stays}
 pub use Rattle.coord_world.proofs.release.ReleaseLaw.{release_law, resend_law}
 pub use Rattle.coord_world.proofs.waves.Running.{fold-append}
-pub use Rattle.coord_world.proofs.release.Between.{bound_between}
+pub use Rattle.coord_world.proofs.release.Between.{bound_between, bound_with_drops}
 pub use Rattle.coord_world.proofs.release.Trails.{EachFresh, fold-take_drop, fold_counts, trail_each_fresh, trail_goes_on, trail_is_cut, trail_keeps_worlds, trail_of}
 pub use Rattle.coord_world.proofs.waves.SignalsOf.{signals_first, signals_given}
 pub use Rattle.coord_world.proofs.legal.Versions.{raised_is_legal}

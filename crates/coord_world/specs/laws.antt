@@ -2,6 +2,7 @@
 pub mod Laws
 pub mod Waves
 pub mod Overlaps
+pub mod Drops
 pub mod Trails
 pub mod Between
 pub mod Release

@@ -8,8 +8,9 @@ ghost use Rattle.coord_world.specs.laws.Release.{FreshWhereReleased, ReleaseLaw,
 ghost use Rattle.coord_world.specs.laws.Trails.{FoldCounts, TrailGoesOn, TrailIsCut, TrailKeepsWorlds};
 ghost use Rattle.coord_world.specs.laws.Version1.{Version1AsksNoDistance};
 ghost use Rattle.coord_world.specs.laws.Waves.{OncePerWave};
-ghost use Rattle.coord_world.specs.laws.Between.{BoundBetween};
-ghost use Rattle.coord_world.specs.laws.Overlaps.{AllOrNone, AloneAsFinished, AskedIsSignalled, AskedReachesAll, EpochsCountSignals, NoMoreThanStarted, OnceIfOneStarted, OnceOrMore};
+ghost use Rattle.coord_world.specs.laws.Between.{BoundBetween, BoundWithDrops};
+ghost use Rattle.coord_world.specs.laws.Drops.{NoMoreWithDrops};
+ghost use Rattle.coord_world.specs.laws.Overlaps.{AllOrNone, AloneAsFinished, AskedIsSignalled, AskedReachesAll, EpochsCountSignals, EpochsRiseTogether, NoMoreThanStarted, OnceIfOneStarted, OnceOrMore};
 
 /// A world that takes a step over some settled world also takes it over itself.
 #[tactic(auto, using(crate::proofs::Acceptance::itself))]
@@ -101,6 +102,13 @@ pub fn no_more_than_started()
     ensures { NoMoreThanStarted }
 {}
 
+/// While nodes and links come and go, but no link joins the part with the rest: no node of it is signalled
+/// more often than resets were started in the part, links of it were dropped, and its own resets were
+/// answered Finished.
+pub fn no_more_with_drops()
+    ensures { NoMoreWithDrops }
+{}
+
 /// In the same steps a node of the part without a link is signalled exactly as often as its resets are
 /// answered Finished.
 pub fn alone_as_finished()
@@ -130,10 +138,22 @@ pub fn epochs_count_signals()
     ensures { EpochsCountSignals }
 {}
 
-/// Both bounds hold of the steps of a history between two moments at which every node of a part that no
+/// If every node of a part that no link leaves is Ready before and after such steps, then of the nodes
+/// that links connect with each other all have entered a new epoch or none has.
+pub fn epochs_rise_together()
+    ensures { EpochsRiseTogether }
+{}
+
+/// Both bounds hold for the steps of a history between two moments at which every node of a part that no
 /// link leaves is Ready.
 pub fn bound_between()
     ensures { BoundBetween }
+{}
+
+/// The bound with dropped links holds for the steps of a history after a moment at which every node of a
+/// part is Ready.
+pub fn bound_with_drops()
+    ensures { BoundWithDrops }
 {}
 
 /// After any number of its steps, a trail has come to a legal world within its ranges.

@@ -2,7 +2,7 @@
 //! say which steps are taken and what each gives out.
 
 ghost use Rattle.coord_world.specs.laws.ReleasedRun.{ReleasedRun};
-ghost use Rattle.coord_world.specs.laws.WorkedSteps.{Distances, DropInAbort, DropInConverge, NotAllAfterEach, Overlaps, StoredRun, StoredWave, TwoInitiators, TwoInitiatorsWithDistances};
+ghost use Rattle.coord_world.specs.laws.WorkedSteps.{Distances, DropInAbort, DropInConverge, DropsCount, NotAllAfterEach, Overlaps, StoredRun, StoredWave, TwoInitiators, TwoInitiatorsWithDistances};
 
 /// Two nodes and one reset.
 #[tactic(auto, using(crate::proofs::WorkedRuns::stored_computes))]
@@ -28,6 +28,13 @@ pub fn overlaps()
 #[tactic(auto, using(crate::proofs::waves::WorkedOverlaps::not_all_after_each))]
 pub fn not_all_after_each()
     ensures { NotAllAfterEach }
+{}
+
+/// Two resets and a dropped link on three nodes, each linked with both others: a node is signalled three
+/// times.
+#[tactic(auto, using(crate::proofs::waves::WorkedDrop::drops_count))]
+pub fn drops_count()
+    ensures { DropsCount }
 {}
 
 /// Each packet of that reset is refused until the step that gives it out is settled.

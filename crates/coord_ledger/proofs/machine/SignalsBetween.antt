@@ -3,12 +3,14 @@ use Rattle.std.proofs.Common.{◌≡◌, ℕ, ◌+◌, ◌≤◌, Bool, true, fa
 use Rattle.std.proofs.lemmas.Bool.Decides.{nat_tests}
 use Rattle.std.proofs.lemmas.List.Sums.{sum_by-append, sum_by-cons}
 use Rattle.coord_ledger.specs.Facade.{Output, Step, release_of, released_first, releases_of, Release, settled_steps}
-use Rattle.coord_ledger.specs.laws.SignalsBetween.{ReleasedBetween, is_signal_within}
+use Rattle.coord_ledger.specs.laws.SignalsBetween.{ReleasedBetween, ReleasedWithDrops, is_signal_within}
+use Rattle.coord_ledger.specs.machine.Consistent.{IsConsistent}
+use Rattle.coord_ledger.specs.machine.Machine.{Machine}
 use Rattle.coord_ledger.proofs.machine.SignalsOnce.{in_part, released_both}
 use Rattle.coord_world.specs.Facade.{World, fold, next, outputs, outs}
 use Rattle.coord_world.specs.laws.Trails.{IsTrail}
 use Rattle.coord_world.specs.laws.Waves.{is_signal_of, signals_of}
-use Rattle.coord_world.proofs.Facade.{bound_between, by_test, fold_counts, signals_first, signals_given, trail_is_cut}
+use Rattle.coord_world.proofs.Facade.{bound_between, bound_with_drops, by_test, fold_counts, signals_first, signals_given, trail_is_cut}
 
 module _ (a b v : ℕ) where
   -- 1 for a signal of v by a step after a, up to b
@@ -77,17 +79,29 @@ module _ (a b v : ℕ) where
       (λ _ e. let none : within r ≡ 0 = grind (arith, nat_tests, e) in omega (arith, none, of_first rs, sum_by-cons within r rs))
       refl
 
-pub released_between : ReleasedBetween
-released_between s earlier between rest part is steps again =
+-- a ledger has released at most the signals of the steps between
+released_most : (s : Machine) (earlier between rest : List Step) → IsConsistent s → settled_steps s.log ≡ earlier ++ (between ++ rest) → (v : ℕ) →
+    count_by (is_signal_within (s.log.base.count + length earlier) (s.log.base.count + length earlier + length between) v) s.released ≤ signals_of v (outs (fold s.log.base earlier) between)
+released_most s earlier between rest is steps v =
     let base = s.log.base in
     let a = base.count + length earlier in
     let b = a + length between in
-    let trail = subst (IsTrail base) steps (trail_is_cut base s.log.trail s.log.settled is.log.trail).first in
-    let bounds = bound_between base earlier between rest part trail again in
+    let once = in_part (is_signal_within a b v) (released_first s.released) (releases_of (outs base (settled_steps s.log))) is.returned.once in
+    let all = subst (λ l. count_within a b v (releases_of (outs base l)) ≤ signals_of v (outs (fold base earlier) between)) (sym steps) (all_within a b v base earlier between rest refl refl) in
+    omega (arith, of_first a b v s.released, once, all)
+
+-- the settled steps are a trail
+settled_trail : (s : Machine) (steps : List Step) → IsConsistent s → settled_steps s.log ≡ steps → IsTrail s.log.base steps
+settled_trail s steps is same = subst (IsTrail s.log.base) same (trail_is_cut s.log.base s.log.trail s.log.settled is.log.trail).first
+
+pub released_between : ReleasedBetween
+released_between s earlier between rest part is steps again =
+    let bounds = bound_between s.log.base earlier between rest part (settled_trail s (earlier ++ (between ++ rest)) is steps) again in
     record {
-      most = λ v x inside linked.
-          let once = in_part (is_signal_within a b v) (released_first s.released) (releases_of (outs base (settled_steps s.log))) is.returned.once in
-          let all = subst (λ l. count_within a b v (releases_of (outs base l)) ≤ signals_of v (outs (fold base earlier) between)) (sym steps) (all_within a b v base earlier between rest refl refl) in
-          omega (arith, of_first a b v s.released, once, all, bounds.most v x inside linked);
+      most = λ v x inside linked. omega (arith, released_most s earlier between rest is steps v, bounds.most v x inside linked);
       least = bounds.least;
     }
+
+pub released_with_drops : ReleasedWithDrops
+released_with_drops s earlier between rest part is steps ready v inside =
+    omega (arith, released_most s earlier between rest is steps v, bound_with_drops s.log.base earlier between rest part (settled_trail s (earlier ++ (between ++ rest)) is steps) ready v inside)

@@ -1,8 +1,9 @@
 -- How often a ledger releases signals between two moments at which every node of a part is Ready.
-use Rattle.std.specs.Prelude.{◌≡◌, ℕ, ◌+◌, ◌&&◌, Bool, List, ◌++◌, length, count_by, nat_le, nat_lt}
+use Rattle.std.specs.Prelude.{◌≡◌, ℕ, ◌+◌, ◌≤◌, ◌&&◌, Bool, true, List, ◌++◌, length, count_by, nat_le, nat_lt}
 use Rattle.coord_types.specs.declared.steps.Step.{Step}
 use Rattle.coord_world.specs.Facade.{fold}
-use Rattle.coord_world.specs.laws.Between.{BoundSignals, IsReadyAgain}
+use Rattle.coord_world.specs.laws.Between.{BoundSignals, IsReadyAgain, IsReadyApart}
+use Rattle.coord_world.specs.laws.Drops.{most_signals}
 use Rattle.coord_world.specs.laws.Waves.{is_signal_of}
 use Rattle.coord_ledger.specs.declared.release.Release.{Release}
 use Rattle.coord_ledger.specs.machine.Consistent.{IsConsistent}
@@ -18,3 +19,9 @@ is_signal_within a b v r = (nat_lt a r.step && nat_le r.step b) && is_signal_of 
 abbrev pub ReleasedBetween : Type 0
 ReleasedBetween = (s : Machine) (earlier between rest : List Step) (part : ℕ → Bool) → IsConsistent s → settled_steps s.log ≡ earlier ++ (between ++ rest) → IsReadyAgain s.log.base earlier between part →
     BoundSignals (fold s.log.base earlier) between part (λ v. count_by (is_signal_within (s.log.base.count + length earlier) (s.log.base.count + length earlier + length between) v) s.released)
+
+-- While nodes and links come and go, as long as no link joins the part with the rest, the steps between have released no more signals of a
+-- node of the part than resets were started and links dropped there, and its own resets answered Finished.
+abbrev pub ReleasedWithDrops : Type 0
+ReleasedWithDrops = (s : Machine) (earlier between rest : List Step) (part : ℕ → Bool) → IsConsistent s → settled_steps s.log ≡ earlier ++ (between ++ rest) → IsReadyApart s.log.base earlier between part →
+    (v : ℕ) → part v ≡ true → count_by (is_signal_within (s.log.base.count + length earlier) (s.log.base.count + length earlier + length between) v) s.released ≤ most_signals (fold s.log.base earlier) between part v

@@ -24,11 +24,11 @@ use Rattle.coord_world.proofs.waves.SignalsOf.{signals_first}
 use Rattle.coord_world.proofs.waves.StepEffects.{signals_in}
 
 -- how often v is in a list
-abbrev times : ℕ → List ℕ → ℕ
+abbrev pub times : ℕ → List ℕ → ℕ
 times v xs = count_by (λ u. eqb u v) xs
 
 -- of a node without neighbours
-step_finishes : (w settled : World) (s : Step) → changes_topology s ≡ false → Sound (view w) → IsFresh w settled s → (v : ℕ) → is_empty (state w v).neighbours ≡ true →
+pub step_finishes : (w settled : World) (s : Step) → changes_topology s ≡ false → Sound (view w) → IsFresh w settled s → (v : ℕ) → is_empty (state w v).neighbours ≡ true →
     signals_in w.version (state w) s v ≡ times v (finished_by (kind (state w) s) s)
 step_finishes w settled (Order c n (Add u g)) stays sound fresh v alone = cc
 step_finishes w settled (Order c n (Remove u)) stays sound fresh v alone = cc

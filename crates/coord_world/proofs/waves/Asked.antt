@@ -1,4 +1,4 @@
--- A node that is in a reset is signalled by then that it is Ready, whatever steps come; so one that is asked to reset is.
+-- A node in a reset is signalled before it is Ready again, whatever steps come; so a node whose reset was accepted is.
 use Rattle.std.proofs.Common.{◌≡◌, ◌≢◌, ◌⊎◌, ℕ, ◌≤◌, true, false, List, [], ◌∷◌, ◌++◌, Option, Some, None, refl, sym, ap, ◌∙◌, subst, inl, inr, arith, count_by}
 use Rattle.std.proofs.lemmas.Bool.Decides.{nat_tests}
 use Rattle.coord_types.proofs.Sets.{len_zero}
@@ -35,7 +35,7 @@ use Rattle.coord_world.proofs.waves.StepEffects.{signals_in}
 abbrev IsOwed : Transition → Type 0
 IsOwed d = (is_ready d.state.mode ≡ false) ⊎ (d.finished ≡ true)
 
--- each rule does so with a node in a reset
+-- each rule leaves a node in a reset there, or signals it
 module _ (version : ℕ) (r : NodeState) (busy : is_ready r.mode ≡ false) where
   owed_after : (m : Msg) (v : ℕ) → IsOwed (transition version m r v)
   owed_after (msg.Abort n) v = abort_cases version r v IsOwed n (λ _ _. inl refl) (λ _ _. inl refl) (λ _. inl busy)
@@ -45,13 +45,13 @@ module _ (version : ℕ) (r : NodeState) (busy : is_ready r.mode ≡ false) wher
   cut : (v : ℕ) → IsOwed (lost r v)
   cut v = lost_cases r v IsOwed (λ _. inl busy) (λ _ _. inl busy) (λ _ _. inl busy) (λ _ _. inr refl) (λ _ _ _. inr refl) (λ _ _ p _. inl refl)
 
--- who joins is in a reset
+-- a node whose request is answered Joined is in a reset
 joined_busy : (m : Mode) (r : NodeState) → kind_of_request m r ≡ Joined → is_ready m ≡ false
 joined_busy Ready r h = by_test (is_empty r.neighbours) (λ _. is_ready Ready ≡ false) (λ t. absurd (grind (arith, nat_tests, h, t))) (λ t. absurd (grind (arith, nat_tests, h, t)))
 joined_busy Abort r h = refl
 joined_busy Converge r h = refl
 
--- a reset that is asked for does so with any node
+-- a request leaves any node in a reset, or signals it
 asked_for : (version : ℕ) (r : NodeState) → IsOwed (request version r)
 asked_for version r = request_cases version r (λ d k. (k ≡ Joined → is_ready r.mode ≡ false) → IsOwed d) (λ _ _ _. inr refl) (λ _ _ _. inl refl) (λ joined. inl (joined refl)) (joined_busy r.mode r)
 
@@ -69,14 +69,14 @@ given_by t d x = count_by (is_signal_of x) (signals ((t, d) ∷ []))
 here_owed : (z : Ideal) (t : ℕ) (d : Transition) → IsOwed d → IsStillOwed (ideal_applied z t d) (given_by t d) t
 here_owed z t d owed = elim owed [ inl busy ↦ inl (grind (arith, nat_tests, busy)) | inr done ↦ inr (grind (arith, nat_tests, done)) ]
 
--- each node in a reset, where a transition leaves that of its own so
+-- every node in a reset stays there or is signalled, if a transition leaves its own node so
 all_owed : (z : Ideal) (t : ℕ) (d : Transition) → (is_ready (z.state t).mode ≡ false → IsOwed d) → (x : ℕ) → is_ready (z.state x).mode ≡ false → IsStillOwed (ideal_applied z t d) (given_by t d) x
 all_owed z t d owed x busy = elim (same_or_apart x t) [
   | inl here ↦ subst (IsStillOwed (ideal_applied z t d) (given_by t d)) (sym here) (here_owed z t d (owed (subst (λ q. is_ready (z.state q).mode ≡ false) here busy)))
   | inr far ↦ inl (grind (arith, nat_tests, far, busy))
 ]
 
--- each node in a reset, where two transitions leave those of their own so
+-- the same for two transitions at two nodes
 two_owed : (z : Ideal) (a b : ℕ) (da db : Transition) → a ≢ b → (is_ready (z.state a).mode ≡ false → IsOwed da) → (is_ready (z.state b).mode ≡ false → IsOwed db) →
     (x : ℕ) → is_ready (z.state x).mode ≡ false → IsStillOwed (ideal_applied (ideal_applied z a da) b db) (λ q. count_by (is_signal_of q) (signals ((a, da) ∷ (b, db) ∷ []))) x
 two_owed z a b da db apart owed_a owed_b x busy = elim (same_or_apart x b) [
@@ -94,7 +94,7 @@ two_owed z a b da db apart owed_a owed_b x busy = elim (same_or_apart x b) [
 ]
 
 -- a node without neighbours is Ready
-lone_ready : (z : Ideal) → Sound z → (u : ℕ) → is_empty (z.state u).neighbours ≡ true → is_ready (z.state u).mode ≡ true
+pub lone_ready : (z : Ideal) → Sound z → (u : ℕ) → is_empty (z.state u).neighbours ≡ true → is_ready (z.state u).mode ≡ true
 lone_ready z sound u alone = in_mode (z.state u).mode refl
   where
     -- it awaits nobody
@@ -141,7 +141,7 @@ module _ (w settled : World) (s : Step) (sound : Sound (view w)) (counts : AllCo
   step_owed : StepOwed (view w) (view (next w s)) s
   step_owed = subst (λ y. StepOwed (view w) y s) (sym (view_next w settled s counts fresh)) (ideal_owed w settled s sound fresh)
 
--- who is asked to reset is in a reset after it, or was signalled
+-- a node whose reset was accepted is in a reset after that step, or was signalled by it
 asked_owed : (w settled : World) (c n u : ℕ) → AllCount w → IsFresh w settled (Order c n (Reset u)) → IsStillOwed (view (next w (Order c n (Reset u)))) (signals_in w.version (state w) (Order c n (Reset u))) u
 asked_owed w settled c n u counts fresh = subst (λ y. IsStillOwed y (signals_in w.version (state w) (Order c n (Reset u))) u) (sym (view_next w settled (Order c n (Reset u)) counts fresh))
     (here_owed (view w) u (request w.version (state w u)) (asked_for w.version (state w u)))

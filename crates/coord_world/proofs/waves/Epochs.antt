@@ -1,4 +1,4 @@
--- The epoch of a node counts its signals; and who is connected with a node that was asked to reset is signalled.
+-- A node's epoch counts its signals, and every node connected with one whose reset was accepted is signalled.
 use Rattle.std.proofs.Common.{◌≡◌, ℕ, ◌+◌, ◌≤◌, false, List, [], ◌∷◌, ◌++◌, All, refl, sym, ap, ◌∙◌, subst, inl, inr, arith, count_by}
 use Rattle.std.proofs.lemmas.Bool.Decides.{nat_tests}
 use Rattle.std.proofs.lemmas.List.Elements.{All-head, All-tail}
@@ -12,7 +12,7 @@ use Rattle.coord_types.specs.declared.steps.Step.TheVariants.{Order, Take, Clear
 use Rattle.coord_node.specs.Facade.{Transition, headed, ideal_applied, ideal_next, request, transition}
 use Rattle.coord_tables.proofs.Cases.{same_or_apart}
 use Rattle.coord_world.specs.Facade.{IsFresh, World, fold, next, outputs, outs, reply, signals, state, view}
-use Rattle.coord_world.specs.laws.Overlaps.{AskedReachesAll, EpochsCountSignals}
+use Rattle.coord_world.specs.laws.Overlaps.{AskedReachesAll, EpochsCountSignals, EpochsRiseTogether}
 use Rattle.coord_world.specs.laws.Waves.{changes_topology, is_signal_of, signals_of}
 use Rattle.coord_world.specs.protocol.Links.{one}
 use Rattle.coord_world.proofs.View.{view_next}
@@ -26,7 +26,7 @@ use Rattle.coord_world.proofs.waves.StepEffects.{signals_in}
 
 -- ---- a transition
 
--- the epoch rises where it finishes
+-- the epoch rises by one if the transition finishes, and stays otherwise
 abbrev IsCounted : NodeState → Transition → Type 0
 IsCounted r d = d.state.epoch ≡ r.epoch + one d.finished
 
@@ -41,7 +41,7 @@ module _ (version : ℕ) (r : NodeState) where
 
 -- ---- a step
 
--- a transition at t signals it where its epoch rises
+-- a transition at t signals t exactly if its epoch rises
 applied : (z : Ideal) (t : ℕ) (d : Transition) → IsCounted (z.state t) d → (x : ℕ) → ((ideal_applied z t d).state x).epoch ≡ (z.state x).epoch + count_by (is_signal_of x) (signals ((t, d) ∷ []))
 applied z t d counted x = elim (same_or_apart x t) [
   | inl here ↦ subst (λ q. ((ideal_applied z t d).state q).epoch ≡ (z.state q).epoch + count_by (is_signal_of q) (signals ((t, d) ∷ []))) (sym here) (grind (arith, nat_tests, counted))
@@ -75,7 +75,7 @@ pub epochs_count_signals : EpochsCountSignals
 epochs_count_signals w steps range legal in_turn stays v =
     all_counted steps w (record { sound = sound_view w range legal; counts = legal.lanes; taken = taken_in_turn w steps in_turn }) stays v
 
--- what the later steps signal, all do
+-- the later steps signal a node no more often than all steps do
 later_signals : (before rest : List Step) (w : World) (u : ℕ) → signals_of u (outs (fold w before) rest) ≤ signals_of u (outs w (before ++ rest))
 later_signals [] rest w u = omega arith
 later_signals (s ∷ ss) rest w u = let more = later_signals ss rest (next w s) u in let all = signals_first u w s (ss ++ rest) in omega arith
@@ -86,3 +86,9 @@ asked_reaches_all w steps before rest part c n u begins ready_after is inside v 
     let all = later_signals before (Order c n (Reset u) ∷ rest) w u in
     let once : 1 ≤ signals_of u (outs w steps) = subst (λ l. 1 ≤ signals_of u (outs w l)) (sym is) (omega (arith, after, all)) in
     all_or_none w steps part begins ready_after u v inside path once
+
+pub epochs_rise_together : EpochsRiseTogether
+epochs_rise_together w steps part begins ready_after u v inside path rises =
+    let counted : (x : ℕ) → (state (fold w steps) x).epoch ≡ (state w x).epoch + signals_of x (outs w steps) = epochs_count_signals w steps begins.in_range begins.legal begins.in_turn begins.same_topology in
+    let once = all_or_none w steps part begins ready_after u v inside path (omega (arith, counted u, rises)) in
+    omega (arith, counted v, once)

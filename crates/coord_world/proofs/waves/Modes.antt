@@ -3,7 +3,7 @@ use Rattle.std.proofs.Common.{◌≡◌, ℕ, ◌≤◌, true, false, not, Some,
 use Rattle.std.proofs.lemmas.Bool.Decides.{nat_tests}
 use Rattle.coord_types.specs.Facade.{Ideal, NodeState, contains}
 use Rattle.coord_types.specs.declared.messages.Mode.{Mode}
-use Rattle.coord_types.specs.declared.messages.Mode.TheVariants.{Ready}
+use Rattle.coord_types.specs.declared.messages.Mode.TheVariants.{Ready, Abort}
 use Rattle.coord_tables.proofs.Cases.{by_test}
 use Rattle.coord_world.specs.protocol.Links.{aborts, is_abort, is_ready, one}
 use Rattle.coord_node.specs.Rules.{is_empty}
@@ -22,6 +22,10 @@ SameNear z y = (a b : ℕ) → contains (y.state a).neighbours b ≡ contains (z
 -- what is_ready says
 pub mode_is_ready : (m : Mode) → is_ready m ≡ true → m ≡ Ready
 mode_is_ready m h1 = grind (arith, nat_tests, h1)
+
+-- what is_abort says
+pub mode_is_abort : (m : Mode) → is_abort m ≡ true → m ≡ Abort
+mode_is_abort m h1 = grind (arith, nat_tests, h1)
 
 -- an Abort node isn't Ready
 pub abort_busy : (m : Mode) → is_abort m ≡ true → is_ready m ≡ false

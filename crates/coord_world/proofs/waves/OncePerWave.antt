@@ -21,7 +21,7 @@ use Rattle.coord_world.proofs.waves.Running.{AllGo, Start, all_go, near_kept, st
 use Rattle.coord_world.proofs.waves.SignalsOf.{all_explained, signals_given}
 use Rattle.coord_world.proofs.waves.Spread.{all_among, among, among-append, reached_signals}
 use Rattle.coord_world.proofs.waves.StepEffects.{signals_in}
-use Rattle.coord_world.proofs.waves.Trees.{no_more}
+use Rattle.coord_world.proofs.waves.Bounded.{no_more}
 
 -- ---- each signal is explained
 
@@ -35,11 +35,11 @@ record Explains (base : World) (u : ℕ) (y : Ideal) (signals : ℕ → ℕ) (k 
   signal : (v : ℕ) → 1 ≤ signals v → Connected base u v ⊎ (k ≡ Finished)
 
 module _ (base : World) (u : ℕ) (z y : Ideal) (signals : ℕ → ℕ) (k : Kind) (inside : Inside base u z) where
-  -- where one node alone changes, and is connected
+  -- if only one node changes, and it is connected with u
   one_changes : (t : ℕ) → ((x : ℕ) → x ≢ t → y.state x ≡ z.state x) → Connected base u t → Inside base u y
   one_changes t elsewhere known = grind (arith, nat_tests, elsewhere, known)
 
-  -- where each stays in its place
+  -- if each node stays in its place
   same_inside : ((x : ℕ) → SamePlace (z.state x) (y.state x)) → Inside base u y
   same_inside same x busy = inside x (ap is_ready (sym (same x).mode) ∙ busy)
 
@@ -102,7 +102,7 @@ started_some (s ∷ ss) w run u h = elim (among-append (started_by (kind (state 
   | inr later ↦ sym (near_kept w s run.0 u) ∙ started_some ss (next w s) run.1 u later
 ]
 
--- at least once by what it reaches, at most once by its tree
+-- at least once by Spread, at most once by Trees
 once : (w : World) (steps : List Step) (part : ℕ → Bool) → BeginsReady w steps part → PartReady (fold w steps) part → count_by part (started w steps) ≡ 1 →
     (u : ℕ) → among (started w steps) u ≡ true → part u ≡ true → (v : ℕ) → Connected w u v → signals_of v (outs w steps) ≡ 1
 once w steps part begins ready_after one u h inside v path =
@@ -118,7 +118,7 @@ pub once_if_one_started : OnceIfOneStarted
 once_if_one_started w steps part begins ready_after one =
     all_among (λ u. part u ≡ true → (v : ℕ) → Connected w u v → signals_of v (outs w steps) ≡ 1) (started w steps) (once w steps part begins ready_after one)
 
--- the connected nodes as where one reset was started, the others by who signals at all
+-- connected nodes by once_if_one_started; any other signal has the reply Finished
 pub once_per_wave : OncePerWave
 once_per_wave w steps u wave = record {
   once = once w steps (λ _. true) begins (λ v _. wave.ready_after v) (rw wave.one_start (grind (arith, nat_tests))) u (rw wave.one_start (grind (arith, nat_tests))) refl;

@@ -71,7 +71,7 @@ fold-append (x ∷ xs) ys w = fold-append xs ys (next w x)
 pub all_go : (w : World) (steps : List Step) → InRange w → Legal w → InTurn w steps → All (λ s. changes_topology s ≡ false) steps → AllGo w steps
 all_go w steps range legal in_turn stays = running steps w (sound_view w range legal) legal.lanes (taken_in_turn w steps in_turn) stays
 
--- ---- where it starts
+-- ---- starts
 
 -- a step starts at one node, or at none
 pub data Start (z y : Ideal) (signals : ℕ → ℕ) (starts : List ℕ) : Type 0 where

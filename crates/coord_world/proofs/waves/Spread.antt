@@ -1,4 +1,4 @@
--- What overlapping resets reach: each node that is connected with one where a reset was started, or that was signalled, is signalled at least once.
+-- Whom overlapping resets reach: every node connected with an initiator, or with a signalled node, is signalled at least once.
 use Rattle.std.proofs.Common.{◌≡◌, ◌≢◌, ◌⊎◌, ℕ, ◌≤◌, Bool, true, false, ◌||◌, List, [], ◌∷◌, ◌++◌, All, refl, sym, ap, ◌∙◌, subst, inl, inr, arith, eqb}
 use Rattle.std.proofs.lemmas.Bool.Decides.{nat_tests}
 use Rattle.std.proofs.lemmas.List.Elements.{All-cons, All-nil}
@@ -174,7 +174,7 @@ spread base part is_part (s ∷ ss) w run owed ready like xs touched u v inside 
     inside_v : Connected base u v → part v ≡ true
     inside_v c = along base (λ q. part q ≡ true) (λ a b h linked. sym (is_part a b linked) ∙ h) u v c.0 c.1 inside
 
--- what holds of each node of a list
+-- what holds for each node of a list
 pub all_among : (P : ℕ → Type 0) (xs : List ℕ) → ((x : ℕ) → among xs x ≡ true → P x) → All P xs
 all_among P [] holds = All-nil P
 all_among P (y ∷ ys) holds = All-cons P y ys (holds y (grind (arith, nat_tests))) (all_among P ys (λ x h. holds x (grind (arith, h))))
@@ -182,7 +182,7 @@ all_among P (y ∷ ys) holds = All-cons P y ys (holds y (grind (arith, nat_tests
 -- ---- the laws
 
 module _ (w : World) (steps : List Step) (part : ℕ → Bool) (begins : BeginsReady w steps part) (ready_after : PartReady (fold w steps) part) where
-  -- of one node where a reset was started, or that was signalled
+  -- from one initiator, or from one signalled node
   spread_from : (u : ℕ) → Known [] w steps u → part u ≡ true → (v : ℕ) → Connected w u v → 1 ≤ signals_of v (outs w steps)
   spread_from u known inside v path =
       let sound = sound_view w begins.in_range begins.legal in

@@ -266,7 +266,7 @@ unchanged : (z : Ideal) (s : Step) → ((v : ℕ) → signals_in z.version z.sta
 unchanged z s silent none = Effect.passes (record { same = λ x. record { mode = refl; parent = refl }; calm = record { fewer = λ a b. omega arith; kept = λ a b ready. omega arith } }) silent none
 
 -- the ideal step
-ideal_effect : (w settled : World) (s : Step) → changes_topology s ≡ false → Sound (view w) → IsFresh w settled s → StepEffect (view w) (ideal_next (view w) s) s
+pub ideal_effect : (w settled : World) (s : Step) → changes_topology s ≡ false → Sound (view w) → IsFresh w settled s → StepEffect (view w) (ideal_next (view w) s) s
 ideal_effect w settled (Order c n (Add u g)) stays sound fresh = cc
 ideal_effect w settled (Order c n (Remove u)) stays sound fresh = cc
 ideal_effect w settled (Order c n (Join a b)) stays sound fresh = cc

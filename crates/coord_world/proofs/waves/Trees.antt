@@ -1,27 +1,18 @@
--- The trees of overlapping resets: a node is signalled no more often than it was in a tree that is felled, and each start plants one.
+-- The trees of overlapping resets: each start plants a tree, each finish of an initiator fells one, and no node is signalled more often than its trees are felled.
 use Rattle.std.proofs.Common.{◌≡◌, ◌≢◌, ◌⊎◌, ℕ, ◌≤◌, ◌+◌, Bool, true, false, not, ◌||◌, List, [], ◌∷◌, Some, None, refl, sym, ap, ◌∙◌, subst, inl, inr, arith, eqb, cond, count_by, length}
 use Rattle.std.proofs.lemmas.Bool.Decides.{nat_tests, eqb_tells}
-use Rattle.std.proofs.lemmas.List.Sums.{sum_by-append}
 use Rattle.coord_types.specs.Facade.{Ideal, NodeState, contains}
 use Rattle.coord_types.specs.declared.messages.Mode.TheVariants.{Abort, Converge}
 use Rattle.coord_types.specs.declared.steps.Kind.{Kind}
-use Rattle.coord_types.specs.declared.steps.Step.{Step}
 use Rattle.coord_node.specs.Rules.{is_empty, is_parent}
-use Rattle.coord_node.specs.Steps.{kind}
 use Rattle.coord_tables.proofs.Cases.{by_test, same_or_apart, everywhere}
-use Rattle.coord_world.specs.Facade.{World, is_ready, next, outs, state, view}
+use Rattle.coord_world.specs.Facade.{is_ready}
 use Rattle.coord_world.specs.protocol.Links.{aborts, is_abort, one}
-use Rattle.coord_world.specs.laws.Waves.{signals_of, started, started_by}
-use Rattle.coord_world.specs.laws.Overlaps.{BeginsReady, NoMoreThanStarted}
 use Rattle.coord_world.proofs.legal.Sound.{Sound}
-use Rattle.coord_world.proofs.legal.SoundView.{sound_view}
 use Rattle.coord_world.proofs.lists.NodeSets.{empty_has}
-use Rattle.coord_world.proofs.waves.Effect.{Effect, Elsewhere, Finishes, Hears, Passes, Reaches, SamePlace, Signals, Silent, Starts, Tops, Turns}
-use Rattle.coord_world.proofs.waves.Modes.{busy, child_busy, linked_some, sender_aborts}
-use Rattle.coord_world.proofs.waves.Running.{AllGo, all_go, near_kept}
-use Rattle.coord_world.proofs.waves.SignalsOf.{signals_first}
+use Rattle.coord_world.proofs.waves.Effect.{Effect, Elsewhere, Finishes, Hears, Reaches, SamePlace, Signals, Silent, Starts, Tops, Turns}
+use Rattle.coord_world.proofs.waves.Modes.{busy, child_busy, sender_aborts}
 use Rattle.coord_world.proofs.waves.Spread.{among}
-use Rattle.coord_world.proofs.waves.StepEffects.{signals_in}
 
 -- ---- the nodes that a reset has reached
 
@@ -45,7 +36,7 @@ under z u (y ∷ xs) reached x h = elim (eqb_tells x y) [
     more : IsUnder z u xs x → IsUnder z u (y ∷ xs) x
     more known = elim known [ inl is_u ↦ inl is_u | inr from ↦ inr (from.0, from.1, grind (arith, from.2)) ]
 
--- the list stays where the parents of its nodes do
+-- the list stays as it is if the parents of its nodes do
 reached_same : (z y : Ideal) (u : ℕ) (xs : List ℕ) → ((x : ℕ) → among xs x ≡ true → x ≢ u → (y.state x).parent ≡ (z.state x).parent) → Reached z u xs → Reached y u xs
 reached_same z y u [] same reached = tt
 reached_same z y u (x ∷ xs) same reached = (again, reached_same z y u xs (λ q h far. same q (grind (arith, h)) far) reached.1)
@@ -63,7 +54,7 @@ module _ (y : Ideal) (u : ℕ) (sound : Sound y) (top : is_empty (y.state u).pen
   below x p up none = grind (arith, nat_tests, up, none, empty_has (y.state p).pend x none)
 
   -- down the list
-  quiet : (xs : List ℕ) → Reached y u xs → (x : ℕ) → among xs x ≡ true → is_empty (y.state x).pend ≡ true
+  pub quiet : (xs : List ℕ) → Reached y u xs → (x : ℕ) → among xs x ≡ true → is_empty (y.state x).pend ≡ true
   quiet [] reached x h = cc
   quiet (q ∷ xs) reached x h = elim (eqb_tells x q) [
     | inl same ↦ rw same.1 (elim reached.0 [
@@ -131,7 +122,7 @@ module _ (part : ℕ → Bool) (z : Ideal) (u : ℕ) (xs : List ℕ) (sound : So
         omega arith;
   }
 
-  -- where a node that is not u and not in it changes alone
+  -- if only one node changes, and it is neither u nor in the tree
   stays_far : (y : Ideal) (t : ℕ) → u ≢ t → ((x : ℕ) → among xs x ≡ true → x ≢ t) → ((x : ℕ) → x ≢ t → y.state x ≡ z.state x) →
       ((x p : ℕ) → among xs x ≡ true → among xs p ≡ true → aborts (y.in_transit p x) ≤ aborts (z.in_transit p x)) → Grown part y u xs
   stays_far y t top far elsewhere fewer = stays y (in_place u top) (λ x h. in_place x (far x h)) fewer
@@ -242,8 +233,8 @@ length-felled : (t : ℕ) (ts : List Tree) → length (felled t ts) ≤ length t
 length-felled t [] = omega arith
 length-felled t (tree ∷ ts) = let later = length-felled t ts in grind (arith, nat_tests, later)
 
--- a node is in a tree only where there is one
-some_tree : (ts : List Tree) (x : ℕ) → one (in_trees ts x) ≤ length ts
+-- if a node is in a tree, there is a tree
+pub some_tree : (ts : List Tree) (x : ℕ) → one (in_trees ts x) ≤ length ts
 some_tree [] x = omega arith
 some_tree (t ∷ ts) x = grind (arith, nat_tests)
 
@@ -262,7 +253,7 @@ module _ (part : ℕ → Bool) where
   each z y keep [] grown = tt
   each z y keep (t ∷ ts) grown = (keep t.0 t.1 grown.0, each z y keep ts grown.1)
 
-  -- a node that is in no tree by itself is in none of them
+  -- a node that no tree can hold is in none of them
   outside : (z : Ideal) (t : ℕ) → ((u : ℕ) (xs : List ℕ) → Grown part z u xs → among xs t ≡ true → ⊥) → (ts : List Tree) → AllGrown z ts → in_trees ts t ≡ false
   outside z t out [] grown = refl
   outside z t out (tree ∷ ts) grown =
@@ -323,34 +314,34 @@ module _ (part : ℕ → Bool) where
 
 -- ---- what a step does to them
 
--- of the node x: each signal, and each reset that it enters, is paid by a tree that is felled or a start
-abbrev IsPaid : (ℕ → Bool) → Ideal → Ideal → List Tree → List Tree → (ℕ → ℕ) → List ℕ → ℕ → Type 0
-IsPaid part z y ts us signals starts x = signals x + busy (y.state x) + one (in_trees ts x) + length us ≤ count_by part starts + one (in_trees us x) + length ts + busy (z.state x)
+-- of the node x: each signal, and each reset that it enters, is paid by a tree that is felled, a start, or a dropped link
+abbrev pub IsPaid : (ℕ → Bool) → Ideal → Ideal → List Tree → List Tree → (ℕ → ℕ) → List ℕ → ℕ → ℕ → Type 0
+IsPaid part z y ts us signals starts drops x = signals x + busy (y.state x) + one (in_trees ts x) + length us ≤ count_by part starts + drops + one (in_trees us x) + length ts + busy (z.state x)
 
-record Tends (part : ℕ → Bool) (z y : Ideal) (ts : List Tree) (signals : ℕ → ℕ) (starts : List ℕ) : Type 0 where
-  trees : List Tree
-  forest : Forest part y trees
-  paid : (x : ℕ) → part x ≡ true → is_empty (z.state x).neighbours ≡ false → IsPaid part z y ts trees signals starts x
+pub record Tends (part : ℕ → Bool) (z y : Ideal) (ts : List Tree) (signals : ℕ → ℕ) (starts : List ℕ) (drops : ℕ) : Type 0 where
+  pub trees : List Tree
+  pub forest : Forest part y trees
+  pub paid : (x : ℕ) → part x ≡ true → IsPaid part z y ts trees signals starts drops x
 
-module _ (part : ℕ → Bool) (z y : Ideal) (ts : List Tree) (signals : ℕ → ℕ) (starts : List ℕ) (sound : Sound z) (forest : Forest part z ts) where
-  -- each node stays in its place, and none with a neighbour signals
-  passing : Passes z y → ((x : ℕ) → is_empty (z.state x).neighbours ≡ false → signals x ≡ 0) → Tends part z y ts signals starts
-  passing passes silent = record {
+module _ (part : ℕ → Bool) (z y : Ideal) (ts : List Tree) (signals : ℕ → ℕ) (starts : List ℕ) (drops : ℕ) (sound : Sound z) (forest : Forest part z ts) where
+  -- each node of the part stays in its place, no Abort joins those on the way, and no node signals
+  pub passing : ((x : ℕ) → part x ≡ true → SamePlace (z.state x) (y.state x)) → ((a b : ℕ) → aborts (y.in_transit a b) ≤ aborts (z.in_transit a b)) → ((x : ℕ) → part x ≡ true → signals x ≡ 0) → Tends part z y ts signals starts drops
+  passing same fewer silent = record {
     trees = ts;
     forest = record {
-      grown = each part z y (λ u xs grown. stays part z u xs sound grown y (passes.same u) (λ x _. passes.same x) (λ x p _ _. passes.calm.fewer p x)) ts forest.grown;
-      covered = λ x inside h. forest.covered x inside (ap is_abort (sym (passes.same x).mode) ∙ h);
+      grown = each part z y (λ u xs grown. stays part z u xs sound grown y (same u grown.root) (λ x h. same x (grown.inside x h)) (λ x p _ _. fewer p x)) ts forest.grown;
+      covered = λ x inside h. forest.covered x inside (ap is_abort (sym (same x inside).mode) ∙ h);
     };
-    paid = λ x inside some. let none = silent x some in let same = ap (λ m. one (not (is_ready m))) (passes.same x).mode in omega arith;
+    paid = λ x inside. let none = silent x inside in let still = ap (λ m. one (not (is_ready m))) (same x inside).mode in omega arith;
   }
 
-  -- t leaves Ready, and enters trees where it is in the part
+  -- t leaves Ready, and enters trees if it is in the part
   module _ (t : ℕ) (was : is_ready (z.state t).mode ≡ true) (elsewhere : Elsewhere z y t) where
     -- it was in none
     free : in_trees ts t ≡ false
     free = outside part z t (λ u xs grown h. not_in part z u xs sound grown t was t h refl) ts forest.grown
 
-    -- where it enters none
+    -- if it enters none
     far_covered : part t ≡ false → (x : ℕ) → part x ≡ true → is_abort (y.state x).mode ≡ true → in_trees ts x ≡ true
     far_covered out x inside h = forest.covered x inside (elim (same_or_apart x t) [
       | inl here ↦ absurd (let in_t = subst (λ q. part q ≡ true) here inside in cc)
@@ -366,7 +357,7 @@ module _ (part : ℕ → Bool) (z y : Ideal) (ts : List Tree) (signals : ℕ →
     entered : part t ≡ true → in_trees (with_child v t ts) t ≡ true
     entered inside = child_in v t ts (forest.covered v (with_v ∙ inside) (sender_aborts z sound v t reaches.near reaches.came))
 
-    reaching : Tends part z y ts signals starts
+    reaching : Tends part z y ts signals starts drops
     reaching = record {
       trees = with_child v t ts;
       forest = record {
@@ -376,7 +367,7 @@ module _ (part : ℕ → Bool) (z y : Ideal) (ts : List Tree) (signals : ℕ →
           | inr far ↦ in-with_child v t x ts (forest.covered x inside (ap (λ (r : NodeState). is_abort r.mode) (sym (reaches.elsewhere x far)) ∙ h))
         ];
       };
-      paid = λ x inside some.
+      paid = λ x inside.
           let none = silent x in
           let as_many = length-with_child v t ts in
           elim (same_or_apart x t) [
@@ -389,13 +380,13 @@ module _ (part : ℕ → Bool) (z y : Ideal) (ts : List Tree) (signals : ℕ →
             | inr far ↦
                 let same = ap busy (reaches.elsewhere x far) in
                 let still = in-with_child v t x ts in
-                by_test (in_trees ts x) (λ b. signals x + busy (y.state x) + one b + length (with_child v t ts) ≤ count_by part starts + one (in_trees (with_child v t ts) x) + length ts + busy (z.state x))
+                by_test (in_trees ts x) (λ b. signals x + busy (y.state x) + one b + length (with_child v t ts) ≤ count_by part starts + drops + one (in_trees (with_child v t ts) x) + length ts + busy (z.state x))
                 (λ h. let there = still h in grind (arith, none, as_many, same, there)) (λ _. omega arith)
           ];
     }
 
   -- a node acknowledges to its parent
-  turning : (t p : ℕ) → Turns z y t p → Silent signals → Tends part z y ts signals starts
+  turning : (t p : ℕ) → Turns z y t p → Silent signals → Tends part z y ts signals starts drops
   turning t p turns silent = record {
     trees = ts;
     forest = record {
@@ -405,7 +396,7 @@ module _ (part : ℕ → Bool) (z y : Ideal) (ts : List Tree) (signals : ℕ →
         | inr far ↦ ap (λ (r : NodeState). is_abort r.mode) (sym (turns.elsewhere x far)) ∙ h
       ]);
     };
-    paid = λ x inside some.
+    paid = λ x inside.
         let none = silent x in
         let same : busy (y.state x) ≡ busy (z.state x) = everywhere (λ q. busy (y.state q) ≡ busy (z.state q)) t
         (ap (λ m. one (not (is_ready m))) turns.now ∙ sym (ap (λ m. one (not (is_ready m))) turns.was)) (λ q far. ap busy (turns.elsewhere q far)) x in
@@ -427,7 +418,7 @@ module _ (part : ℕ → Bool) (z y : Ideal) (ts : List Tree) (signals : ℕ →
         (λ q far. let none = signal q in let same = ap busy (finishes.elsewhere q far) in grind (arith, nat_tests, none, same, far))
 
     -- t is in no tree, and is the first node of none
-    keeping : ((u : ℕ) (xs : List ℕ) → Grown part z u xs → u ≢ t) → ((u : ℕ) (xs : List ℕ) → Grown part z u xs → among xs t ≡ true → ⊥) → Tends part z y ts signals starts
+    keeping : ((u : ℕ) (xs : List ℕ) → Grown part z u xs → u ≢ t) → ((u : ℕ) (xs : List ℕ) → Grown part z u xs → among xs t ≡ true → ⊥) → Tends part z y ts signals starts drops
     keeping no_top no_member = record {
       trees = ts;
       forest = record {
@@ -435,26 +426,26 @@ module _ (part : ℕ → Bool) (z y : Ideal) (ts : List Tree) (signals : ℕ →
             finishes.elsewhere (λ x p _ _. finishes.calm.fewer p x)) ts forest.grown;
         covered = aborted;
       };
-      paid = λ x inside some. let once = spent x in omega arith;
+      paid = λ x inside. let once = spent x in omega arith;
     }
 
     -- the first node of a tree of the part
-    felling : Sound y → Tops z t → part t ≡ true → Tends part z y ts signals starts
+    felling : Sound y → Tops z t → part t ≡ true → Tends part z y ts signals starts drops
     felling after tops inside_t = record {
       trees = felled t ts;
       forest = record {
         grown = grown-felled part z y sound after t finishes tops ts forest.grown;
         covered = λ x inside h. in-felled part z y sound after t finishes tops ts forest.grown x h (aborted x inside h);
       };
-      paid = λ x inside some.
+      paid = λ x inside.
           let less = fewer part z y sound after t finishes tops ts forest.grown (forest.covered t inside_t (ap is_abort tops.was)) in
           let once = spent x in
           grind (arith, less, once);
     }
 
-    finishing : Sound y → Tends part z y ts signals starts
+    finishing : Sound y → Tends part z y ts signals starts drops
     finishing after = elim finishes.cause [
-      | inl tops ↦ by_test (part t) (λ _. Tends part z y ts signals starts) (felling after tops)
+      | inl tops ↦ by_test (part t) (λ _. Tends part z y ts signals starts drops) (felling after tops)
           (λ out. keeping (λ u xs grown same. let inside = subst (λ q. part q ≡ true) same grown.root in cc) (λ u xs grown h. let inside = grown.inside t h in cc))
       | inr hears ↦ keeping (λ u xs grown same. let abort = subst (λ q. (z.state q).mode ≡ Abort) same grown.top in let was = hears.1.was in cc)
           (λ u xs grown h. not_heard part z u xs sound grown t hears.0 hears.1 h)
@@ -480,8 +471,8 @@ module _ (part : ℕ → Bool) (z y : Ideal) (ts : List Tree) (signals : ℕ →
     old = each part z y (λ u xs grown. stays_far part z u xs sound grown y t (not_top part z u xs sound grown t was_calm) (not_in part z u xs sound grown t was_calm) start.elsewhere
         (λ x p _ above. let same = ap aborts (start.apart p x (not_in part z u xs sound grown t was_calm p above)) in omega arith)) ts forest.grown
 
-    starting : Tends part z y ts signals starts
-    starting = by_test (part t) (λ _. Tends part z y ts signals starts)
+    starting : Tends part z y ts signals starts drops
+    starting = by_test (part t) (λ _. Tends part z y ts signals starts drops)
         (λ inside_t. record {
           trees = (t, t ∷ []) ∷ ts;
           forest = record {
@@ -491,7 +482,7 @@ module _ (part : ℕ → Bool) (z y : Ideal) (ts : List Tree) (signals : ℕ →
               | inr far ↦ let more = forest.covered x inside (ap (λ (r : NodeState). is_abort r.mode) (sym (start.elsewhere x far)) ∙ h) in grind (arith, nat_tests, more)
             ];
           };
-          paid = λ x inside some.
+          paid = λ x inside.
               let none = silent x in
               let count : count_by part starts ≡ 1 = rw e (grind (arith, nat_tests, inside_t)) in
               elim (same_or_apart x t) [
@@ -508,53 +499,44 @@ module _ (part : ℕ → Bool) (z y : Ideal) (ts : List Tree) (signals : ℕ →
         (λ out. record {
           trees = ts;
           forest = record { grown = old; covered = far_covered t was_calm start.elsewhere out };
-          paid = λ x inside some.
+          paid = λ x inside.
               let none = silent x in
               let far : x ≢ t = λ here. let inside_t = subst (λ q. part q ≡ true) here inside in cc in
               let same = ap busy (start.elsewhere x far) in
               omega arith;
         })
 
+-- the signals of nodes that have a neighbour
+abbrev pub of_linked : Ideal → (ℕ → ℕ) → ℕ → ℕ
+of_linked z signals x = cond (is_empty (z.state x).neighbours) 0 (signals x)
+
+-- if all signals are paid, those are
+pub linked_paid : (part : ℕ → Bool) (z y : Ideal) (ts : List Tree) (signals : ℕ → ℕ) (starts : List ℕ) (drops : ℕ) → Tends part z y ts signals starts drops → Tends part z y ts (of_linked z signals) starts drops
+linked_paid part z y ts signals starts drops tended = record {
+  trees = tended.trees;
+  forest = tended.forest;
+  paid = λ x inside.
+      let all = tended.paid x inside in
+      let fewer : of_linked z signals x ≤ signals x = by_test (is_empty (z.state x).neighbours) (λ b. cond b 0 (signals x) ≤ signals x) (λ _. omega arith) (λ _. omega arith) in
+      omega arith;
+}
+
 -- by what the step does
-tends : (part : ℕ → Bool) (z y : Ideal) (ts : List Tree) (signals : ℕ → ℕ) (starts : List ℕ) (k : Kind) → ((a b : ℕ) → contains (z.state a).neighbours b ≡ true → part a ≡ part b) →
-    Sound z → Sound y → Forest part z ts → Effect z y signals starts k → Tends part z y ts signals starts
-tends part z y ts signals starts k like sound after forest (Effect.passes passes silent e) = passing part z y ts signals starts sound forest passes (λ x some. silent x)
-tends part z y ts signals starts k like sound after forest (Effect.alone t passes lone signal kind e) =
-    passing part z y ts signals starts sound forest passes (λ x some. elim (same_or_apart x t) [
-      | inl here ↦ absurd (let more = subst (λ q. is_empty (z.state q).neighbours ≡ false) here some in cc)
-      | inr far ↦ let now = signal x in grind (arith, nat_tests, now, far)
-    ])
-tends part z y ts signals starts k like sound after forest (Effect.reaches t v reaches silent e) = reaching part z y ts signals starts sound forest t v reaches silent (sym (like t v reaches.near))
-tends part z y ts signals starts k like sound after forest (Effect.turns t p turns silent e) = turning part z y ts signals starts sound forest t p turns silent
-tends part z y ts signals starts k like sound after forest (Effect.finishes t finishes signal e) = finishing part z y ts signals starts sound forest t finishes signal after
-tends part z y ts signals starts k like sound after forest (Effect.starts_at t start silent e) = starting part z y ts signals starts sound forest t start silent e
+pub tends : (part : ℕ → Bool) (z y : Ideal) (ts : List Tree) (signals : ℕ → ℕ) (starts : List ℕ) (drops : ℕ) (k : Kind) → ((a b : ℕ) → contains (z.state a).neighbours b ≡ true → part a ≡ part b) →
+    Sound z → Sound y → Forest part z ts → Effect z y signals starts k → Tends part z y ts (of_linked z signals) starts drops
+tends part z y ts signals starts drops k like sound after forest effect = of_effect effect
+  where
+    less : Tends part z y ts signals starts drops → Tends part z y ts (of_linked z signals) starts drops
+    less = linked_paid part z y ts signals starts drops
 
--- step by step
-bounded : (part : ℕ → Bool) (steps : List Step) (w : World) → AllGo w steps → ((a b : ℕ) → contains (state w a).neighbours b ≡ true → part a ≡ part b) → (ts : List Tree) → Forest part (view w) ts →
-    (x : ℕ) → part x ≡ true → is_empty (state w x).neighbours ≡ false → signals_of x (outs w steps) + one (in_trees ts x) ≤ count_by part (started w steps) + length ts + busy (state w x)
-bounded part [] w run like ts forest x inside some = let least = some_tree ts x in grind (arith, least)
-bounded part (s ∷ ss) w run like ts forest x inside some =
-    let goes = run.0 in
-    let starts = started_by (kind (state w) s) s in
-    let step = tends part (view w) (view (next w s)) ts (signals_in w.version (state w) s) starts (kind (state w) s) like goes.before goes.after forest goes.effect in
-    let later = bounded part ss (next w s) run.1 (λ a b near. like a b (sym (goes.near a b) ∙ near)) step.trees step.forest x inside (near_kept w s goes x ∙ some) in
-    let paid = step.paid x inside some in
-    let all = signals_first x w s ss in
-    let count = sum_by-append (λ q. cond (part q) 1 0) starts (started (next w s) ss) in
-    omega arith
-
--- ---- the law
-
--- of a node that has a neighbour
-pub no_more : (w : World) (steps : List Step) (part : ℕ → Bool) → BeginsReady w steps part → (v : ℕ) → part v ≡ true → is_empty (state w v).neighbours ≡ false → signals_of v (outs w steps) ≤ count_by part (started w steps)
-no_more w steps part begins v inside some =
-    let run = all_go w steps begins.in_range begins.legal begins.in_turn begins.same_topology in
-    let empty : Forest part (view w) [] = record { grown = tt; covered = λ q in_q h. absurd (let calm = ap is_abort (begins.ready_before q in_q) in cc) } in
-    let most = bounded part steps w run (λ a b near. begins.is_part a b ((sound_view w begins.in_range begins.legal).linked a b ∙ near)) [] empty v inside some in
-    let was = ap is_ready (begins.ready_before v inside) in
-    grind (arith, most, was)
-
-pub no_more_than_started : NoMoreThanStarted
-no_more_than_started w steps part begins v x inside linked =
-    let sound = sound_view w begins.in_range begins.legal in
-    no_more w steps part begins v inside (linked_some (view w) sound x v (sym (sound.mirrored v x) ∙ sym (sound.linked v x) ∙ linked))
+    of_effect : Effect z y signals starts k → Tends part z y ts (of_linked z signals) starts drops
+    of_effect (Effect.passes passes silent e) = less (passing part z y ts signals starts drops sound forest (λ x _. passes.same x) passes.calm.fewer (λ x _. silent x))
+    of_effect (Effect.alone t passes lone signal kind e) =
+        passing part z y ts (of_linked z signals) starts drops sound forest (λ x _. passes.same x) passes.calm.fewer (λ x _. elim (same_or_apart x t) [
+          | inl here ↦ let none = subst (λ q. is_empty (z.state q).neighbours ≡ true) (sym here) lone in grind (arith, none)
+          | inr far ↦ let now = signal x in grind (arith, nat_tests, now, far)
+        ])
+    of_effect (Effect.reaches t v reaches silent e) = less (reaching part z y ts signals starts drops sound forest t v reaches silent (sym (like t v reaches.near)))
+    of_effect (Effect.turns t p turns silent e) = less (turning part z y ts signals starts drops sound forest t p turns silent)
+    of_effect (Effect.finishes t finishes signal e) = less (finishing part z y ts signals starts drops sound forest t finishes signal after)
+    of_effect (Effect.starts_at t start silent e) = less (starting part z y ts signals starts drops sound forest t start silent e)

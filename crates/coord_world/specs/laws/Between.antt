@@ -6,6 +6,7 @@ use Rattle.coord_types.specs.declared.steps.Step.TheVariants.{Order}
 use Rattle.coord_world.specs.protocol.Next.{fold}
 use Rattle.coord_world.specs.protocol.NumberedWorld.{World, is_linked}
 use Rattle.coord_world.specs.protocol.Outputs.{outs}
+use Rattle.coord_world.specs.laws.Drops.{KeepsApart, most_signals}
 use Rattle.coord_world.specs.laws.Overlaps.{IsPart, PartReady}
 use Rattle.coord_world.specs.laws.Trails.{IsTrail}
 use Rattle.coord_world.specs.laws.Waves.{Connected, changes_topology, signals_of, started}
@@ -28,3 +29,14 @@ pub record BoundSignals (w : World) (steps : List Step) (part : ℕ → Bool) (c
 abbrev pub BoundBetween : Type 0
 BoundBetween = (base : World) (earlier between rest : List Step) (part : ℕ → Bool) → IsTrail base (earlier ++ (between ++ rest)) → IsReadyAgain base earlier between part →
     BoundSignals (fold base earlier) between part (λ v. signals_of v (outs (fold base earlier) between))
+
+-- every node of a part is Ready after the earlier steps, no link leads out of it then, and the steps between add none
+pub record IsReadyApart (base : World) (earlier between : List Step) (part : ℕ → Bool) : Type 0 where
+  pub kept_apart : All (KeepsApart part) between
+  pub is_part : IsPart (fold base earlier) part
+  pub ready_before : PartReady (fold base earlier) part
+
+-- the steps between signal no node of the part more often than resets were started and links dropped there, and its own resets answered Finished
+abbrev pub BoundWithDrops : Type 0
+BoundWithDrops = (base : World) (earlier between rest : List Step) (part : ℕ → Bool) → IsTrail base (earlier ++ (between ++ rest)) → IsReadyApart base earlier between part →
+    (v : ℕ) → part v ≡ true → signals_of v (outs (fold base earlier) between) ≤ most_signals (fold base earlier) between part v

@@ -1,5 +1,5 @@
 -- Overlapping resets: any number of them are started in one list of steps, and their waves merge where they meet.
-use Rattle.std.specs.Prelude.{◌≡◌, ℕ, ◌+◌, ◌≤◌, ◌==◌, Bool, true, false, List, [], ◌∷◌, ◌++◌, All, count_by}
+use Rattle.std.specs.Prelude.{◌≡◌, ℕ, ◌+◌, ◌<◌, ◌≤◌, ◌==◌, Bool, true, false, List, [], ◌∷◌, ◌++◌, All, count_by}
 use Rattle.coord_types.specs.declared.messages.Mode.TheVariants.{Ready}
 use Rattle.coord_types.specs.declared.steps.Command.TheVariants.{Reset}
 use Rattle.coord_types.specs.declared.steps.Kind.{Kind}
@@ -80,3 +80,8 @@ AskedReachesAll = (w : World) (steps before rest : List Step) (part : ℕ → Bo
 abbrev pub EpochsCountSignals : Type 0
 EpochsCountSignals = (w : World) (steps : List Step) → InRange w → Legal w → InTurn w steps → All (λ s. changes_topology s ≡ false) steps →
     (v : ℕ) → (state (fold w steps) v).epoch ≡ (state w v).epoch + signals_of v (outs w steps)
+
+-- so if every node of the part is Ready at the end, then of the nodes that are connected with each other all have entered a new epoch or none has
+abbrev pub EpochsRiseTogether : Type 0
+EpochsRiseTogether = (w : World) (steps : List Step) (part : ℕ → Bool) → BeginsReady w steps part → PartReady (fold w steps) part →
+    (u v : ℕ) → part u ≡ true → Connected w u v → (state w u).epoch < (state (fold w steps) u).epoch → (state w v).epoch < (state (fold w steps) v).epoch

@@ -1,5 +1,5 @@
 -- Runs from the empty world whose outcomes are known.
-use Rattle.std.specs.Prelude.{◌≡◌, ℕ, true, List, [], ◌∷◌, ◌++◌, map, Result, Ok}
+use Rattle.std.specs.Prelude.{◌≡◌, ℕ, true, List, [], ◌∷◌, ◌++◌, count_by, map, Result, Ok}
 use Rattle.coord_types.specs.declared.messages.Msg.{Msg}
 use Rattle.coord_types.specs.declared.messages.Msg.TheVariants as msg
 use Rattle.coord_types.specs.declared.outputs.Output.{Output}
@@ -19,6 +19,7 @@ use Rattle.coord_world.specs.protocol.NumberedWorld.{World, no_world, state}
 use Rattle.coord_world.specs.protocol.Outputs.{StepOutcome, outs}
 use Rattle.coord_world.specs.laws.Waves.{Connected, IsWave, signals_of, started}
 use Rattle.coord_world.specs.laws.Overlaps.{BeginsReady, PartReady}
+use Rattle.coord_world.specs.laws.Drops.{BeginsApart, drops_in}
 
 -- the n-th order of client 1
 abbrev pub order : ℕ → Command → Step
@@ -146,6 +147,39 @@ pub record NotAllAfterEach : Type 0 where
   pub last : started (fold (fold (no_world 1) path_linked) two_meet) third_meets ≡ 3 ∷ []
   pub connected : Connected (fold (no_world 1) path_linked) 3 1
   pub none_after : signals_of 1 (outs (fold (fold (no_world 1) path_linked) two_meet) third_meets) ≡ 0
+
+-- three nodes, each linked with both others
+abbrev pub triangle_linked : List Step
+triangle_linked = order 1 (Add 1 1) ∷ order 2 (Add 2 1) ∷ order 3 (Add 3 1) ∷ order 4 (Join 1 2) ∷ order 5 (Join 1 3) ∷ order 6 (Join 2 3) ∷ []
+
+-- the first node starts a reset, and another one once it is signalled; the second one has passed both on to the third
+abbrev pub starts_twice : List Step
+starts_twice =
+    order 7 (Reset 1) ∷ take 1 2 4 1 (msg.Abort 0) ∷ take 2 3 6 1 (msg.Abort 0) ∷ take 1 3 5 1 (msg.Abort 0)
+    ∷ take 3 1 5 1 (msg.Abort 0) ∷ clear 1 3 5 1 ∷ take 1 3 5 2 msg.Ack ∷ take 3 2 6 1 msg.Ack ∷ take 2 1 4 1 msg.Ack
+    ∷ clear 3 1 5 1 ∷ take 3 1 5 2 msg.Ack ∷ []
+
+abbrev pub passed_on : List Step
+passed_on =
+    order 8 (Reset 1) ∷ clear 1 2 4 1 ∷ take 1 2 4 2 msg.Ready ∷ clear 1 2 4 2 ∷ take 1 2 4 3 (msg.Abort 0)
+    ∷ clear 1 3 5 2 ∷ take 1 3 5 3 msg.Ready ∷ clear 1 3 5 3 ∷ take 1 3 5 4 (msg.Abort 0) ∷ clear 2 3 6 1
+    ∷ take 2 3 6 2 msg.Ready ∷ clear 2 3 6 2 ∷ take 2 3 6 3 (msg.Abort 0) ∷ clear 3 1 5 2 ∷ take 3 1 5 3 msg.Ack
+    ∷ clear 3 1 5 3 ∷ take 3 1 5 4 msg.Ready ∷ []
+
+-- then the link of the first two is dropped: the first one is signalled again, and the wave of the second goes on to it by the third
+abbrev pub comes_back : List Step
+comes_back =
+    order 9 (Drop 1 2) ∷ clear 3 1 5 4 ∷ take 3 1 5 5 (msg.Abort 0) ∷ clear 1 3 5 4 ∷ take 1 3 5 5 msg.Ready
+    ∷ clear 1 3 5 5 ∷ take 1 3 5 6 msg.Ack ∷ clear 3 2 6 1 ∷ take 3 2 6 2 msg.Ack ∷ clear 2 3 6 3 ∷ take 2 3 6 4 msg.Ready
+    ∷ clear 3 1 5 5 ∷ take 3 1 5 6 msg.Ready ∷ []
+
+-- so a node is signalled as often as resets were started and links dropped, more often than resets were started
+pub record DropsCount : Type 0 where
+  pub begins : BeginsApart (fold (no_world 1) triangle_linked) (starts_twice ++ (passed_on ++ comes_back)) (λ _. true)
+  pub ends : PartReady (fold (fold (no_world 1) triangle_linked) (starts_twice ++ (passed_on ++ comes_back))) (λ _. true)
+  pub starts : started (fold (no_world 1) triangle_linked) (starts_twice ++ (passed_on ++ comes_back)) ≡ 1 ∷ 1 ∷ []
+  pub drops : count_by (drops_in (λ _. true)) (starts_twice ++ (passed_on ++ comes_back)) ≡ 1
+  pub first : signals_of 1 (outs (fold (no_world 1) triangle_linked) (starts_twice ++ (passed_on ++ comes_back))) ≡ 3
 
 -- the first link of a path of three nodes is dropped while the wave goes out
 abbrev pub DropInAbort : Type 0

@@ -1,4 +1,4 @@
-use Rattle.coord_world.proofs.waves.Trees as law
+use Rattle.coord_world.proofs.waves.Bounded as law
 use Rattle.coord_world.proofs.laws.no_more_than_started.Goals as goal
 
 pub returns : goal.returns

@@ -1,0 +1,40 @@
+-- How often nodes are signalled while nodes and links come and go.
+use Rattle.std.specs.Prelude.{◌≡◌, ℕ, ◌+◌, ◌≤◌, ◌==◌, Bool, true, false, List, All, count_by}
+use Rattle.coord_types.specs.declared.steps.Command.TheVariants.{Join, Drop}
+use Rattle.coord_types.specs.declared.steps.Step.{Step}
+use Rattle.coord_types.specs.declared.steps.Step.TheVariants.{Order}
+use Rattle.coord_world.specs.protocol.InTurn.{InTurn}
+use Rattle.coord_world.specs.protocol.Legal.{Legal}
+use Rattle.coord_world.specs.protocol.NumberedWorld.{World}
+use Rattle.coord_world.specs.protocol.Outputs.{outs}
+use Rattle.coord_world.specs.protocol.Ranges.{InRange}
+use Rattle.coord_world.specs.laws.Overlaps.{IsPart, PartReady, finished_at}
+use Rattle.coord_world.specs.laws.Waves.{signals_of, started}
+
+-- a step that adds a link adds it between two nodes of the part, or between two others
+abbrev pub KeepsApart : (ℕ → Bool) → Step → Type 0
+KeepsApart part (Order c n (Join a b)) = part a ≡ part b
+KeepsApart part s = Unit {0}
+
+-- whether a step drops a link of the part
+abbrev pub drops_in : (ℕ → Bool) → Step → Bool
+drops_in part (Order c n (Drop a b)) = part a
+drops_in part s = false
+
+-- steps in turn that begin with every node of a part Ready, and never link a node of it with one outside: nodes and links may come and go
+pub record BeginsApart (w : World) (steps : List Step) (part : ℕ → Bool) : Type 0 where
+  pub in_range : InRange w
+  pub legal : Legal w
+  pub in_turn : InTurn w steps
+  pub is_part : IsPart w part
+  pub kept_apart : All (KeepsApart part) steps
+  pub ready_before : PartReady w part
+
+-- the resets that were started in the part, the links of it that were dropped, and the resets of v that were answered Finished
+abbrev pub most_signals : World → List Step → (ℕ → Bool) → ℕ → ℕ
+most_signals w steps part v = count_by part (started w steps) + count_by (drops_in part) steps + count_by (λ u. u == v) (finished_at w steps)
+
+-- at any time, each node of the part was signalled no more often than that
+abbrev pub NoMoreWithDrops : Type 0
+NoMoreWithDrops = (w : World) (steps : List Step) (part : ℕ → Bool) → BeginsApart w steps part → (v : ℕ) → part v ≡ true →
+    signals_of v (outs w steps) ≤ most_signals w steps part v

@@ -1,0 +1,53 @@
+"""The lines of `tests/run` about missing things."""
+
+import os
+import subprocess
+import sys
+
+from support.case import Case, lacking
+from support.program import ROOT
+
+WITHIN = '''
+import unittest
+
+class Some(unittest.TestCase):
+    def test_one(self):
+        """A docstring."""
+        self.skipTest("it needs a thing: there is none")
+
+    def test_two(self):
+        self.skipTest("it is for another program")
+
+@unittest.skipUnless(False, "optional: it needs a thing's part")
+class All(unittest.TestCase):
+    def test_one(self):
+        pass
+
+    def test_two(self):
+        pass
+'''
+
+
+class LeftOut(Case):
+    def run_tests(self, *names: str, **environment: str) -> list[str]:
+        """The lines that `tests/run` prints last, of tests for which no program is built."""
+        named = {"RESETD": "/nonexistent", "RESETD_MEMBER": "/nonexistent", **environment}
+        ran = subprocess.run([sys.executable, f"{ROOT}/tests/run", *names], env={**os.environ, **named}, capture_output=True, text=True,
+                             check=False)
+        return ran.stdout.splitlines()[-4:]
+
+    def test_each_lack_has_a_line(self) -> None:
+        lines = self.run_tests("test_types_of_all_programs", "test_go_without_the_library", PATH=self.folder, CI="1")
+        self.assertEqual(lines[:2], ["left out for lack of Go: 1 test", "left out for lack of mypy: 1 test"])
+        self.assertEqual(lines[3], "0 passed, 0 failed")
+
+    def test_a_lack_counts_all_its_tests_and_fails_in_ci(self) -> None:
+        lines = self.run_tests("test_members.Searches", "test_members.Vectors", CI="1")
+        self.assertEqual((lines[1], lines[3]), ("left out for lack of a C compiler: 3 tests", "0 passed, 3 failed"))
+
+    def test_what_is_left_out_within_a_test(self) -> None:
+        self.write("test_within.py", WITHIN)
+        ran = subprocess.run([sys.executable, "-m", "unittest", "-v", "test_within"], cwd=self.folder, capture_output=True, text=True, check=True)
+        self.note_skipped(ran.stderr)
+        within, self.skipped_within = self.skipped_within, []
+        self.assertEqual(sorted(lacking(within)), ["a thing", *["a thing's part"] * 2])
