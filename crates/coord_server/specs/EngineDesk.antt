@@ -45,6 +45,11 @@ pub record AtMomentAnswered {D : Type 0} (b : Basis D) (before now : List Step) 
 abbrev pub AcceptsOrder : {D : Type 0} → Basis D → Step → Claim → List Note → List Note → Type 0
 AcceptsOrder {D} b s claim before after = AtSomeMoment b (Submits {D = D} s (Ok claim) before after)
 
+-- what was answered to a ticket, without the ticket that came back with a refusal
+abbrev pub without_ticket : Result Reply (Refusal × Claim) → Result Reply Refusal
+without_ticket (Ok reply) = Ok reply
+without_ticket (Err refused) = Err refused.0
+
 -- what is said to a step that was posted, where these steps were read before and these now: its reply once it is settled, or why there will be none
 abbrev pub Replies : {D : Type 0} → Basis D → Result Claim Refusal → Result Reply Refusal → List Step → List Step → Type 0
 Replies {D} b (Ok claim) (Ok reply) before now = AtMomentAnswered b before now (λ g. CollectsAs {D = D} g.ledger claim (Settled reply))
