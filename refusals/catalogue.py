@@ -11,7 +11,8 @@ A catalogue is made of blocks, with an empty line between two:
     ! units drill::lines::one_of_each
 
 `@` names the file of the blocks after it, up to the next `@`; a block that changes several files names each in its
-midst. `#` gives the block its name, and ` killed` behind that says that no clause refuses it. The lines behind `-`
+midst. `#` gives the block its name, and ` killed` behind that says that no clause refuses it; ` type CODE` that it does
+not compile, with an error of this code: a type refuses it. The lines behind `-`
 stand once in the file, the lines behind `+` take their place; a `-` behind a `+` begins the next exchange. In a proof
 file (`proofs/..`) the texts are names, and each place of an old one is changed. `%` names a clause that the mutant breaks,
 one a line, as a row of docs/PROMISES.md does: `World::judge (value)`, with the crate in front where it is another one, and
@@ -52,6 +53,8 @@ class Mutant:
     clauses: list[str] = field(default_factory=list)
     test: str = ""
     is_killed: bool = False
+    # the code of the compiler's error, if a type refuses it
+    error: str = ""
 
     @property
     def id(self) -> str:
@@ -93,8 +96,8 @@ def parse(crate: str, text: str) -> list[Mutant]:
         if mark == "@":
             file = rest
         elif mark == "#":
-            name, _, word = rest.partition(" ")
-            mutant = Mutant(crate, name, is_killed=word == "killed")
+            name, _, how = rest.partition(" ")
+            mutant = Mutant(crate, name, is_killed=how == "killed", error=how.removeprefix("type ") if how.startswith("type ") else "")
             mutants.append(mutant)
         elif mutant is None or not file:
             raise BadCatalogue(f"{crate}.edits:{number}: it stands outside a block: {line}")
@@ -165,7 +168,8 @@ def text_of(mutants: list[Mutant]) -> str:
         if first != file:
             lines += [f"@ {first}", ""]
             file = first
-        lines.append(f"# {mutant.name}" + (" killed" if mutant.is_killed else ""))
+        how = " killed" if mutant.is_killed else f" type {mutant.error}" if mutant.error else ""
+        lines.append(f"# {mutant.name}{how}")
         for exchange in mutant.exchanges:
             if exchange.file != file:
                 lines.append(f"@ {exchange.file}")

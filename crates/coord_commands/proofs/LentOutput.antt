@@ -98,11 +98,11 @@ run_back m contents of gives store lent home given ended printer first later old
       refl,
     )
 
--- what is told of a server that has ended
+-- what a server that has ended returns
 returned_of : {D V W : Type 0} (known : Option (List ℕ)) (ended : ServerEnd D V W) (answered : Result (Closed D) (ServerFault × Closed D)) → IfOk answered (λ closed. (closed ≡ ended.closed) × (fault_of_end ended ≡ None)) → IfErr answered (λ t. (t.1 ≡ ended.closed) × (fault_of_end ended ≡ Some t.0)) → ReportedAtEnd (known_end known ended) answered
 returned_of known ended (Ok closed) is fault = is
 returned_of known ended (Err answered) is fault = fault
 
--- a server ran with this output, and this is told
+-- a server ran with this output, and returned this
 pub served_with : {D W : Type 0} (m : DiskModel D) (gives : List Step → ℕ → ℕ → ℕ → Type 0) (store : Kept D) (old known : Option (List ℕ)) (ended : ServerEnd D Timeouts W) (answered : Result (Closed D) (ServerFault × Closed D)) → RunsWithOutput m gives store old known (known_end known ended) → IfOk answered (λ closed. (closed ≡ ended.closed) × (fault_of_end ended ≡ None)) → IfErr answered (λ t. (t.1 ≡ ended.closed) × (fault_of_end ended ≡ Some t.0)) → ServedWithOutput m gives store old known answered
 served_with m gives store old known ended answered run is fault = record { ended = known_end known ended; run = run; reports = returned_of known ended answered is fault }

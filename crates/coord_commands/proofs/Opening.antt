@@ -116,7 +116,7 @@ module _ {D : Type 0} (model : DiskModel D) where
   of_unopened before after fault (inl none) = inl none.0
   of_unopened before after fault (inr refuses) = refuses.0
 
-  -- as far as the bytes tell
+  -- as far as the bytes say
   pub of_ending : (before after : Option Present) (old new : Option (List ℕ)) (answered : Fault) → EndsServing model before after old new answered → IsOfServing (reads before) answered
   of_ending before after old new answered (inl (inl none, kept)) = subst (IsOfServing (reads before)) (sym none.named) (of_unopened before after none.fault none.why)
   of_ending before after old new answered (inl (inr (inl bound), kept)) = subst (IsOfServing (reads before)) (sym bound.0) bound.1

@@ -57,7 +57,7 @@ asked_of_name name rows =
 abbrev pub argument_named : Text → Rule
 argument_named id = record (new_rule id) { action = Some Set; required = true }
 
--- the program as `clap` is told of it: what that refuses asks for nothing
+-- the program as it is described to `clap`: what that refuses asks for nothing
 abbrev pub resetd : App
 resetd =
     with_subcommand

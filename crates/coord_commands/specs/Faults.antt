@@ -15,7 +15,7 @@ use Rattle.coord_drill.specs.declared.fault.Fault.TheVariants as of_drill
 use Rattle.coord_commands.specs.declared.fault.Fault.{Fault}
 use Rattle.coord_commands.specs.declared.fault.Fault.TheVariants.{Usage, Read, Write, Socket, TooManyReads, OutOfMemory, Topology, Store, Refused, NotClosed}
 
--- a refusal is told with its number, and a store that is not quiet with the node that is in a reset
+-- a refusal is reported with its number, and a store that is not quiet with the node that is in a reset
 abbrev pub fault_text : Fault → List ℕ
 fault_text Usage = codes "Usage"
 fault_text Read = codes "Read"

@@ -37,7 +37,7 @@ GivesWorld bytes = IfSome bytes (λ known. (w : World) × Recovered known w)
 abbrev pub IsAddress : List ℕ → Type 0
 IsAddress argument = (address : SocketAddrV4) × IsSocketV4Text argument address
 
--- The faults of `serve` at an address, as far as the bytes of the disk tell. The disk is judged, and then the socket is bound: the store is open where a fault of the socket or of serving is told.
+-- The faults of `serve` at an address, as far as the bytes of the disk say. The disk is judged, and then the socket is bound: the store is open if a fault of the socket or of serving is reported.
 abbrev pub IsOfServing : Option (List ℕ) → Fault → Type 0
 IsOfServing bytes OutOfMemory = GivesWorld bytes
 IsOfServing bytes (Store fault) = IsOfOpening bytes (Store fault)
@@ -46,7 +46,7 @@ IsOfServing bytes Write = GivesWorld bytes
 IsOfServing bytes (NotClosed fault) = GivesWorld bytes
 IsOfServing bytes fault = ⊥
 
--- the fault that is told of a server that ended so, if there is one
+-- the fault that a server returns that ended so, if there is one
 abbrev pub fault_of_end : {D V W : Type 0} → ServerEnd D V W → Option ServerFault
 fault_of_end ended = fault_at_end (has_stopped ended.closed.store) ended.served (is_amiss ended.printer ended.closed.settled)
 
@@ -54,12 +54,12 @@ fault_of_end ended = fault_at_end (has_stopped ended.closed.store) ended.served 
 abbrev pub RunsWithOutput : {D : Type 0} → DiskModel D → (List Step → ℕ → ℕ → ℕ → Type 0) → Kept D → Option (List ℕ) → Option (List ℕ) → ServerEnd D Timeouts (Option (List ℕ)) → Type 0
 RunsWithOutput model gives store old new ended = HasServedUsual model (λ known. known) gives store (new_printer old store.world.count) ended × (ended.printer.output ≡ new)
 
--- what is told of a server that ended so: what it left, beside the fault if there is one
+-- what a server returns that ended so: what it left, beside the fault if there is one
 abbrev pub ReportedAtEnd : {D V W : Type 0} → ServerEnd D V W → Result (Closed D) (ServerFault × Closed D) → Type 0
 ReportedAtEnd ended (Ok closed) = (closed ≡ ended.closed) × (fault_of_end ended ≡ None)
 ReportedAtEnd ended (Err answered) = (answered.1 ≡ ended.closed) × (fault_of_end ended ≡ Some answered.0)
 
--- a server ran so, and this is told
+-- a server ran so, and returned this
 pub record ServedWithOutput {D : Type 0} (model : DiskModel D) (gives : List Step → ℕ → ℕ → ℕ → Type 0) (store : Kept D) (old new : Option (List ℕ)) (answered : Result (Closed D) (ServerFault × Closed D)) : Type 0 where
   pub ended : ServerEnd D Timeouts (Option (List ℕ))
   pub run : RunsWithOutput model gives store old new ended
@@ -108,7 +108,7 @@ module _ {D : Type 0} (model : DiskModel D) where
   abbrev pub IsNotBegun : Option Present → Option Present → Fault → Type 0
   IsNotBegun before after answered = (answered ≡ OutOfMemory) × GivesWorld (reads before) × IsPutBack 0 before after
 
-  -- a server over the disk has ended, and tells this
+  -- a server over the disk has ended with this fault
   abbrev pub HasEnded : Option Present → Option Present → Option (List ℕ) → Option (List ℕ) → Fault → Type 0
   HasEnded before after old new answered = (is : IsServedDisk before after old new) × (fault : ServerFault) × (fault_of_end is.ended ≡ Some fault) × (answered ≡ fault_of_server fault)
 
@@ -117,7 +117,7 @@ module _ {D : Type 0} (model : DiskModel D) where
   EndsServing before after old new answered =
       ((IsNotOpened before after answered ⊎ (IsNotBound before after answered ⊎ IsNotBegun before after answered)) × Keeps old new) ⊎ HasEnded before after old new answered
 
--- The store of a disk was served, and no fault is told: a line has closed it. The bytes that are put back give the world that it left.
+-- The store of a disk was served, and no fault is returned: a line has closed it. The bytes that are put back give the world that it left.
 abbrev pub ServedWhole : {D : Type 0} → DiskModel D → Option Present → Option Present → Option (List ℕ) → Option (List ℕ) → Type 0
 ServedWhole model before after old new = (is : IsServedDisk model before after old new) × (fault_of_end is.ended ≡ None) × IfSome (reads after) (λ known. Recovered known is.ended.closed.store.world)
 

@@ -1,4 +1,4 @@
--- The streams of a run: what it reads, what it prints on, and where its faults are told.
+-- The streams of a run: what it reads, what it prints on, and where it reports faults.
 use Rattle.std.specs.Prelude.{ℕ, List, ◌∷◌, Option, option_map}
 
 -- what is left of the input, and what the output and standard error hold, where that is known

@@ -59,7 +59,7 @@ pub fn read_arguments<'a>(alloc: Global, arguments: &'a [String]) -> Result<Task
     }
 }
 
-/// The program as `clap` is told of it.
+/// The program as it is described to `clap`.
 fn program<'a>(alloc: Global) -> Result<Command<'a>, AllocError>
     ensures { IfOk result (λ program. app_of program ≡ resetd) }
 {

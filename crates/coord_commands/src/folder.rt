@@ -52,8 +52,10 @@ pub struct FileFolder<'a, S> {
 }
 
 impl<'a, S: Files<File = File>> FileFolder<'a, S> {
-    /// All files that the process may open. No clause speaks of them, since nothing is claimed of files.
-    pub fn new(rt: &'a S) -> Self {
+    /// Returns the folder of all files that the process may open.
+    pub fn new(rt: &'a S) -> Self
+        ensures { result.rt.now ≡ rt.now }
+    {
         FileFolder { rt }
     }
 }

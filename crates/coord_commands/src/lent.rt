@@ -5,7 +5,7 @@ use std::io;
 use std::io::Write;
 
 /// An output that is lent to a server. What contracts see of its bytes begins with the number that stands
-/// for this output: so where a server gives back one that holds what was lent, and more after it, that
+/// for this output: so if a server returns one that holds what was lent, and more after it, that
 /// is this very output, and no other.
 #[derive(Drop)]
 pub struct Lent<'a, W: Write> {

@@ -10,7 +10,7 @@
 //! `MemFolder`, whose disk and texts are in memory, all is known. `run_in` waits for nobody, and
 //! leaves just `serve` to its caller.
 //!
-//! What a run reads, what it prints on and where its faults are told goes about as one value,
+//! What a run reads, what it prints on and where it reports faults goes about as one value,
 //! `Streams`. A contract sees the three and what is known of them (`specs/Streams.antt`).
 //!
 //! Beneath them are functions over any disk: `create_store`, whose store begins with the orders of

@@ -26,7 +26,7 @@ use std::io::{Read, Write};
 /// in a reset is refused, and left as it is too.
 ///
 /// At each moment, from the taking of the disk until it is put back, a crash leaves what it could have
-/// left before or what gives the world in one version or the other. `Device` is told where the disk
+/// left before or what gives the world in one version or the other. `Device` is reported if the disk
 /// is not to be had, or its count of failures rose.
 pub fn migrate_in<F: Folder, R: Read, W: Write, E: Write>(
     alloc: Global,

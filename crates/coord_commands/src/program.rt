@@ -23,7 +23,7 @@ use std::time::Clock;
 
 /// Carries out what the program's arguments ask for, the first of which is its own name, and answers the
 /// exit status: the drill reads the input, what is asked for is printed on the output, and the line
-/// of a fault on standard error. Where the arguments could not be had, that is told, and nothing is done.
+/// of a fault on standard error. If the arguments could not be had, that is reported, and nothing is done.
 pub fn run_program<
     S: Files<File = File> + Net + Threads + Wait + Clock + Sync + AllocGlobal,
     I: Iterator<Item = String>,

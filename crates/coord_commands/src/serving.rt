@@ -122,9 +122,9 @@ fn serve_at<S: Net + Threads + Wait + Clock + Sync + AllocGlobal, F: Folder, W: 
     }
 }
 
-/// Serves an opened store to the connections of a listener, until a line closes it, and gives back what
-/// is left of its last engine, beside the fault if one is told; or the store as it was, and nothing more
-/// in the output, where there was no memory to begin with. What it prints goes to the output.
+/// Serves an opened store to the connections of a listener, until a line closes it, and returns what is left of
+/// its last engine, beside the fault if there is one; or the store as it was, with nothing more in the output,
+/// if there was no memory to begin. What it prints goes to the output.
 fn serve_open<
     'a,
     D: Disk + Send,

@@ -1,4 +1,4 @@
-//! What a command reads, what it prints on, and where its faults are told.
+//! What a command reads, what it prints on, and where it reports faults.
 
 ghost use Rattle.coord_commands.specs.Streams.{StreamsState};
 

@@ -17,7 +17,7 @@ module _ {D : Type 0} (g : GuardedState D) (seen later : ℕ) where
     pub view : is_some g.ledger.log.doubt ≡ false → seen ≤ settled_count g.ledger.log → MatchResult answer (λ v. (v ≡ shown (accepted_count g.ledger.log) (settled_world g.ledger.log)) × (later ≡ settled_count g.ledger.log)) (λ why. why ≡ OutOfMemory)
     pub unseen : OnErr answer (later ≡ seen)
 
-  -- what is told at that moment
+  -- what is shown at that moment
   abbrev Returned : Result Shown Refusal → Type 0
   Returned (Ok view) = Shows view seen later g
   Returned (Err why) = RefusesShow why seen g × (later ≡ seen)

@@ -46,7 +46,7 @@ CollectsAs l claim (Settled reply) = (reply ≡ reply_of claim) × IsCollectable
 CollectsAs l claim (Refused refusal back) = (back ≡ claim) × RefusesTicket l claim refusal
 CollectsAs l claim (Waiting back) = (back ≡ claim) × (settled_count l.log < claim.step) × (is_some l.log.doubt ≡ false)
 
--- what is told to a ticket that has not to wait: its reply, or that there will be none
+-- what is returned to a ticket that need not wait: its reply, or that there will be none
 abbrev pub IsReturnedToTicket : {D : Type 0} → LedgerState D → Claim → Result Reply (Refusal × Claim) → Type 0
 IsReturnedToTicket l claim (Ok reply) = CollectsAs l claim (Settled reply)
 IsReturnedToTicket l claim (Err refused) = CollectsAs l claim (Refused refused.0 refused.1)

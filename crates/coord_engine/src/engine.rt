@@ -62,7 +62,7 @@ impl<D: Disk, L: Origin> Engine<D, L> {
     /// Makes an engine over a ledger whose store is at home. `L` names the history with the steps of
     /// earlier instances, which are written there, and that ledger: its base, the steps that it has accepted,
     /// and its disk as it is. The blank has 65,536 parts. No clause can say what lies behind a lock; so
-    /// the contract is that of `Guarded::new`, and `close` says what it gives back in terms of `L`.
+    /// the contract is that of `Guarded::new`, and `close` says what it returns in terms of `L`.
     pub fn new(
         alloc: Global,
         blank: Blank,
@@ -111,15 +111,10 @@ impl<D: Disk, L: Origin> Engine<D, L> {
         ensures { AtSomeMoment (based_on D.model L.base L.before)
             (Submits {D = D} step result mine.old mine.new) }
     {
-        let mut guarded = self.guarded.lock(rt);
-        guarded.keeps();
-        let was_idle = guarded.is_idle();
-        let answer = guarded.submit(step, mine);
-        let wakes = guarded.wakes_flusher(was_idle);
-        drop(guarded);
-        if wakes {
-            self.work.notify_all();
-        }
+        let mut lock = self.lock_for_change(rt);
+        lock.guarded.keeps();
+        let answer = lock.guarded.submit(step, mine);
+        lock.unlock();
         answer
     }
 
@@ -162,8 +157,8 @@ impl<D: Disk, L: Origin> Engine<D, L> {
         answer
     }
 
-    /// Waits until there is something to tell to a ticket, and takes the lock then. What is told is
-    /// so of the very ledger that is locked: a reply is given while its step is settled there.
+    /// Waits until a ticket can be answered, and takes the lock then. The answer is that of the very ledger
+    /// that is locked: a reply is returned while its step is settled there.
     fn lock_to_answer<'g, R: Wait>(
         &'g self,
         rt: &R,
@@ -241,14 +236,7 @@ impl<D: Disk, L: Origin> Engine<D, L> {
         };
         let committed = flight.commit();
         let releases = self.end(rt, flight);
-        self.wake_all();
         answer_of(committed, releases)
-    }
-
-    /// Wakes all that wait, for replies or for steps.
-    pub(crate) fn wake_all(&self) {
-        self.changed.notify_all();
-        self.work.notify_all();
     }
 
     /// Sends the next flight out.
@@ -261,7 +249,8 @@ impl<D: Disk, L: Origin> Engine<D, L> {
         guarded.begin(&self.history)
     }
 
-    /// Takes a flight back. Where it is refused, for memory, it is tried again after a rest.
+    /// Takes a flight back, whether it was committed or not, and wakes all that wait. If there is no memory for
+    /// that, it tries again after a rest.
     pub(crate) fn end<R: Wait + Clock>(&self, rt: &R, flight: OwnFlight<D, L>) -> Released<L>
         ensures released { result ≡ releases_in flight flight.mark }
         ensures back { AtSomeMoment (based_on D.model L.base L.before) (ComesBack flight) }
@@ -270,9 +259,11 @@ impl<D: Disk, L: Origin> Engine<D, L> {
         for _ in rt.forever() {
             let mut guarded = self.guarded.lock(rt);
             match guarded.end(&self.history, out) {
-                Ok(releases) => {
+                Ok((releases, due)) => {
                     guarded.keeps();
                     guarded.await_callers();
+                    drop(guarded);
+                    due.wake_all(&self.changed, &self.work);
                     return releases;
                 }
                 Err((_, back)) => out = back,
@@ -286,8 +277,8 @@ impl<D: Disk, L: Origin> Engine<D, L> {
     /// From now on no step is accepted. What is pending is still settled. No clause can say what
     /// a call does behind a lock: `Guarded::finish` has that in its contract.
     pub fn finish<R: Wait>(&self, rt: &R) {
-        self.guarded.lock(rt).finish();
-        self.wake_all();
+        let due = self.guarded.lock(rt).finish();
+        due.wake_all(&self.changed, &self.work);
     }
 
     /// Takes the engine apart, where no flight is out, all shares are there, what callers have seen is

@@ -58,14 +58,9 @@ impl<D: Disk, L: Origin> Engine<D, L> {
         if count == 0 {
             return;
         }
-        let mut guarded = self.guarded.lock(rt);
-        let was_idle = guarded.is_idle();
-        guarded.lower_in_hand(count);
-        let wakes = guarded.wakes_flusher(was_idle);
-        drop(guarded);
-        if wakes {
-            self.work.notify_all();
-        }
+        let mut lock = self.lock_for_change(rt);
+        lock.guarded.lower_in_hand(count);
+        lock.unlock();
     }
 
     /// Takes the lock once something can be flushed, or nothing will be any more.

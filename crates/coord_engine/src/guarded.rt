@@ -13,12 +13,14 @@ mod collecting;
 mod comparing;
 mod flushing;
 mod pacing;
+mod pending_wake;
 mod submitting;
 
 use crate::{LogAuthority, MonotoneLog, Origin, Share};
 use coord_disk::Disk;
 use coord_ledger::Ledger;
 pub use pacing::PutDown;
+pub use pending_wake::PendingWake;
 use std::alloc::Global;
 use std::marker::Model;
 use std::sync::ledger::{Blank, Book, Share as Part};
@@ -142,11 +144,12 @@ impl<D: Disk, L: Origin> Guarded<D, L> {
         &self.ledger
     }
 
-    /// From now on no step is accepted.
-    pub fn finish(&mut self)
+    /// From now on no step is accepted. A flusher that waits for steps has to end.
+    pub fn finish(&mut self) -> PendingWake
         ensures { self.new ≡ with_finish self.old }
     {
         self.finishing = true;
+        PendingWake::new()
     }
 
     /// Does nothing. Its contract is what the type keeps, so it holds of whatever value the lock

@@ -15,7 +15,7 @@ use std::collections::LinkedList;
 use std::marker::{Brand, Model, PhantomData};
 use std::sync::Arc;
 
-/// What a token knows: a beginning of the history that it has read, and one that it was told of. No
+/// What a token knows: a beginning of the history that it has read, and one that another token has read. No
 /// value of it is made.
 pub struct Known {
     pub read: LinkedList<Step>,
@@ -63,7 +63,7 @@ impl<G: NamedSteps> Play<(), Known> for WritesOn<G> {
     ghost then = { IsWrittenOn G.steps };
 }
 
-/// The first token compares what it was told of with what it has read.
+/// The first token compares what another token has read with what it has read itself.
 struct Compares;
 
 impl Play<(), Known> for Compares {
@@ -93,7 +93,7 @@ impl Split<Known> for ReadsAlong {
     ghost right = { λ v. knows v.read [] };
 }
 
-/// A token is told what another one has read, which these steps name.
+/// A token learns what another one has read, which these steps name.
 struct ComparesTokens<G: NamedSteps> {
     of: PhantomData<G>,
 }

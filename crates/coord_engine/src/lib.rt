@@ -39,13 +39,14 @@ pub mod rows;
 mod share;
 mod submitting_port;
 mod waiting;
+mod waking_guard;
 mod working;
 
 pub use closed::{CloseFault, Closed, Retired};
 pub use collected::Collected;
 pub use engine::Engine;
 pub use flushing::{flusher, hand_over};
-pub use guarded::{Guarded, PutDown};
+pub use guarded::{Guarded, PendingWake, PutDown};
 pub use hand::Hand;
 pub use history::{LogAuthority, LogPrefix, MonotoneLog};
 pub use origin::Origin;

@@ -11,7 +11,7 @@ use std::marker::Brand;
 use std::sync::ledger::Ledger as Count;
 
 /// Names an engine: the count of its shares, its history, and the ledger that it was made over. It is asked for
-/// by `Engine::new` and told by `Engine::close`, since no clause can say what lies behind a lock.
+/// by `Engine::new` and returned by `Engine::close`, since no clause can say what lies behind a lock.
 ///
 /// An engine is made in code that is generic over this name and called with `Brand`, which picks
 /// the history with what is written in it, and the base, the steps and the disk's past of the ledger at

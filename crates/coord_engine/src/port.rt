@@ -27,7 +27,7 @@ pub trait Port {
     /// What it may be once it was asked to signal an epoch to a node, for a step, and answered so.
     ghost signalled: { Self → ℕ → ℕ → ℕ → Bool → Self → Type 0 } = { λ _ _ _ _ _ _. ⊤ };
 
-    /// What it may be once it was told to hand on what it has gathered, and answered so.
+    /// What it may be once it was asked to hand on what it has gathered, and answered so.
     ghost handed_on: { Self → ℕ → Self → Type 0 } = { λ _ _ _. ⊤ };
 
     /// Carries a packet to this node. It may gather packets, so that those for one place go together.

@@ -12,7 +12,7 @@ use coord_disk::Disk;
 use coord_types::{Packet, Refusal};
 use crossbeam_channel::Receiver;
 use std::alloc::Global;
-use std::sync::{MutexGuard, Wait};
+use std::sync::Wait;
 
 /// Whether a packet has to wait after this refusal, since there was no room for its step.
 fn has_to_wait(refusal: Refusal) -> bool
@@ -90,19 +90,6 @@ fn take_each<D: Disk, L: Origin>(
     }
 }
 
-/// Lets the lock go, and wakes the flusher where that is due.
-fn unlock<D: Disk, L: Origin>(
-    engine: &Engine<D, L>,
-    guarded: MutexGuard<'_, Guarded<D, L>>,
-    was_idle: bool,
-) {
-    let wakes = guarded.wakes_flusher(was_idle);
-    drop(guarded);
-    if wakes {
-        engine.work.notify_all();
-    }
-}
-
 /// Takes packets that came together under one lock, and wakes the flusher once.
 fn take_together<D: Disk, L: Origin, R: Wait>(
     rt: &R,
@@ -114,10 +101,9 @@ fn take_together<D: Disk, L: Origin, R: Wait>(
     ensures { Works (based_on D.model L.base L.before) share.old hand.old
         packets.now share.new hand.new }
 {
-    let mut guarded = engine.guarded.lock(rt);
-    let was_idle = guarded.is_idle();
-    take_each(&mut guarded, packets, share, hand);
-    unlock(engine, guarded, was_idle);
+    let mut lock = engine.lock_for_change(rt);
+    take_each(&mut lock.guarded, packets, share, hand);
+    lock.unlock();
 }
 
 /// Takes packets that came together, and tries those that wait once more, under one lock, and wakes the
@@ -132,11 +118,10 @@ pub(crate) fn take_and_try<D: Disk, L: Origin, R: Wait>(
     ensures { WorksAndTries (based_on D.model L.base L.before) share.old hand.old
         packets.now share.new hand.new }
 {
-    let mut guarded = engine.guarded.lock(rt);
-    let was_idle = guarded.is_idle();
-    take_each(&mut guarded, packets, share, hand);
-    try_waiting(&mut guarded, share, &mut hand.waiting);
-    unlock(engine, guarded, was_idle);
+    let mut lock = engine.lock_for_change(rt);
+    take_each(&mut lock.guarded, packets, share, hand);
+    try_waiting(&mut lock.guarded, share, &mut hand.waiting);
+    lock.unlock();
 }
 
 /// Submits the packets that come, in order, and ends after the last one. Their replies are

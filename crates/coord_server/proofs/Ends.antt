@@ -1,4 +1,4 @@
--- A server of which no fault is told was closed by a line.
+-- A server that returns no fault was closed by a line.
 use Rattle.std.proofs.Common.{◌≡◌, ◌⊎◌, ℕ, ◌+◌, ◌≤◌, ◌||◌, not, nat_le, List, [], ◌∷◌, ◌++◌, All, length, Bool, true, false, Option, None, Some, IfNone, IfSome, inl, inr, refl, sym, ap, ◌∙◌, subst, append_assoc, arith, drop}
 use Rattle.std.proofs.lemmas.List.Elements.{All-nil, All-push}
 use Rattle.std.proofs.lemmas.Bool.Decides.{nat_tests}
@@ -124,7 +124,7 @@ module _ {D : Type 0} (b : Basis D) {V : Type 0} (talked : V → List Talk → V
   served_so : (port : Local) (v w : V) (desk : DeskState Local) (served : Option ServerFault) → LeavesInstance b talked failed most port v w desk (Ended served) → Serves b talked failed most port v w desk served
   served_so port v w desk served h1 = grind arith
 
-  -- the fault that is told of it has a cause. `on`: that a next instance may begin
+  -- the fault that it returns has a cause. `on`: that a next instance may begin
   returned_for : (on : Type 0) (port : Local) (v w : V) (desk : DeskState Local) (left : InstanceEnd) (served : Option ServerFault) (is_broken : Bool) → LeavesInstance b talked failed most port v w desk left → IsLastInstance left served
       → (left ≡ Unprinted → served ≡ Some fault.Write → is_broken ≡ true) → (left ≡ Resting → ¬ on) → (served ≡ Some fault.Write → is_broken ≡ true) × (served ≡ Some fault.Device → ¬ on)
   returned_for on port v w desk left served is_broken h1 h2 h3 h4 = grind arith
@@ -169,7 +169,7 @@ module _ {D : Type 0} (m : DiskModel D) {V : Type 0} (talked : V → List Talk �
       let rested = subst (LeavesInstance (b world) talked failed most so.port v instance.callers so.desk) is so.served in
       record { served = rested.0; old = kept; history = rested_history (b world) so.desk instance.closed instance.left is so.left; all_settled = all; going = going; returned = so.returned }
 
-  -- why a fault is told of a server whose last instance was left so
+  -- why a server returns a fault whose last instance was left so
   pub has_cause : {W : Type 0} (first : Kept D) (v : V) (instance : Instance D V) (ended : ServerEnd D V W) → HasLived m talked failed most first v instance → IsLastInstance instance.left ended.served → ended.closed ≡ instance.closed
       → (instance.left ≡ Unprinted → ended.served ≡ Some fault.Write → ended.printer.is_broken ≡ true) → (instance.left ≡ Resting → ¬ MayGoOn most instance.closed) → HasFaultForCause most ended
   has_cause first v instance ended lived over same write rests =
@@ -195,11 +195,11 @@ module _ {D : Type 0} (m : DiskModel D) {V : Type 0} (talked : V → List Talk �
   and_last began world v u w (q ∷ []) l why left here is same same_w = (here.0, and_last q.left.store.world world q.callers u w [] l why left here.1 is same same_w)
   and_last began world v u w (q ∷ r ∷ rs) l why left here is same same_w = (here.0, and_last q.left.store.world world q.callers u w (r ∷ rs) l why left here.1 is same same_w)
 
--- nothing ended the serving of a server of which no fault is told
+-- nothing ended the serving of a server that returns no fault
 pub served_none : (stopped : Bool) (served : Option ServerFault) (is_broken : Bool) → fault_at_end stopped served is_broken ≡ None → served ≡ None
 served_none stopped served is_broken none = grind arith
 
--- of a store that has stopped a fault is told
+-- a store that has stopped is reported as a fault
 pub not_stopped : (stopped : Bool) (served : Option ServerFault) (is_broken : Bool) → fault_at_end stopped served is_broken ≡ None → stopped ≡ false
 not_stopped true served is_broken none = absurd cc
 not_stopped false served is_broken none = refl

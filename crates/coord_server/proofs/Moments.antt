@@ -119,7 +119,7 @@ module _ {D : Type 0} (m : DiskModel D) where
       let n : left.settled - left.base.count ≡ length left.trail.items = omega (arith, all) in
       ap (λ k. take k left.trail.items) n ∙ take-length left.trail.items
 
--- an instance may tell of signals by the history of the instances before it
+-- an instance may print signals by the history of the instances before it
 pub may_print_on : {D : Type 0} (m : DiskModel D) (may : Beginning → ℕ → ℕ → ℕ → Type 0) (history own : TableId) (first now : Kept D) (steps written : List Step) → ((earlier : List Step) → MayPrint history earlier (fold first.world earlier) may) → own ≡ history → ComesFrom m first steps now → written ≡ steps
     → MayPrint own written now.world may
 may_print_on m may history own first now steps written may_print same come is =

@@ -19,7 +19,7 @@ use Rattle.coord_server.specs.declared.fault.ServerFault.TheVariants as fault
 
 -- ---- one instance
 
--- what an instance that began with a world and left this tells of its trail and its store
+-- what an instance that began with a world and left this says of its trail and its store
 pub record SaysWhatIsLeft {D : Type 0} (world : World) (left : Closed D) : Type 0 where
   pub from : left.base ≡ world
   pub steps : IsTrail world left.trail.items
@@ -42,7 +42,7 @@ is_left b desk left (Some fault.Device) is = left_of b desk left is
 is_left b desk left (Some fault.Write) is = left_of b desk left is
 is_left b desk left (Some (fault.NotClosed why)) is = record { state = is.so.state; held = is.so.held; so = is.so.so.0 }
 
--- what is left tells so: the log under the lock was consistent, and its settled world is the store's
+-- what is left says so: the log under the lock was consistent, and its settled world is the store's
 pub says_what_is_left : {D : Type 0} (b : Basis D) (left : Closed D) → LeavesLedger b left → SaysWhatIsLeft b.base left
 says_what_is_left b left h1 = grind arith
 

@@ -2,12 +2,14 @@
 use Rattle.std.proofs.Common.{◌≡◌, ℕ, List, Result, Ok, Err, [], ◌∷◌, ◌++◌, drop, length, refl, sym, ap, ◌∙◌, append_assoc, append-nil, subst}
 use Rattle.atomic_table.specs.Seated.{TableId}
 use Rattle.coord_types.specs.declared.refusals.Refusal.{Refusal}
+use Rattle.coord_types.specs.declared.steps.Reply.{Reply}
 use Rattle.coord_types.specs.declared.steps.Step.{Step}
 use Rattle.coord_view.specs.Shown.{Shown}
-use Rattle.coord_ledger.specs.Facade.{settled_steps}
-use Rattle.coord_engine.specs.Facade.{AnswersShow, AtMomentRead, Basis, Beginning, HasReadSettled, RefusesShow, Shows, StartsWith}
+use Rattle.coord_ledger.specs.Facade.{Claim, settled_steps}
+use Rattle.coord_engine.specs.Facade.{AnswersShow, AnswersTicket, AtMomentRead, Basis, Beginning, CollectsAs, HasReadSettled, IsReturnedToTicket, RefusesShow, Shows, StartsWith}
 use Rattle.coord_engine.specs.State.{GuardedState}
-use Rattle.coord_server.specs.EngineDesk.{AtMomentAnswered, IsReadIn, ShowsTo, read_in}
+use Rattle.coord_engine.specs.declared.collected.Collected.TheVariants.{Refused, Settled}
+use Rattle.coord_server.specs.EngineDesk.{AtMomentAnswered, IsReadIn, Replies, ShowsTo, read_in, without_ticket}
 
 drop_all : (xs ys : List Step) → drop (length xs) (xs ++ ys) ≡ ys
 drop_all [] ys = refl
@@ -48,6 +50,18 @@ module _ {D : Type 0} (b : Basis D) (history : TableId) (earlier : List Step) (b
 
   pub read_at : AtMomentRead b history earlier now P → IsReadIn history earlier now
   read_at is = is_read history earlier (settled_steps is.state.ledger.log) now is.so.1
+
+-- what a desk collects, which reads on
+pub collected : {D : Type 0} (b : Basis D) (history : TableId) (earlier : List Step) (before now : Beginning) (claim : Claim) (answer : Result Reply (Refusal × Claim)) (result : Result Reply Refusal) → IsReadIn history earlier before → StartsWith now.steps before.steps → AnswersTicket b history earlier now claim answer
+    → result ≡ without_ticket answer → Replies b (Ok claim) result (read_in earlier before) (read_in earlier now)
+collected b history earlier before now claim answer result was begins is same = subst (λ r. Replies b (Ok claim) r (read_in earlier before) (read_in earlier now)) (sym same) (of answer is)
+  where
+    of : (a : Result Reply (Refusal × Claim)) → AnswersTicket b history earlier now claim a → Replies b (Ok claim) (without_ticket a) (read_in earlier before) (read_in earlier now)
+    of (Ok reply) so = returned_at b history earlier before now (λ g. CollectsAs g.ledger claim (Settled reply)) was begins so
+    of (Err (refusal, back)) so = returned_at b history earlier before now (λ g. CollectsAs g.ledger claim (Refused refusal claim)) was begins (record { state = so.state; held = so.held; so = ((refl, so.so.0.1), so.so.1) })
+
+pub read_collected : {D : Type 0} (b : Basis D) (history : TableId) (earlier : List Step) (now : Beginning) (claim : Claim) (answer : Result Reply (Refusal × Claim)) → AnswersTicket b history earlier now claim answer → IsReadIn history earlier now
+read_collected b history earlier now claim answer is = read_at b history earlier now now (λ g. IsReturnedToTicket g.ledger claim answer) is
 
 -- what is shown to a desk that reads on
 pub shows_to : {D : Type 0} (b : Basis D) (history : TableId) (earlier : List Step) (before now : Beginning) (result : Result Shown Refusal) (seen later : ℕ) → IsReadIn history earlier before → StartsWith now.steps before.steps → AnswersShow b history earlier now result seen later → ShowsTo b result seen later (read_in earlier before) (read_in earlier now)

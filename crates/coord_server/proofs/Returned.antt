@@ -1,4 +1,4 @@
--- What a reply, and what is left of a disk, tell of the steps of an instance.
+-- What a reply, and what is left of a disk, say of the steps of an instance.
 use Rattle.std.proofs.lemmas.List.Elements.{Contains-append_left}
 use Rattle.std.proofs.lemmas.List.Sorted.{Contains-permutation}
 use Rattle.std.proofs.Common.{◌≡◌, ◌⊎◌, ℕ, zero, suc, ◌+◌, ◌-◌, ◌<◌, ◌≤◌, Contains, get_or, slice_get, true, List, [], ◌∷◌, ◌++◌, Option, Some, None, Result, Ok, length, take, is_some, refl, sym, ap, ◌∙◌, subst, inl, inr, arith, IfSome}

@@ -1,4 +1,4 @@
--- All that a server told over the connections of its instances is borne out by its one history, in order.
+-- All that a server answered over the connections of its instances follows from its one history, in order.
 use Rattle.std.proofs.Common.{◌≡◌, ◌⊎◌, ℕ, zero, suc, ◌+◌, List, [], ◌∷◌, ◌++◌, Option, None, Some, Result, Ok, Err, map, length, slice_get, take, refl, sym, ap, ◌∙◌, subst, inl, inr, append-nil, append_assoc, arith}
 use Rattle.std.proofs.Math.Seq.{take-append-add}
 use Rattle.std.proofs.lemmas.List.{map-append}
@@ -39,7 +39,7 @@ use Rattle.coord_server.specs.declared.instance_end.InstanceEnd.TheVariants as e
 
 -- ---- connections, one after the other
 
--- what is read later begins with what was told of
+-- what is read later begins with what was read before
 pub leads : (first : List Step) (returned : List Returned) (last : List Step) → GoOn first returned last → StartsWith last first
 leads first [] last on = on
 leads first (t ∷ returned) last on = first_of_first first t.after last on.0 (leads t.after returned last on.1)
@@ -251,7 +251,7 @@ module _ {D : Type 0} (m : DiskModel D) {V : Type 0} (talked : V → List Talk �
     returned : AllInOrder began before connections settled
     reads : EachReads began settled before instances
 
-  -- what was told over the connections of an instance, after the steps of the instances before
+  -- what was answered over the connections of an instance, after the steps of the instances before
   lifted : (before read : List Step) (world : World) (cs : List Connection) → world ≡ fold began before → AllInOrder world [] cs read → AllInOrder began before cs (before ++ read)
   lifted before read world cs is returned =
       subst (λ first. AllInOrder began first cs (before ++ read)) (append-nil before)

@@ -1,4 +1,4 @@
--- All that the desk of an instance told or showed is settled.
+-- All that the desk of an instance replied or showed is settled.
 use Rattle.std.proofs.Common.{◌≡◌, ◌⊎◌, ℕ, ◌≤◌, List, [], ◌∷◌, ◌++◌, Some, None, Result, Ok, Err, length, take, refl, sym, ap, ◌∙◌, subst, inl, inr, append-nil, arith}
 use Rattle.std.specs.List.{AllByRecursion}
 use Rattle.std.proofs.lemmas.Grind.{flat_map-append}
@@ -30,7 +30,7 @@ use Rattle.coord_server.specs.EngineDesk.{DeskAnswers, DeskKeeps, DeskState, Sho
 use Rattle.coord_server.specs.Ending.{new_desk}
 use Rattle.coord_server.specs.Returned.{AllWriteUpTo, AnswersUpTo, ReturnedIsSettled, WritesUpTo}
 
--- ---- what an answer tells
+-- ---- which steps an answer names
 
 further : (n m : ℕ) (a : Answer) → n ≤ m → AnswersUpTo n a → AnswersUpTo m a
 further n m (answer.Replied r) le is = omega (arith, le, is)
@@ -48,7 +48,7 @@ all_both : (n : ℕ) (returned more : List Answer) → AllByRecursion (AnswersUp
 all_both n [] more is also = also
 all_both n (a ∷ returned) more is also = (is.0, all_both n returned more is.1 also)
 
--- ---- what a text tells
+-- ---- which steps a text names
 
 text_further : (n m : ℕ) (text : List ℕ) → n ≤ m → WritesUpTo n text → WritesUpTo m text
 text_further n m text le is = record { returned = is.returned; up_to = all_further n m is.returned le is.up_to; part = is.part; broken = broken is.part is.broken; text_is = is.text_is }
@@ -74,7 +74,7 @@ says_last n (Some (x ∷ xs)) = (tt, tt)
 abbrev Goes : ℕ → Answer → ℕ → Type 0
 Goes n a m = (n ≤ m) × AnswersUpTo m a
 
--- ---- a desk that sees all that it tells
+-- ---- a desk that has seen all that it answers
 
 module _ {D : Type 0} (answers : D → Request → Answer → D → Type 0) (seen : D → ℕ) (sees : (d e : D) (r : Request) (a : Answer) → answers d r a e → Goes (seen d) a (seen e)) where
   same : (d e : D) → e ≡ d → seen d ≤ seen e

@@ -1,4 +1,4 @@
--- What a server may tell, in each of its instances.
+-- Which signals a server may print, in each of its instances.
 use Rattle.std.proofs.Common.{List, refl}
 use Rattle.atomic_table.specs.Seated.{TableId}
 use Rattle.coord_types.specs.declared.steps.Step.{Step}

@@ -24,7 +24,7 @@ module _ {W : Type 0} (contents : W → Option (List ℕ)) where
 
   -- what printing a signal says
   pub printed : (m q : PrinterState W) (s : StepSignal) (is_written : Bool) → (is_written ≡ true → Appends (contents m.output) (contents q.output) (signal_line s.node s.epoch)) → (is_written ≡ true → (is_next m.last s.step s.node ≡ true) × (q.last ≡ after_line m.last s.step s.node)) → (is_written ≡ true → (q.is_broken ≡ false) × (q.lost ≡ m.lost))
-      → (is_written ≡ false → q.is_broken ≡ false → q ≡ with_lost m) → q.is_broken ≡ false → Prints contents m s q
+      → (is_written ≡ false → q.is_broken ≡ false → (is_next m.last s.step s.node ≡ false) × (q ≡ with_lost m)) → q.is_broken ≡ false → Prints contents m s q
   printed m q s true written next whole failed going = inl ((next refl).0, written refl, (whole refl).0, (whole refl).1, (next refl).1)
   printed m q s false written next whole failed going = inr (failed refl going)
 
@@ -57,7 +57,7 @@ module _ {W : Type 0} (contents : W → Option (List ℕ)) where
     each_may [] s all one = (one, tt)
     each_may (x ∷ signals) s all one = (all.0, each_may signals s all.1 one)
 
-    -- what may be told may be told of more
+    -- what may be printed may be printed after more steps
     module _ (more : ℕ → ℕ → ℕ → Type 0) (on : (step node epoch : ℕ) → may step node epoch → more step node epoch) where
       each_more : (signals : List StepSignal) → AllByRecursion (λ x. may x.step x.node x.epoch) signals → AllByRecursion (λ x. more x.step x.node x.epoch) signals
       each_more [] all = tt
@@ -96,7 +96,7 @@ module _ {W : Type 0} (contents : W → Option (List ℕ)) where
         follow = is.follow;
       }
 
-    -- nothing was told yet
+    -- nothing was printed yet
     pub returned_none : (p : PrinterState W) → HasPrinted contents may p p
     returned_none p = record { signals = []; torn = []; bytes = appends_none (contents p.output); may_be_printed = tt; follow = refl; whole = inl refl }
 
@@ -110,7 +110,7 @@ module _ {W : Type 0} (contents : W → Option (List ℕ)) where
         none_torn torn works (inl none) = none
         none_torn torn works (inr broken) = absurd (false≢true (sym works ∙ broken.broken))
 
-    -- one more signal that may be told
+    -- one more signal that may be printed
     pub returned_next : (p m q : PrinterState W) (s : StepSignal) → HasPrinted contents may p m → m.is_broken ≡ false → may s.step s.node s.epoch → Prints contents m s q → HasPrinted contents may p q
     returned_next p m q s returned works one (inl is) = record {
       signals = returned.signals ++ s ∷ [];
@@ -125,13 +125,13 @@ module _ {W : Type 0} (contents : W → Option (List ℕ)) where
     returned_next p m q s returned works one (inr is) = record {
       signals = returned.signals;
       torn = [];
-      bytes = subst (λ (x : PrinterState W). Appends (contents p.output) (contents x.output) (signal_lines returned.signals ++ [])) (sym is) (subst (Appends (contents p.output) (contents m.output)) (sym (append-nil (signal_lines returned.signals))) (whole_lines p m returned works));
+      bytes = subst (λ (x : PrinterState W). Appends (contents p.output) (contents x.output) (signal_lines returned.signals ++ [])) (sym is.1) (subst (Appends (contents p.output) (contents m.output)) (sym (append-nil (signal_lines returned.signals))) (whole_lines p m returned works));
       may_be_printed = returned.may_be_printed;
-      follow = subst (λ (x : PrinterState W). Follow p.last returned.signals x.last) (sym is) returned.follow;
+      follow = subst (λ (x : PrinterState W). Follow p.last returned.signals x.last) (sym is.1) returned.follow;
       whole = inl refl;
     }
 
-    -- the output failed in the line of a signal that may be told
+    -- the output failed in the line of a signal that may be printed
     returned_torn : (p m q : PrinterState W) (s : StepSignal) → HasPrinted contents may p m → m.is_broken ≡ false → may s.step s.node s.epoch → is_next m.last s.step s.node ≡ true → BreaksIn contents m (signal_line s.node s.epoch) q → HasPrinted contents may p q
     returned_torn p m q s returned works one next breaks = record {
       signals = returned.signals;

@@ -1,4 +1,4 @@
--- The line of a reply to the third step tells of three steps, and no text of two is that line.
+-- The line of a reply to the third step names three steps, and no text of two is that line.
 use Rattle.std.proofs.Common.{◌≡◌, ◌⊎◌, ℕ, zero, suc, ◌≤◌, List, [], ◌∷◌, ◌++◌, get_or, inl, inr, refl, sym, ap, ◌∙◌, append_assoc, append-nil, arith}
 use Rattle.std.specs.List.{AllByRecursion}
 use Rattle.std.specs.Fmt.{digits}

@@ -96,7 +96,7 @@ module _ {D : Type 0} (b : Basis D) {V : Type 0} (talked : V → List Talk → V
     Serves port v w desk (Some fault.OutOfMemory) = ServesInstance port v w desk (end.Ended (Some fault.OutOfMemory)) ⊎ ServesInstance port v w desk end.Resting
     Serves port v w desk served = LeavesInstance port v w desk (end.Ended served)
 
-    -- the threads of an instance have run: the desk served until this end and saw that much, this one has read what the desk told of after these earlier steps, and with its share all ten are back, the desk's, the flusher's and those of eight workers
+    -- the threads of an instance have run: the desk served until this end and saw that much, this one has read the steps by which the desk has answered, after these earlier steps, and with its share all ten are back, the desk's, the flusher's and those of eight workers
     pub record HasRun (history : TableId) (earlier : List Step) (v w : V) (left : InstanceEnd) (shares : List (List Note)) (seen : ℕ) (reader : Beginning) : Type 0 where
       pub port : Local
       pub desk : DeskState Local
@@ -106,7 +106,7 @@ module _ {D : Type 0} (b : Basis D) {V : Type 0} (talked : V → List Talk → V
       pub added : AddsWorkers (desk.notes ∷ []) shares
       pub all : length shares ≡ 10
 
-    -- one instance: the desk served until it was left so, and what is left. The settled steps begin with those of which the desk told
+    -- one instance: the desk served until it was left so, and what is left. The settled steps begin with those by which the desk has answered
     pub record IsInstance (v : V) (instance : Instance D V) : Type 0 where
       pub port : Local
       pub desk : DeskState Local
@@ -128,7 +128,7 @@ EndsUnopened failed v end.Unprinted = Unit {0}
 EndsUnopened failed v (end.Ended (Some fault.Socket)) = failed v v
 EndsUnopened failed v other = ⊥
 
--- what a server that has ended tells: a store that has stopped first, then what ended the serving, then an output that is amiss
+-- the fault that a server returns: a store that has stopped first, then what ended the serving, then an output that is amiss
 abbrev pub fault_at_end : Bool → Option ServerFault → Bool → Option ServerFault
 fault_at_end true served is_amiss = Some fault.Device
 fault_at_end false (Some why) is_amiss = Some why

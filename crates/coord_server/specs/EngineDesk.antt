@@ -45,6 +45,11 @@ pub record AtMomentAnswered {D : Type 0} (b : Basis D) (before now : List Step) 
 abbrev pub AcceptsOrder : {D : Type 0} → Basis D → Step → Claim → List Note → List Note → Type 0
 AcceptsOrder {D} b s claim before after = AtSomeMoment b (Submits {D = D} s (Ok claim) before after)
 
+-- what was answered to a ticket, without the ticket that came back with a refusal
+abbrev pub without_ticket : Result Reply (Refusal × Claim) → Result Reply Refusal
+without_ticket (Ok reply) = Ok reply
+without_ticket (Err refused) = Err refused.0
+
 -- what is said to a step that was posted, where these steps were read before and these now: its reply once it is settled, or why there will be none
 abbrev pub Replies : {D : Type 0} → Basis D → Result Claim Refusal → Result Reply Refusal → List Step → List Step → Type 0
 Replies {D} b (Ok claim) (Ok reply) before now = AtMomentAnswered b before now (λ g. CollectsAs {D = D} g.ledger claim (Settled reply))
@@ -52,7 +57,7 @@ Replies {D} b (Ok claim) (Err refusal) before now = AtMomentAnswered b before no
 Replies {D} b (Err why) (Ok reply) before now = ⊥
 Replies {D} b (Err why) (Err refusal) before now = (refusal ≡ why) × (now ≡ before)
 
--- A reply is given once its step is settled. A refusal is one of the submitting, or it comes while the reply is waited for: then the step was accepted, and a repeat of its number tells. The lists of steps: what was read before and now.
+-- A reply is given once its step is settled. A refusal is one of the submitting, or it comes while the reply is waited for: then the step was accepted, and a repeat of its number gets the reply. The lists of steps: what was read before and now.
 abbrev pub AnswersOrder : {D : Type 0} → Basis D → Step → Result Reply Refusal → List Note → List Note → List Step → List Step → Type 0
 AnswersOrder {D} b s (Ok reply) before after read now = (claim : Claim) × AcceptsOrder b s claim before after × AtMomentAnswered b read now (λ g. CollectsAs {D = D} g.ledger claim (Settled reply))
 AnswersOrder {D} b s (Err refusal) before after read now =

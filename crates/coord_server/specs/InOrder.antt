@@ -1,4 +1,4 @@
--- What the answers of an instance tell, by its one history: each is borne out by some first settled steps, and none goes back after the one before.
+-- What the answers of an instance say of its one history: each follows from some first settled steps, and none goes back behind the one before.
 use Rattle.std.specs.List.{AllByRecursion}
 use Rattle.std.specs.Prelude.{◌≡◌, ◌⊎◌, ℕ, List, [], ◌∷◌, ◌++◌, Result, Ok, Some, map, slice_get, take}
 use Rattle.coord_types.specs.declared.steps.Reply.{Reply}
@@ -77,7 +77,7 @@ abbrev pub AllInOrder : World → List Step → List Connection → List Step �
 AllInOrder base first [] last = StartsWith last first
 AllInOrder base first (c ∷ cs) last = (now : List Step) × WritesInOrder base first c.talk now × AllInOrder base now cs last
 
--- All that the desk of an instance told or showed, over one connection after the other, whether or not a line closed it, is borne out so, by the settled steps that the desk has read.
+-- All that the desk of an instance replied or showed, over one connection after the other, whether or not a line closed it, is borne out so, by the settled steps that the desk has read.
 abbrev pub AnsweredInOrder : Type 0 → Type 0 → {V : Type 0} → (V → List Talk → V → Type 0) → Type 0
 AnsweredInOrder D P {V} talked =
     (b : Basis D) (most : ℕ) (port : P) (v w : V) (desk : DeskState P)

@@ -29,7 +29,7 @@ IsLastInstance (end.Ended why) served = served ≡ why
 abbrev pub MayGoOn : {D : Type 0} → ℕ → Closed D → Type 0
 MayGoOn most left = (has_stopped left.store ≡ false) × (left.settled ≡ left.base.count + length left.trail.items) × (most ≤ length left.trail.items)
 
--- Why a fault is told of a server that has ended so, whose instances have so many steps: that its output could not be written only where that has failed, and one of the device only where no next instance could begin.
+-- Why a server that has ended so returns a fault, whose instances have this many steps: Write only if its output has failed, and Device only if no next instance could begin.
 abbrev pub HasFaultForCause : {D V W : Type 0} → ℕ → ServerEnd D V W → Type 0
 HasFaultForCause most ended = (ended.served ≡ Some fault.Write → ended.printer.is_broken ≡ true) × (ended.served ≡ Some fault.Device → ¬ MayGoOn most ended.closed)
 
@@ -58,7 +58,7 @@ module _ {D : Type 0} (m : DiskModel D) {V : Type 0} (talked : V → List Talk �
   abbrev pub begun_over : World → Basis D
   begun_over world = based_on m world []
 
-  -- An instance from this world that rests: no line has closed it, it has kept the steps of an instance, it is one history, all that was accepted is settled, of the first of which its desk told, and its store has not stopped. The next one begins over the world of that store.
+  -- An instance from this world that rests: no line has closed it, it has kept the steps of an instance, it is one history, all that was accepted is settled, by the first of which its desk has answered, and its store has not stopped. The next one begins over the world of that store.
   pub record Rests (began : World) (v : V) (instance : InstanceRun D V) : Type 0 where
     pub served : ServedWhileOpen (begun_over began) talked most instance.port v instance.callers instance.desk
     pub old : most ≤ length instance.left.trail.items
@@ -74,7 +74,7 @@ module _ {D : Type 0} (m : DiskModel D) {V : Type 0} (talked : V → List Talk �
 
 -- `failed v w`: those who call were v, and have failed
 module _ {D : Type 0} (m : DiskModel D) {V : Type 0} (talked : V → List Talk → V → Type 0) (failed : V → V → Type 0) (most : ℕ) where
-  -- The last instance of a server, from this world, where this ended it: its desk served until then, and told of settled steps; and so its engine was left.
+  -- The last instance of a server, from this world, where this ended it: its desk served until then, and answered by settled steps; and so its engine was left.
   pub record IsLast (began : World) (v : V) (instance : InstanceRun D V) (why : Option ServerFault) : Type 0 where
     pub served : Serves (based_on m began []) talked failed most instance.port v instance.callers instance.desk why
     pub history : IsLeftAs (based_on m began []) instance.desk instance.left why
@@ -86,7 +86,7 @@ module _ {D : Type 0} (m : DiskModel D) {V : Type 0} (talked : V → List Talk �
   AreInstances began v (instance ∷ []) why left callers = IsLast began v instance why × (instance.left ≡ left) × (instance.callers ≡ callers)
   AreInstances began v (instance ∷ next ∷ later) why left callers = Rests m talked most began v instance × AreInstances instance.left.store.world instance.callers (next ∷ later) why left callers
 
--- Instances from the world of a first store, of which the last one left this store and told this count of settled steps, are one history. Their steps are one trail from that world, and each instance began with the world after the steps of those before it. What they gave out is what that one trail gives out, and each step has a number of its own: so none, and no signal of one, stands in two instances. The store has the world after all steps that are settled, which are the first ones.
+-- Instances from the world of a first store, of which the last one left this store and this count of settled steps, are one history. Their steps are one trail from that world, and each instance began with the world after the steps of those before it. What they gave out is what that one trail gives out, and each step has a number of its own: so none, and no signal of one, stands in two instances. The store has the world after all steps that are settled, which are the first ones.
 pub record AreOneHistory {D V : Type 0} (began : World) (instances : List (InstanceRun D V)) (store : Kept D) (settled : ℕ) : Type 0 where
   pub trail : IsTrail began (all_steps instances)
   pub follow : (before rest : List (InstanceRun D V)) (instance : InstanceRun D V) → instances ≡ before ++ instance ∷ rest → instance.left.base ≡ fold began (all_steps before)

@@ -20,7 +20,7 @@ listening_line address = codes "listening " ++ socket_text address ++ codes "\n"
 abbrev pub signal_line : ℕ → ℕ → List ℕ
 signal_line node epoch = codes "signal " ++ decimal node ++ codes " " ++ decimal epoch ++ codes "\n"
 
--- an output as contracts see it, whether a line to it has failed, how many signals were lost, since there was no memory for their lines or they did not come after the last one, and the last one that was printed
+-- an output as contracts see it, whether a line to it has failed, how many signals were lost, because they did not come after the last one, and the last one that was printed
 pub record PrinterState (W : Type 0) : Type 0 where
   pub output : W
   pub is_broken : Bool
@@ -48,7 +48,7 @@ with_lost p = record p { lost = one_more p.lost }
 abbrev pub is_amiss : {W : Type 0} → PrinterState W → ℕ → Bool
 is_amiss p settled = p.is_broken || not (nat_le p.last.step settled)
 
--- what is told of a line that was not printed
+-- the faults of a line that was not printed
 abbrev pub IsOfPrinting : ServerFault → Type 0
 IsOfPrinting returned = (returned ≡ fault.OutOfMemory) ⊎ (returned ≡ fault.Write)
 
@@ -58,7 +58,7 @@ pub record IsTornAddress {W : Type 0} (q : PrinterState W) (torn : List ℕ) : T
   pub address : SocketAddr
   pub part : IsFirstPart torn (listening_line address)
 
--- what was written of the line of a signal in which the output failed: a first part of it. The signal may be told, and comes after the last one
+-- what was written of the line of a signal in which the output failed: a first part of it. The signal may be printed, and comes after the last one
 pub record IsTornSignal {W : Type 0} (may : ℕ → ℕ → ℕ → Type 0) (q : PrinterState W) (torn : List ℕ) : Type 0 where
   pub broken : q.is_broken ≡ true
   pub signal : StepSignal
@@ -83,18 +83,18 @@ module _ {W : Type 0} (contents : W → Option (List ℕ)) where
   abbrev pub BreaksIn : PrinterState W → List ℕ → PrinterState W → Type 0
   BreaksIn p line q = WritesFirstPart (contents p.output) (contents q.output) line × (q.is_broken ≡ true) × (q.lost ≡ p.lost) × (q.last ≡ p.last)
 
-  -- the line of a signal that comes after the last one was printed; or nothing of it, and it was counted as lost
+  -- the line of a signal that comes after the last one was printed; or the signal does not come after it, nothing was printed, and it was counted as lost
   abbrev pub Prints : PrinterState W → StepSignal → PrinterState W → Type 0
   Prints p s q =
       ((is_next p.last s.step s.node ≡ true) × Appends (contents p.output) (contents q.output) (signal_line s.node s.epoch) × (q.is_broken ≡ false) × (q.lost ≡ p.lost) × (q.last ≡ after_line p.last s.step s.node))
-      ⊎ (q ≡ with_lost p)
+      ⊎ ((is_next p.last s.step s.node ≡ false) × (q ≡ with_lost p))
 
-  -- these signals were printed or lost, each once and in order
+  -- these signals came, in order: each was printed once, or lost because it did not come after the one that was printed last
   abbrev pub PrintsEach : PrinterState W → List StepSignal → PrinterState W → Type 0
   PrintsEach p [] q = q ≡ p
   PrintsEach p (s ∷ later) q = (m : PrinterState W) × Prints p s m × PrintsEach m later q
 
-  -- `may`: of which signals may be told, by step, node and epoch
+  -- `may`: which signals may be printed, by step, node and epoch
   module _ (may : ℕ → ℕ → ℕ → Type 0) where
     -- The lines of such signals were printed, each after the one before it; where the output failed in a line, a first part of that one after them.
     pub record HasPrinted (p q : PrinterState W) : Type 0 where
@@ -105,7 +105,7 @@ module _ {W : Type 0} (contents : W → Option (List ℕ)) where
       pub follow : Follow p.last signals q.last
       pub whole : (torn ≡ []) ⊎ IsTornSignal may q torn
 
-    -- The line of an address was printed, and after it what tells of such signals; or nothing, or a first part of that line.
+    -- The line of an address was printed, and after it lines of such signals; or nothing, or a first part of that line.
     pub record IsPrinted (p q : PrinterState W) : Type 0 where
       pub first : List ℕ
       pub signals : List StepSignal

@@ -1,4 +1,4 @@
--- What a reply, and what is left of a disk, tell of the steps of an instance.
+-- What a reply, and what is left of a disk, say of the steps of an instance.
 use Rattle.std.specs.List.{AllByRecursion}
 use Rattle.std.specs.Prelude.{◌≡◌, ◌⊎◌, ℕ, ◌+◌, ◌-◌, ◌≤◌, true, List, [], ◌∷◌, ◌++◌, Contains, Ok, Some, length, slice_get, take}
 use Rattle.coord_disk.specs.Model.Present.{IsImage}
@@ -22,7 +22,7 @@ use Rattle.coord_lines.specs.Written.{IsFirstPart}
 use Rattle.coord_server.specs.EngineDesk.{AnswersOrder, DeskKeeps, DeskState}
 use Rattle.coord_server.specs.Ending.{IsClosed, IsOneHistory, ServedWhileOpen}
 
--- An order that is told a reply was noted just then, with the number and the kind that it is told; or nothing was, since it repeats one. Of these settled steps, which were read by then, that of this number is the order, and was answered with that kind; or the base kept that reply for that order.
+-- An order that gets a reply was just noted, with the number and the kind of the reply; or nothing was, since it repeats one. Of these settled steps, which were read by then, that of this number is the order, and was answered with that kind; or the base kept that reply for that order.
 pub record NamesItsStep {D : Type 0} (b : Basis D) (s : Step) (reply : Reply) (before after : List Note) (read : List Step) : Type 0 where
   pub noted : (after ≡ before ++ record { step = reply.step; what = s; kind = reply.kind } ∷ []) ⊎ (after ≡ before)
   pub settled : AtSomeMoment b (λ g. IsCollectable g.ledger.log (record { step = reply.step; what = s; kind = reply.kind }) × (settled_steps g.ledger.log ≡ read))
@@ -44,7 +44,7 @@ pub record IsReplied {D : Type 0} (left : Closed D) (note : Note) : Type 0 where
 abbrev pub NotesAreReplies : Type 0 → Type 0 → Type 0
 NotesAreReplies D P = (b : Basis D) (desk : DeskState P) (left : Closed D) → IsOneHistory b desk left → (note : Note) → Contains desk.notes note → IsReplied left note
 
--- an answer tells of no step after this one: neither its reply nor what it shows
+-- an answer names no step after this one: neither its reply nor what it shows
 abbrev pub AnswersUpTo : ℕ → Answer → Type 0
 AnswersUpTo step (Replied r) = r.step ≤ step
 AnswersUpTo step (Shown v) = v.settled ≤ step
@@ -53,7 +53,7 @@ AnswersUpTo step (Resent n) = Unit {0}
 AnswersUpTo step answer.Closed = Unit {0}
 AnswersUpTo step (Faulted f) = Unit {0}
 
--- what was written is lines, each of which tells of no step after this one; in the last of them it may break off
+-- what was written is lines, each of which names no step after this one; in the last of them it may break off
 pub record WritesUpTo (step : ℕ) (text : List ℕ) : Type 0 where
   pub returned : List Answer
   pub up_to : AllByRecursion (AnswersUpTo step) returned
@@ -65,7 +65,7 @@ pub record WritesUpTo (step : ℕ) (text : List ℕ) : Type 0 where
 abbrev pub AllWriteUpTo : ℕ → List Connection → Type 0
 AllWriteUpTo step cs = AllByRecursion (λ c. WritesUpTo step c.talk.bytes_written) cs
 
--- all that the desk of an instance told or showed is settled in what is left of it, whether or not a line closed it
+-- all that the desk of an instance replied or showed is settled in what is left of it, whether or not a line closed it
 abbrev pub ReturnedIsSettled : Type 0 → Type 0 → {V : Type 0} → (V → List Talk → V → Type 0) → Type 0
 ReturnedIsSettled D P {V} talked =
     (b : Basis D) (most : ℕ) (port : P) (v w : V) (desk : DeskState P) (left : Closed D) → IsOneHistory b desk left

@@ -1,4 +1,4 @@
--- What a server told over all the connections of its instances, in terms of its one history.
+-- What a server answered over all the connections of its instances, in terms of its one history.
 --
 -- Each answer follows from the first n settled steps of all instances, and n never falls: not along a connection, nor from
 -- one connection or one instance to the next. A view shows the world of the store after these n steps. A reply is the one
@@ -35,7 +35,7 @@ abbrev pub EachReads : {D V : Type 0} → World → List Step → List Step → 
 EachReads world settled before [] = Unit {0}
 EachReads world settled before (instance ∷ later) = (instance.left.base ≡ fold world before) × StartsWith settled (before ++ instance.desk.read) × EachReads world settled (before ++ instance.left.trail.items) later
 
--- all that instances from a world told over their connections follows from these settled steps
+-- all that instances from a world answered over their connections follows from these settled steps
 pub record AnswersFromOneHistory {D V : Type 0} (talked : V → List Talk → V → Type 0) (failed : V → V → Type 0) (world : World) (settled : List Step) (v : V) (instances : List (InstanceRun D V)) : Type 0 where
   pub connections : List Connection
   pub had : AreConnectionsOf talked failed v instances connections

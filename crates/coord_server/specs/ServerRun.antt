@@ -11,8 +11,8 @@
 -- `InstancesAreOne`, that steps and signals are numbered as one history, and `RunAnswersFromOneHistory`, that each reply and each
 -- view is that of a first part of it.
 --
--- `model` is the meaning of the disk. `talked` and `failed` say what those who call may do, and `most` how many steps an
--- instance has. `contents` are the bytes of an output, where they are known. `gives` says which signals a list of steps gives
+-- `model` is the meaning of the disk. `talked` and `failed` say what those who call may do. An instance ends after
+-- `most` steps. `contents` are the bytes of an output, where they are known. `gives` says which signals a list of steps gives
 -- out, by step, node and epoch.
 use Rattle.std.specs.Prelude.{◌≡◌, ⊤, ℕ, ◌+◌, ◌≤◌, List, Option, length}
 use Rattle.coord_disk.specs.Model.DiskModel.{DiskModel}
@@ -41,7 +41,7 @@ pub record ServerRun {D V W : Type 0} (model : DiskModel D) (talked : V → List
   pub along : KeepsAlong model store (all_steps instances) ended.closed.store
   -- what was printed
   pub printed : IsPrinted contents (gives (first_settled store.world (all_steps instances) ended.closed.settled)) printer ended.printer
-  -- what is told of its end
+  -- why it returns a fault
   pub cause : HasFaultForCause most ended
 
 -- a run over a store, with instances of the usual length

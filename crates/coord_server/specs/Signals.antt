@@ -1,4 +1,4 @@
--- The signals that a server may tell of: those that the steps of its history give out.
+-- The signals that a server may print: those that the steps of its history give out.
 use Rattle.std.specs.Prelude.{◌≡◌, ℕ, List}
 use Rattle.atomic_table.specs.Seated.{TableId}
 use Rattle.coord_types.specs.declared.steps.Step.{Step}
@@ -10,6 +10,6 @@ pub record StepSignal : Type 0 where
   pub node : ℕ
   pub epoch : ℕ
 
--- who has read this beginning of a history may tell of a signal that its steps give out. `gives`: which signals some steps give out, by step, node and epoch
+-- who has read this beginning of a history may print a signal that its steps give out. `gives`: which signals some steps give out, by step, node and epoch
 abbrev pub MaySignal : TableId → (List Step → ℕ → ℕ → ℕ → Type 0) → Beginning → ℕ → ℕ → ℕ → Type 0
 MaySignal history gives read step node epoch = (read.history ≡ history) × gives read.steps step node epoch

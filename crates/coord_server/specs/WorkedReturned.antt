@@ -1,4 +1,4 @@
--- What answers tell, worked out.
+-- Which steps answers name, worked out.
 use Rattle.std.specs.List.{AllByRecursion}
 use Rattle.std.specs.Prelude.{ℕ, List, [], ◌∷◌, codes}
 use Rattle.coord_types.specs.declared.steps.Kind.TheVariants.{Started}
@@ -16,7 +16,7 @@ third_line = codes "{\"kind\":\"started\",\"step\":3}\n"
 abbrev pub third_world : Answer
 third_world = Shown (record { accepted = 5; settled = 3; nodes = []; links = [] })
 
--- they tell of no step after the third, and not of the first two alone; whoever reads the line alone knows it too
+-- they name no step after the third, and not the first two alone; whoever reads the line alone knows it too
 pub record ReturnUpToThird : Type 0 where
   pub returned : AllByRecursion (AnswersUpTo 3) (third_reply ∷ third_world ∷ Closed ∷ [])
   pub written : WritesUpTo 3 third_line

@@ -1,10 +1,10 @@
 //! A desk over an engine.
 
-ghost use Rattle.std.specs.Prelude.{◌≡◌, [], IfOk};
+ghost use Rattle.std.specs.Prelude.{◌≡◌, [], IfOk, Ok};
 ghost use Rattle.coord_types.specs.declared.refusals.Refusal.TheVariants.{OutOfMemory};
 ghost use Rattle.coord_engine.specs.Released.{HasReadSettled};
 ghost use Rattle.coord_engine.specs.State.{based_on};
-ghost use Rattle.coord_server.specs.EngineDesk.{HandsAgain, IsReadIn, Replies, Resends, read_in};
+ghost use Rattle.coord_server.specs.EngineDesk.{HandsAgain, IsReadIn, Replies, Resends, ShowsTo, read_in, without_ticket};
 
 use coord_admin::Desk;
 use coord_disk::Disk;
@@ -25,7 +25,7 @@ pub struct EngineDesk<'a, D: Disk, L: Origin, P: Port, R: Wait> {
     port: P,
     share: Share<L>,
     seen: Seen,
-    /// Has read the settled steps of which the desk told.
+    /// Has read the settled steps by which the desk has answered.
     reader: LogPrefix,
 }
 
@@ -85,8 +85,8 @@ impl<'a, D: Disk, L: Origin, P: Port + Drop, R: Wait> EngineDesk<'a, D, L, P, R>
     }
 }
 
-/// Wakes the flusher, and waits for the reply to a step. A reader reads on.
-fn collect<D: Disk, L: Origin, R: Wait>(
+/// Returns the reply to a step that was posted, or why there is none. A reader reads on.
+fn reply_to<D: Disk, L: Origin, R: Wait>(
     rt: &R,
     engine: &Engine<D, L>,
     posted: Result<Ticket, Refusal>,
@@ -97,15 +97,56 @@ fn collect<D: Disk, L: Origin, R: Wait>(
         (read_in L.earlier reader.old) (read_in L.earlier reader.new) }
     ensures read { IsReadIn L.history L.earlier reader.new }
 {
-    let ticket = posted?;
+    match posted {
+        Ok(ticket) => collect(rt, engine, ticket, reader),
+        Err(refusal) => Err(refusal),
+    }
+}
+
+/// Wakes the flusher, and waits for the reply to a step that was accepted. A reader reads on.
+#[tactic(auto, using(crate::proofs::Reading::read_collected))]
+fn collect<D: Disk, L: Origin, R: Wait>(
+    rt: &R,
+    engine: &Engine<D, L>,
+    ticket: Ticket,
+    reader: &mut LogPrefix,
+) -> Result<Reply, Refusal>
+    requires { IsReadIn L.history L.earlier reader.old }
+    ensures replied { Replies (based_on D.model L.base L.before) (Ok ticket) result
+        (read_in L.earlier reader.old) (read_in L.earlier reader.new) }
+    ensures read { IsReadIn L.history L.earlier reader.new }
+{
     engine.wake_flusher(rt);
-    match engine.collect(rt, ticket, reader) {
+    without_ticket(engine.collect(rt, ticket, reader))
+}
+
+/// Returns what was answered to a ticket, and forgets the ticket if it came back.
+fn without_ticket(answer: Result<Reply, (Refusal, Ticket)>) -> Result<Reply, Refusal>
+    ensures { result ≡ without_ticket answer }
+{
+    match answer {
         Ok(reply) => Ok(reply),
         Err((refusal, ticket)) => {
             ticket.forget();
             Err(refusal)
         }
     }
+}
+
+/// Shows the settled world to a caller that has seen so much of it. A reader reads on.
+#[tactic(auto, using(crate::proofs::Reading::shows_to, crate::proofs::Reading::read_shown))]
+fn show<D: Disk, L: Origin, R: Wait>(
+    rt: &R,
+    engine: &Engine<D, L>,
+    seen: &mut Seen,
+    reader: &mut LogPrefix,
+) -> Result<View, Refusal>
+    requires { IsReadIn L.history L.earlier reader.old }
+    ensures shown { ShowsTo (based_on D.model L.base L.before) result seen.old seen.new
+        (read_in L.earlier reader.old) (read_in L.earlier reader.new) }
+    ensures read { IsReadIn L.history L.earlier reader.new }
+{
+    engine.show(rt, seen, reader)
 }
 
 /// Hands to a port again what may have been lost, and answers how many packets that are.
@@ -155,13 +196,13 @@ impl<'a, D: Disk, L: Origin, P: Port, R: Wait> Desk for EngineDesk<'a, D, L, P, 
     }
 
     fn reply(&mut self, posted: Result<Ticket, Refusal>) -> Result<Reply, Refusal> {
-        let reply = collect(self.rt, self.engine, posted, &mut self.reader)?;
+        let reply = reply_to(self.rt, self.engine, posted, &mut self.reader)?;
         self.seen.note(reply.step);
         Ok(reply)
     }
 
     fn show(&mut self) -> Result<View, Refusal> {
-        self.engine.show(self.rt, &mut self.seen, &mut self.reader)
+        show(self.rt, self.engine, &mut self.seen, &mut self.reader)
     }
 
     fn resend(&mut self) -> Result<u64, Refusal>

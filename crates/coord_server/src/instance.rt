@@ -85,7 +85,7 @@ pub struct Instance<D: Disk, C> {
     pub left: InstanceEnd,
 }
 
-/// Serves a ledger's store to those who call, until a line closes it or the instance is old, and gives back
+/// Serves a ledger's store to those who call, until a line closes it or the instance is old, and returns
 /// what is left of the engine, in any case. What was accepted is settled first. The first instance opens the
 /// output.
 ///

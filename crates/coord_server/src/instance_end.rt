@@ -9,7 +9,7 @@ pub enum InstanceEnd {
     Resting,
     /// The instance is old, and there was no memory to begin the next one.
     Unfollowed,
-    /// The first line was not printed, so nobody was served. What prints tells why.
+    /// The first line was not printed, so nobody was served. What prints says why.
     Unprinted,
     /// The server ends, by a close or by this fault.
     Ended(Option<ServerFault>),

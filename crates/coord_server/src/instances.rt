@@ -30,25 +30,25 @@ use std::thread;
 use std::thread::{PromisedHandle, Scope, Threads};
 use std::time::Clock;
 
-/// Serves a store to those who call, one after the other, until a line closes it, and gives back
-/// what is left of the engine of its last instance.
+/// Serves a store to those who call, one after the other, until a line closes it, and returns what is left of
+/// the engine of its last instance.
 ///
 /// In each instance a flusher and the workers run. In the first one, once all threads run, `listening`
-/// and the address is printed. Then what a crash or the end of the instance before may have lost is sent
-/// again, and those who call are served. A thread prints each signal that is released as a line, in
-/// order, from a channel without bound: an output that is slow holds up nothing else. Where a line
-/// can't be printed, no more are, and the server goes on: a signal that was not printed is told by
-/// the epochs that are shown. An instance ends between two connections once its engine keeps `most`
-/// steps; a connection is ended after a reply once it keeps twice as many. Then, by a close or
-/// after a fault, all that was accepted is settled, the flusher ends, then the workers, and at the
-/// last end what is left is printed, however long the output takes it.
+/// and the address is printed. Then packets that a crash or the end of the previous instance may have lost are
+/// sent again, and those who call are served. A thread prints each signal that is released as a line, in
+/// order, from a channel without bound: a slow output delays nothing else. If a line can't be printed, no
+/// more are, and the server goes on: the epochs that it shows report signals that were not printed. An
+/// instance ends between two connections once its engine keeps `most` steps; a connection is ended after a
+/// reply once it keeps twice as many. At the end of each instance, after a close or a fault too, all that was
+/// accepted is settled, the flusher ends, and then the workers. At the last end the signals that are left are
+/// printed, however long the output takes.
 ///
 /// It prints the address and signals of the history that `O` names, which is new and which it writes. Its
 /// printer can't print anything else, also if the server never returns.
 ///
-/// The server's end tells what ended it, out of memory or of a thread for an instance too, or of the thread
-/// that prints. Only where there was no memory to begin with there is no end: then the store and what
-/// prints come back as they were, and nobody was served.
+/// The server's end says what ended it, also if there was no memory or no thread for an instance, or no thread
+/// that prints. Only if there is no memory to begin with, the store and the printer are returned as they
+/// were, and nobody was served.
 pub fn serve_instances<
     D: Disk + Send,
     C: Callers + Drop,
@@ -202,7 +202,7 @@ fn print_and_live<
 }
 
 /// Runs one instance after the other, each with the store and the callers that the one before left, and
-/// gives back the last. The first one opens the output: where no thread prints, it ends by that.
+/// returns the last. The first one opens the output: if no thread prints, it ends by that.
 fn live<
     D: Disk + Send,
     C: Callers + Drop,
@@ -322,7 +322,7 @@ fn next_of<D: Disk, C, O: SignalSource, R: Wait>(
 }
 
 /// How a server ended, by its last instance. One that rests is the last only where it can't go on, as over a
-/// store that has stopped. Where the first line was not printed, what printed tells why. The steps of all
+/// store that has stopped. If the first line was not printed, what printed says why. The steps of all
 /// signals that were printed are among those that all instances have written.
 fn end_of<D: Disk, C, W: Write>(
     history: &MonotoneLog,

@@ -21,10 +21,9 @@ pub fn instances_are_one<D: Disk, C: Callers>()
     ensures { (most : ℕ) → InstancesAreOne D.model C.talked C.failed most }
 {}
 
-/// An order that is told a reply was noted just then, with the number and the kind that it is told, or
-/// it repeats one. The log of that instance had the step at that number, settled, and answered it with the kind that
-/// it is told, or the base kept that reply for it. What a desk has noted stands in the trail of its
-/// instance, each note at its number.
+/// An order that gets a reply was just noted, with the number and the kind of the reply, or it repeats one. The
+/// log of that instance had the step at that number, settled, and answered it with that kind; or the base kept
+/// that reply for it. A desk's notes stand in the trail of its instance, each at its number.
 pub fn replies_name_steps<D: Disk>()
     ensures { RepliesNameSteps D }
 {}
@@ -35,20 +34,20 @@ pub fn notes_are_replies<D: Disk, P: Port>()
     ensures { NotesAreReplies D P }
 {}
 
-/// All that the desk of an instance told or showed, over each connection that ended, is settled in what is
+/// All that the desk of an instance replied or showed, over each connection that ended, is settled in what is
 /// left: no reply has a greater number, and no world that was shown counts more steps as settled.
 pub fn returned_is_settled<D: Disk, C: Callers, P: Port>()
     ensures { ReturnedIsSettled D P C.talked }
 {}
 
-/// What the desk of an instance told or showed, over one connection after the other, is borne out by the
+/// What the desk of an instance replied or showed, over one connection after the other, follows from the
 /// settled steps that it had read then: a reply is that of the order's own step, and a view that of the
 /// world after them. None goes back after those of an answer before.
 pub fn answered_in_order<D: Disk, C: Callers, P: Port>()
     ensures { AnsweredInOrder D P C.talked }
 {}
 
-/// All that a server told over the connections of its instances follows from the first n settled steps of its
+/// All that a server answered over the connections of its instances follows from the first n settled steps of its
 /// one history, and n never falls, from one connection or one instance to the next either. A view shows the
 /// world of the store after these n steps.
 pub fn run_answers_from_one_history<D: Disk, C: Callers, W: Write, O: SignalSource>()
@@ -63,8 +62,7 @@ pub fn printed_between<D: Disk, C: Callers, W: Write>()
     ensures { PrintedBetween D.model C.talked C.failed W.contents }
 {}
 
-/// The reply to the third step and a world with three settled steps tell of three steps, and not of
-/// two. So does the line of that reply, as a client reads it.
+/// The reply to the third step and a world with three settled steps name three steps, and not two. So does the line of that reply, as a client reads it.
 pub fn return_up_to_third()
     ensures { ReturnUpToThird }
 {}

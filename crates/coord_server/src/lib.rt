@@ -26,6 +26,7 @@ mod server_end;
 mod serving;
 mod setting;
 mod signal;
+mod signal_line;
 mod threads;
 
 pub use desk::EngineDesk;

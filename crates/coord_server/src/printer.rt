@@ -8,6 +8,7 @@ ghost use Rattle.coord_lines.specs.Written.{WritesFirstPart};
 ghost use Rattle.coord_server.specs.Printed.{BreaksIn, IsOfPrinting, listening_line, new_printer, signal_line, with_lost};
 
 use crate::last_line::LastLine;
+use crate::signal_line::signal_line;
 use crate::{ServerFault, Signal, SignalSource};
 use coord_lines::write_whole;
 use coord_types::NodeId;
@@ -30,8 +31,7 @@ pub struct Printer<W: Write> {
     alloc: Global,
     output: W,
     is_broken: bool,
-    /// How many signals were lost, since there was no memory for their lines, or they did not come
-    /// after the last one.
+    /// How many signals were not printed, because they did not come after the last one.
     lost: u64,
     last: LastLine,
 }
@@ -70,7 +70,7 @@ impl<W: Write> Printer<W> {
             (self.new.lost ≡ self.old.lost) }
         ensures broken { self.old.is_broken ≡ true → (result ≡ false) × (self.new ≡ self.old) }
         ensures failed { result ≡ false → self.new.is_broken ≡ false →
-            self.new ≡ with_lost self.old }
+            (is_next self.old.last step node ≡ false) × (self.new ≡ with_lost self.old) }
         ensures torn { self.old.is_broken ≡ false → self.new.is_broken ≡ true →
             (is_next self.old.last step node ≡ true) ×
             BreaksIn W.contents self.old (signal_line node epoch) self.new }
@@ -82,12 +82,7 @@ impl<W: Write> Printer<W> {
             self.lose();
             return false;
         }
-        let number = node.number();
-        let Ok(line) = format!(in self.alloc; "signal {number} {epoch}\n") else {
-            self.lose();
-            return false;
-        };
-        match self.print(&line) {
+        match self.print(signal_line(node, epoch).as_str()) {
             Ok(()) => {
                 self.last = self.last.then(step, node);
                 true
@@ -184,8 +179,8 @@ impl<W: Write, O: SignalSource> SignalPrinter<W, O> {
     }
 
     /// Prints `signal N EPOCH`: a step has ended a reset at node N. Returns whether the line was written.
-    /// If not, and the output has not failed, the signal was not next in order, or there was no memory for
-    /// the line: no part of it was written, and the signal counts as lost.
+    /// If not, the output has failed, or the signal did not come after the last one: then no part of its line
+    /// was written, and the signal counts as lost.
     pub fn print_signal(&mut self, signal: &Signal<O>) -> bool
         ensures written { result ≡ true →
             Appends (W.contents self.old.output) (W.contents self.new.output)
@@ -197,7 +192,8 @@ impl<W: Write, O: SignalSource> SignalPrinter<W, O> {
             (self.new.lost ≡ self.old.lost) }
         ensures broken { self.old.is_broken ≡ true → (result ≡ false) × (self.new ≡ self.old) }
         ensures failed { result ≡ false → self.new.is_broken ≡ false →
-            self.new ≡ with_lost self.old }
+            (is_next self.old.last signal.now.step signal.now.node ≡ false) ×
+            (self.new ≡ with_lost self.old) }
         ensures torn { self.old.is_broken ≡ false → self.new.is_broken ≡ true →
             (is_next self.old.last signal.now.step signal.now.node ≡ true) ×
             BreaksIn W.contents self.old (signal_line signal.now.node signal.now.epoch) self.new }

@@ -28,8 +28,7 @@ pub struct Printed<W: Write> {
 }
 
 /// Prints the signals that come, in their order, up to the last one or to a line that could not be
-/// written. A signal for whose line there is no memory is lost, and so is one that does not come after
-/// the last one.
+/// written. A signal that does not come after the last one is lost.
 #[tactic(auto, using(crate::proofs::Starts::returned_none))]
 pub fn print_signals<W: Write, O: SignalSource, I: Iterator<Item = Signal<O>>>(
     history: &MonotoneLog,
@@ -67,7 +66,7 @@ pub fn print_signals<W: Write, O: SignalSource, I: Iterator<Item = Signal<O>>>(
     }
 }
 
-/// Asks the thread that prints for the first line, and hears once that is printed.
+/// Asks the thread that prints for the first line, and waits until that is printed.
 #[derive(Drop)]
 pub struct Opening {
     to: Option<Sender<SocketAddr>>,
@@ -134,7 +133,7 @@ pub struct Printing<W: Write + Drop, O: SignalSource> {
 
 #[tactic(auto, using(crate::proofs::Starts::printed_none))]
 impl<W: Write + Drop, O: SignalSource> Printing<W, O> {
-    /// Prints the address that comes, and then the signals that come, and gives back what printed. No
+    /// Prints the address that comes, and then the signals that come, and returns what printed. No
     /// clause can say what comes over a channel but what the type of a signal says.
     pub fn print<R: Wait>(self, rt: &R) -> Printed<W>
         ensures printed { IsPrinted W.contents (O.gives result.reader.steps)

@@ -23,8 +23,8 @@ pub struct ServerEnd<D: Disk, C, W: Write> {
 }
 
 impl<D: Disk, C, W: Write> ServerEnd<D, C, W> {
-    /// The one fault to tell: a stopped store first, then what ended the serving, then an output that
-    /// failed, or has the signal of a step that is not settled: no signal comes to it before that. None
+    /// Returns the one fault to report: a stopped store first, then what ended the serving, then an output that
+    /// failed, or that has the signal of a step that is not settled: no signal comes to it before that. None
     /// if the server was closed and nothing failed.
     pub fn fault(&self) -> Option<ServerFault>
         ensures { result ≡ fault_at_end
@@ -41,7 +41,7 @@ impl<D: Disk, C, W: Write> ServerEnd<D, C, W> {
         }
     }
 
-    /// Whether a line could not be written, or a signal was printed of a step that is not settled.
+    /// Tests whether a line could not be written, or a signal was printed of a step that is not settled.
     fn is_amiss(&self) -> bool
         ensures { result ≡ is_amiss self.now.printer self.now.closed.settled }
     {
@@ -50,8 +50,8 @@ impl<D: Disk, C, W: Write> ServerEnd<D, C, W> {
 }
 
 impl<D: Disk, C: Callers + Drop, W: Write + Drop> ServerEnd<D, C, W> {
-    /// What is left of its last engine, or the fault to tell and what is left all the same; and what
-    /// printed. No fault is told of a server only where a line closed it and its store has not stopped.
+    /// Returns what is left of the last engine, beside the fault to report if there is one; and what printed.
+    /// There is no fault only if a line closed the server and its store has not stopped.
     pub fn into_closed(self) -> (Result<Closed<D>, (ServerFault, Closed<D>)>, Printer<W>)
         ensures closed { IfOk result.0 (λ closed. (closed ≡ self.closed) ×
             (fault_at_end (has_stopped self.closed.store) self.served

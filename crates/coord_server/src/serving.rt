@@ -28,9 +28,9 @@ use std::time::Clock;
 pub const INSTANCE_STEPS: usize = 262_144;
 
 /// Serves a store to the connections of a listener, one after the other, until a line closes it, and
-/// gives back what is left of the engine of its last instance. It is `serve_callers` over these
+/// returns what is left of the engine of its last instance. It is `serve_callers` over these
 /// connections, with the usual timeouts. The history is new, and `O` names it. If there is no memory to
-/// begin, the store and what prints are returned as they were.
+/// begin, the store and the printer are returned as they were.
 ///
 /// A server that never returns has no postcondition. But whatever it does and wherever it stops, it writes
 /// the disk only by commits of its store, and the output only by its printer's calls: its type says so,
@@ -98,9 +98,9 @@ fn serve_accepted<
     serve_callers(rt, alloc, store, callers, printer, written)
 }
 
-/// Serves a store to those who call, one after the other, until a line closes it, and gives back
-/// what is left of the engine of its last instance. It is `serve_instances` with `INSTANCE_STEPS`. Where there is no
-/// memory to begin with, the store and what prints come back as they were.
+/// Serves a store to those who call, one after the other, until a line closes it, and returns what is left of
+/// the engine of its last instance. It is `serve_instances` with `INSTANCE_STEPS`. If there is no memory to
+/// begin, the store and the printer are returned as they were.
 pub fn serve_callers<
     D: Disk + Send,
     C: Callers + Drop,

@@ -7,8 +7,7 @@ use coord_engine::LogPrefix;
 use coord_types::NodeId;
 use std::marker::{Brand, Model, PhantomData};
 
-/// Names a server by its history: the signals that it tells of are those that the steps give out which are
-/// settled there.
+/// Names a server by its history: it prints only signals that the settled steps there give out.
 ///
 /// A port and an output are made in code that is generic over this name and called with `Brand`, which
 /// picks the history of the server at hand, and what its steps give out.
@@ -41,8 +40,8 @@ impl SignalSource for Brand {
 }
 
 /// The step with this number has ended a reset at this node, and this epoch has begun. Its type keeps
-/// that the server which `O` names may tell so, since the step is among the settled ones that the reader has
-/// read: it is known of each that comes over a channel.
+/// that the server which `O` names may print it, since the step is among the settled ones that the reader has
+/// read: that is known of each signal that comes over a channel.
 #[derive(Drop)]
 pub struct Signal<O: SignalSource> {
     reader: LogPrefix,
@@ -63,7 +62,7 @@ impl<O: SignalSource> Model for Signal<O> {
 }
 
 impl<O: SignalSource> Signal<O> {
-    /// One that may be told.
+    /// Returns a signal that may be printed.
     pub fn new(reader: LogPrefix, step: u64, node: NodeId, epoch: u64) -> Self
         requires { MaySignal O.history O.gives reader step node epoch }
         ensures { result ≡ record { step = step; node = node; epoch = epoch } }

@@ -47,7 +47,7 @@ pub struct Begun<L: Origin> {
 }
 
 /// What they leave once all have ended: all shares, the desk's first, what the desk has seen, and what
-/// has read the steps of which it told.
+/// has read the steps by which it has answered.
 #[derive(Drop)]
 pub struct JoinedThreads<L: Count, C> {
     pub shares: Vec<Share<L>>,

@@ -28,7 +28,7 @@ use Rattle.coord_engine.proofs.Histories.{first_of_first}
 use Rattle.coord_engine.specs.Facade.{StartsWith, first_settled}
 use Rattle.coord_server.proofs.RunReturned.{leads, run_answers_from_one_history}
 use Rattle.coord_server.specs.InOrder.{AllInOrder, BearOut, GoOn, IsBorneOut, Returned}
-use Rattle.coord_server.specs.Lives.{all_steps}
+use Rattle.coord_server.specs.Instances.{all_steps}
 use Rattle.coord_serving_members.specs.Server.{AreReadIn, IsLookAt, NoMixOverAServer, returned_over}
 
 -- ---- answers, one after the other
@@ -157,7 +157,7 @@ module _ (world : World) (settled : List Step) (returned : List Returned) (sound
 
 pub no_mix_over_a_server : {D V W : Type 0} (m : DiskModel D) (talked : V → List Talk → V → Type 0) (failed : V → V → Type 0) (contents : W → Option (List ℕ)) (gives : List Step → ℕ → ℕ → ℕ → Type 0) → NoMixOverAServer m talked failed contents gives
 no_mix_over_a_server m talked failed contents gives most store v printer ended run =
-    let steps = all_steps run.lives in
+    let steps = all_steps run.instances in
     let settled = first_settled store.world steps ended.closed.settled in
     let is = run_answers_from_one_history m talked failed contents gives most store v printer ended run in
     let returned = returned_over store.world [] is.connections settled is.returned in

@@ -15,7 +15,7 @@ use Rattle.coord_admin.specs.Connections.{Connection, Talk}
 use Rattle.coord_admin.specs.declared.answer.Answer.TheVariants as answer
 use Rattle.coord_engine.specs.Facade.{first_settled}
 use Rattle.coord_server.specs.InOrder.{AllInOrder, Returned}
-use Rattle.coord_server.specs.Lives.{all_steps}
+use Rattle.coord_server.specs.Instances.{all_steps}
 use Rattle.coord_server.specs.Printed.{PrinterState}
 use Rattle.coord_server.specs.RunReturned.{AnswersFromOneHistory}
 use Rattle.coord_server.specs.ServerRun.{ServerRun}
@@ -44,6 +44,6 @@ AreReadIn returned last (_ ∷ looks) = AreReadIn returned last looks
 abbrev pub NoMixOverAServer : {D V W : Type 0} → DiskModel D → (V → List Talk → V → Type 0) → (V → V → Type 0) → (W → Option (List ℕ)) → (List Step → ℕ → ℕ → ℕ → Type 0) → Type 0
 NoMixOverAServer {D} {V} {W} model talked failed contents gives =
     (most : ℕ) (store : Kept D) (v : V) (printer : PrinterState W) (ended : ServerEnd D V W) → (run : ServerRun model talked failed most contents gives store v printer ended)
-    → let settled = first_settled store.world (all_steps run.lives) ended.closed.settled in
-    (is : AnswersFromOneHistory talked failed store.world settled v run.lives)
+    → let settled = first_settled store.world (all_steps run.instances) ended.closed.settled in
+    (is : AnswersFromOneHistory talked failed store.world settled v run.instances)
     × ((looks : List member.Event) → AreReadIn (returned_over store.world [] is.connections settled is.returned) (λ i. 0) looks → IsUnmixed (member.run member.new_world looks))

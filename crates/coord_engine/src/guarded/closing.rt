@@ -90,7 +90,7 @@ impl<D: Disk, L: Origin> Guarded<D, L> {
 
     /// Takes the ledger apart, where no flight is out, all shares are there, what callers have seen is
     /// settled, and what the shares noted is what was accepted since the start, with the kinds of the
-    /// replies. It gives back what writes the history too, which has written the settled steps. It takes
+    /// replies. It returns what writes the history too, which has written the settled steps. It takes
     /// no memory.
     pub fn close(
         self,

@@ -10,7 +10,7 @@ ghost use Rattle.coord_ledger.specs.ledger.Flights.{IsOut};
 ghost use Rattle.coord_ledger.specs.machine.After.{resent};
 ghost use Rattle.coord_ledger.specs.machine.Log.{pending, settled_steps, settled_world};
 
-use super::Guarded;
+use super::{Guarded, PendingWake};
 use crate::{LogAuthority, MonotoneLog, Origin, OwnFlight, Released};
 use coord_disk::Disk;
 use coord_ledger::Ledger;
@@ -79,18 +79,18 @@ impl<D: Disk, L: Origin> Guarded<D, L> {
     }
 
     /// Takes the flight that is out back, as the ledger does. What it releases has read the settled
-    /// steps, its own among them.
+    /// steps, its own among them. Whoever waits has to be woken: for a reply, or since the ledger has stopped.
     pub fn end(
         &mut self,
         history: &MonotoneLog,
         flight: OwnFlight<D, L>,
-    ) -> Result<Released<L>, (Refusal, OwnFlight<D, L>)>
+    ) -> Result<(Released<L>, PendingWake), (Refusal, OwnFlight<D, L>)>
         requires here { history.now ≡ L.history }
         ensures own { OnOk result (IsOut self.old.ledger flight) }
         ensures taken { OnOk result (self.new ≡
             with_ledger self.old (taken_back self.old.ledger
             (length flight.steps) flight.mark flight.disk)) }
-        ensures released { IfOk result (λ releases. releases ≡ releases_in flight flight.mark) }
+        ensures released { IfOk result (λ back. back.0 ≡ releases_in flight flight.mark) }
         ensures refused { IfErr result (λ refused. RefusesFlight self.old.ledger flight refused.0) }
         ensures back { IfErr result (λ refused. refused.1 ≡ flight) }
         ensures unchanged { OnErr result (self.new ≡ self.old) }
@@ -104,7 +104,8 @@ impl<D: Disk, L: Origin> Guarded<D, L> {
             Ok(releases) => {
                 self.writer.take_back(history, reader);
                 write_settled::<D, L>(&mut self.writer, history, &self.ledger);
-                Ok(Released::new(releases, self.writer.reader(history)))
+                let released = Released::new(releases, self.writer.reader(history));
+                Ok((released, PendingWake::new()))
             }
             Err((refusal, flight)) => Err((
                 refusal,

@@ -12,7 +12,7 @@ use coord_types::{Refusal, Step};
 
 impl<D: Disk, L: Origin> Guarded<D, L> {
     /// Accepts a step as the ledger does, and notes it in the caller's share. A repeat is not noted: it
-    /// is told from an accepted step by the length of the trail.
+    /// is distinguished from an accepted step by the length of the trail.
     ///
     /// Room for the note is taken first, so `OutOfMemory` may come before any other refusal. Then
     /// comes `Stopped`, also where the engine is finishing.

@@ -25,8 +25,8 @@ write_settled-requires-clause-on g c =
     let later = settled_steps c.end_flush.new.self.log in
     subst (λ (b : Beginning). StartsWith (g.L.Origin.earlier ++ later) b.steps) (sym (back.same ∙ inv.9)) (behind_both g.L.Origin.earlier later settled e.grown)
 
-pub new-requires : goal.new-requires
-new-requires g c =
+pub new-released-requires : goal.new-released-requires
+new-released-requires g c =
     let is = c.in-Ok.ensures in
     let later = settled_steps c.end_flush.new.self.log in
     let has_read = subst (λ (b : Beginning). HasReadSettled b.history g.L.Origin.earlier later c.write_settled.new.writer) (c.take_back.ensures.same ∙ c.self.invariant.9) c.write_settled.ensures in
