@@ -49,7 +49,7 @@ def copy_units(folder: str) -> None:
     write(f"{folder}/crates/units/c/waiting.c", WAITING)
     lines = [line.partition(":") for line in read(f"{folder}/crates.txt").splitlines() if line and not line.startswith("#")]
     own = [head.split()[0] for head, _, _ in lines if os.path.isfile(f"{folder}/crates/{head.split()[0]}/src/lib.rt")]
-    libraries = {word for _, _, below in lines for word in below.split()} | {name for name in own if name.startswith("coord_")}
+    libraries = {word for _, _, below in lines for word in below.split()} | {name for name in own if name.startswith(("coord_", "proxy_"))}
     write(f"{folder}/crates.txt", read(f"{folder}/crates.txt").rstrip("\n") + f"\nunits: {' '.join(sorted(libraries))}\n")
 
 

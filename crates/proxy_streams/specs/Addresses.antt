@@ -1,0 +1,10 @@
+-- Which address of the server is tried next, and after which pause.
+use Rattle.std.specs.Prelude.{ℕ, ◌+◌, ◌*◌, min, if◌then◌else◌, nat_lt}
+
+-- the index after this one, of `count` addresses; the first one after the last
+abbrev pub following : ℕ → ℕ → ℕ
+following count index = if nat_lt (index + 1) count then index + 1 else 0
+
+-- the pause after this one, in milliseconds: twice as long, and at most a second
+abbrev pub longer : ℕ → ℕ
+longer pause = min (pause * 2) 1000

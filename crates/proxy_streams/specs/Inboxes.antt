@@ -1,0 +1,36 @@
+-- The bytes that came from a client and have not been taken as lines.
+use Rattle.std.specs.Prelude.{◌≡◌, ℕ, ◌||◌, Bool, false, List, [], Option, Some, None, if◌then◌else◌, is_some}
+use Rattle.coord_lines.specs.Lines.{Line, extended, before_line_feed, behind_line_feed}
+
+pub record Inbox : Type 0 where
+  pub line : Line  -- so far; None if it is over the limit
+  pub is_whole : Bool  -- its line feed has come
+  pub rest : List ℕ  -- the bytes after it
+
+abbrev pub new_inbox : Inbox
+new_inbox = record { line = Some []; is_whole = false; rest = [] }
+
+-- a whole line has come
+abbrev pub has_line : Inbox → Bool
+has_line i = i.is_whole || is_some (behind_line_feed i.rest)
+
+abbrev pub behind : Option (List ℕ) → List ℕ
+behind None = []
+behind (Some more) = more
+
+-- the line continues up to the next line feed, or to the last byte
+abbrev pub with_line : Inbox → Inbox
+with_line i =
+    if i.is_whole then i
+    else record { line = extended i.line (before_line_feed i.rest); is_whole = is_some (behind_line_feed i.rest); rest = behind (behind_line_feed i.rest) }
+
+-- the next line begins
+abbrev pub after_line : Inbox → Inbox
+after_line i = record { line = Some []; is_whole = false; rest = i.rest }
+
+-- all that came is in the line, which is not whole
+abbrev pub IsDrained : Inbox → Type 0
+IsDrained i = (i.is_whole ≡ false) × (i.rest ≡ [])
+
+abbrev pub filled : List ℕ → Inbox → Inbox
+filled bytes i = record { line = i.line; is_whole = i.is_whole; rest = bytes }

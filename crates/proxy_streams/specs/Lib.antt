@@ -1,0 +1,4 @@
+pub mod Addresses
+pub mod ServerLines
+pub mod Inboxes
+pub mod NumberSearches
