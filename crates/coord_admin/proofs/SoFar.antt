@@ -1,4 +1,4 @@
--- What was read so far: its lines have replies or await them; and what more makes of it.
+-- The input read so far: its lines have replies or await them; and the effect of more input.
 use Rattle.std.proofs.Common.{◌≡◌, ℕ, List, [], ◌++◌, Result, Err, IsErrAnd, sym, ap, ◌∙◌, take, append_assoc, append-nil}
 use Rattle.std.proofs.lemmas.Result.{err_from_is_err_and}
 use Rattle.coord_lines.specs.Lines.{Line, lines_of, lines_on}
@@ -14,7 +14,7 @@ use Rattle.coord_admin.proofs.Pieces.{goes-all, goes-broken, goes-on}
 use Rattle.coord_admin.proofs.Stream.{InTurn, breaks-behind, closes-behind, heard-on, no-more, still, returned-all, returned-on}
 
 module _ {D P : Type 0} (answers : D → Request → Answer → D → Type 0) (posts : D → Request → P → D → Type 0) {C : Type 0} (exchanged : C → List ℕ → List ℕ → C → Type 0) where
-  -- the lines that have ended in what was seen have replies, or were posted and await them
+  -- the complete lines of the input have replies, or were posted and await them
   abbrev pub SoFar : D → C → List ℕ → Line → List P → D → C → Type 0
   SoFar d a seen line posted e b =
       (lines : List Line) × (returned : List Answer) × GoesOn answers posts d lines returned posted e × exchanged a seen (reply_lines returned) b × ((more : List ℕ) → lines_of (seen ++ more) ≡ lines ++ lines_on line more)
@@ -72,7 +72,7 @@ module _ {D P : Type 0} (answers : D → Request → Answer → D → Type 0) (p
           rw (ap lines_of (sym (append-nil seen)) ∙ s.4 []) (goes-broken answers posts d e h s.0 rest s.1 posted n.0 g (n.2 rest)),
         )
 
-    -- the lines of what was seen, with a piece more
+    -- the lines of the input, with one more piece
     lines-with : (d e : D) (a b : C) (seen bytes_read more : List ℕ) (line : Line) (posted : List P) → (s : SoFar d a seen line posted e b) → lines_of (seen ++ (bytes_read ++ more)) ≡ s.2.0 ++ (s.2.1 ++ lines_on line (bytes_read ++ more))
     lines-with d e a b seen bytes_read more line posted s = s.4 (bytes_read ++ more) ∙ ap (λ l. l ++ lines_on line (bytes_read ++ more)) s.2.3 ∙ append_assoc s.2.0 s.2.1 (lines_on line (bytes_read ++ more))
 

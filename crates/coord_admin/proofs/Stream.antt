@@ -1,4 +1,4 @@
--- What was served, where more is read.
+-- The served part of a stream, when more is read.
 use Rattle.std.proofs.Common.{◌≡◌, ◌≢◌, ◌⊎◌, ℕ, ◌<◌, ◌≤◌, Bool, true, false, List, [], ◌∷◌, ◌++◌, length, map, Some, Result, Ok, Err, IfOk, String, Global, string_bytes, refl, sym, ap, ◌∙◌, subst, append_assoc, append-nil, arith, take, drop, suc, get_or, ◌+◌, inl, inr}
 use Rattle.std.specs.List.{slice_split}
 use Rattle.std.proofs.Math.Seq.{take-suc}
@@ -53,16 +53,16 @@ first_part_of_two (p ∷ part) (x ∷ xs) ys h = by (first_part_of_two part xs y
     by (inl part_of) = inl (part_of.0, let e = part_of.1 in let f = heads in cc)
     by (inr on) = inr (on.0, (let e = on.1 in let f = heads in cc), on.2)
 
--- ---- what is told of an answer
+-- ---- the text of an answer
 
--- one more is told
+-- one more is written
 pub written-on : (answers returned : List Answer) (answer a : Answer) → AreWritten answers returned → IsWritten answer a → AreWritten (answers ++ answer ∷ []) (returned ++ a ∷ [])
 written-on [] [] answer a w one = (one, tt)
 written-on [] (t ∷ returned) answer a w one = absurd w
 written-on (x ∷ answers) [] answer a w one = absurd w
 written-on (x ∷ answers) (t ∷ returned) answer a w one = (w.0, written-on answers returned answer a w.1 one)
 
--- the next one of them is told
+-- the next one of them is written
 pub written-next : (answers returned : List Answer) (answer a : Answer) (i : ℕ) → i < length answers → answer ≡ get_or answers i answer → AreWritten (take i answers) returned → IsWritten answer a → AreWritten (take (i + 1) answers) (returned ++ a ∷ [])
 written-next answers returned answer a i below is w one =
     let next : i + 1 ≡ suc i = omega arith in
@@ -73,7 +73,7 @@ written-next answers returned answer a i below is w one =
 pub all-taken : (answers : List Answer) (i : ℕ) → length answers ≤ i → take i answers ≡ answers
 all-taken answers i over = grind (arith, common_steps)
 
--- each may be told itself
+-- each may be written itself
 as_they_are : (answers : List Answer) → AreWritten answers answers
 as_they_are [] = tt
 as_they_are (x ∷ answers) = (inl refl, as_they_are answers)
@@ -98,7 +98,7 @@ text-on returned a out more text later line so_far is cut =
 pub part-at_end : (returned : List Answer) (out part text : List ℕ) → reply_lines returned ≡ out ++ text → IsFirstPart part text → IsFirstPart (out ++ part) (reply_lines returned)
 part-at_end returned out part text so_far p = (p.0, so_far ∙ ap (λ l. out ++ l) p.1 ∙ sym (append_assoc out part p.0))
 
--- a text with one more line was not written whole; what is told of the others is not known
+-- a text with one more line was not written whole; how much of the others was written is unknown
 pub part-within : (answers returned : List Answer) (a : Answer) (out part text line : List ℕ) (i : ℕ) → AreWritten (take (i + 1) answers) (returned ++ a ∷ []) → reply_lines returned ≡ out ++ text → line ≡ reply_line a → IsFirstPart part (text ++ line)
     → (all : List Answer) × AreWritten answers all × IsFirstPart (out ++ part) (reply_lines all)
 part-within answers returned a out part text line i w so_far is p =
@@ -140,7 +140,7 @@ module _ {D : Type 0} (answers : D → Request → Answer → D → Type 0) wher
   pub gets-returned : (d e : D) (line : Line) (answer returned : Answer) → Gets answers d line answer e → IsWritten answer returned → Gets answers d line returned e
   gets-returned d e line answer returned h1 h2 = grind arith
 
-  -- what is told of each answer
+  -- the text of each answer
   pub all-returned : (d e : D) (lines : List Line) (answered returned : List Answer) → AllGet answers d lines answered e → AreWritten answered returned → AllGet answers d lines returned e
   all-returned d e [] [] [] h w = h
   all-returned d e [] [] (t ∷ returned) h w = absurd w
@@ -234,7 +234,7 @@ module _ {D : Type 0} (answers : D → Request → Answer → D → Type 0) wher
   finishes-at d e seen line done returned within h lines = (returned, line, (done, last_line seen line done within lines, h), refl)
 
 module _ {D : Type 0} (answers : D → Request → Answer → D → Type 0) {C : Type 0} (exchanged : C → List ℕ → List ℕ → C → Type 0) where
-  -- what is told of an answer that was written
+  -- the text of a written answer
   pub returned-whole : (d e : D) (line : Line) (answer : Answer) (a b : C) (closed : Bool) → closed ≡ is_closed answer → Gets answers d line answer e → (returned : Answer) × IsWritten answer returned × exchanged a [] (reply_line returned) b
       → (returned : Answer) × (closed ≡ is_closed returned) × Gets answers d line returned e × exchanged a [] (reply_line returned) b
   returned-whole d e line answer a b closed is h w = (w.0, is ∙ sym (closed-returned answer w.0 w.1), gets-returned answers d e line answer w.0 h w.1, w.2)
@@ -243,7 +243,7 @@ module _ {D : Type 0} (answers : D → Request → Answer → D → Type 0) {C :
       → (returned : Answer) × Gets answers d line returned e × WritesPart exchanged a b (reply_line returned)
   returned-part d e line answer a b h w = (w.0, gets-returned answers d e line answer w.0 h w.1, w.2)
 
--- what is exchanged in turn adds up
+-- exchanges in turn add up
 abbrev pub InTurn : {C : Type 0} → (C → List ℕ → List ℕ → C → Type 0) → Type 0
 InTurn {C} exchanged = (a b c : C) (bytes_read more bytes_written later : List ℕ) → exchanged a bytes_read bytes_written b → exchanged b more later c → exchanged a (bytes_read ++ more) (bytes_written ++ later) c
 
@@ -279,13 +279,13 @@ module _ {D : Type 0} (answers : D → Request → Answer → D → Type 0) {C :
   broken-at d f e a b c bytes_read lines done left line returned h written same w =
       (reply_lines returned ++ w.2.0, returned-on exchanged turn a b c bytes_read (reply_lines returned) w.2.0 written w.2.1, (returned, line, [], left, f, e, w.0, [], w.2.0, (done, same, h), w.1, refl, inl refl, w.2.2, refl))
 
-  -- the stream has ended, but that could not be told
+  -- the stream has ended, but that could not be written
   pub broken-end : (d e : D) (a b c : C) (bytes_read seen : List ℕ) (line : Line) (done : List Line) (returned : List Answer) → IsWithin line → AllGet answers d done returned e → exchanged a bytes_read (reply_lines returned) b
       → ((more : List ℕ) → lines_of (seen ++ more) ≡ done ++ lines_on line more) → WritesPart exchanged b c (reply_line (Faulted Unfinished)) → (text : List ℕ) × exchanged a bytes_read text c × BreaksOff answers d (lines_of seen) text e
   broken-end d e a b c bytes_read seen line done returned within h written lines part =
       broken-at d e e a b c bytes_read (lines_of seen) done [] line returned h written (last_line answers seen line done within lines) (Faulted Unfinished, inr (refl, refl), part)
 
--- ---- what is told of an answer, as a line
+-- ---- the text of an answer, as a line
 
 pub returned-made : {E : Type 0} (answer is : Answer) (r : Result (String Global) E) (bytes : List ℕ) → answer ≡ is → takes_memory is ≡ true → IfOk r (λ text. string_bytes text ≡ reply_line is) → bytes ≡ made_bytes r → (returned : Answer) × IsWritten answer returned × (bytes ≡ reply_line returned)
 returned-made answer is (Ok text) bytes same takes h e = (is, inl (sym same), e ∙ h)

@@ -1,4 +1,4 @@
--- The queue of orders that were posted: what it holds, and what their replies make of it.
+-- The queue of posted orders: its content, and the effect of their replies on it.
 use Rattle.std.proofs.Common.{◌≡◌, ℕ, ◌<◌, ◌≤◌, true, List, [], ◌∷◌, ◌++◌, length, map, Result, Ok, refl, sym, ap, ◌∙◌, subst, append_assoc, arith}
 use Rattle.std.proofs.lemmas.List.{map-append}
 use Rattle.coord_types.specs.declared.limits.TheConstants.{MAX_BATCH_STEPS}
@@ -87,11 +87,11 @@ module _ {D P : Type 0} (answers : D → Request → Answer → D → Type 0) (p
   all-answered d e f lines posted results h replied =
       all-ordered answers d f lines h.0 results h.1 (answers_in_turn answers posts replies is_answered stays_apart d e f h.0 posted results h.2 replied)
 
-  -- all that was told of the orders that were posted was written
+  -- all replies to the posted orders were written
   pub whole-written : (d e f : D) (lines : List Line) (posted : List P) (results : List (Result Reply Refusal)) (returned : List Answer) → AwaitReplies posts d lines posted e → AllReplied replies e posted results f → AreWritten (map order_answer results) returned → AllGet answers d lines returned f
   whole-written d e f lines posted results returned h replied w = all-returned answers d f lines (map order_answer results) returned (all-answered d e f lines posted results h replied) w
 
-  -- a first part of what was told of the orders that were posted was written
+  -- a prefix of the replies to the posted orders was written
   pub part-written : (d e f : D) (lines : List Line) (posted : List P) (results : List (Result Reply Refusal)) (returned : List Answer) (part : List ℕ) → length posted ≤ MAX_BATCH_STEPS → 0 < length posted → AwaitReplies posts d lines posted e → AllReplied replies e posted results f
       → AreWritten (map order_answer results) returned → IsFirstPart part (reply_lines returned) → (left : List Line) → BreaksOff answers d (lines ++ left) part f
   part-written d e f [] posted results returned part few some h replied w is_part left = absurd (omega (arith, as-many posts d e [] h.0 posted h.1 h.2, some))

@@ -43,6 +43,8 @@ pub use halves::Halves;
 pub use laws::{
     counts_are_usual, posted_together_answered_in_turn, worked_replies, worked_requests,
 };
+pub use op::{identifier_at, number_at};
+pub use reading::{member_count, read_request};
 pub use request::Request;
 pub use session::{Ended, serve};
 pub use timed::TimedStream;

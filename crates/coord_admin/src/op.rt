@@ -97,13 +97,14 @@ impl Op {
 }
 
 /// Returns the whole number at a key: any u64.
-fn number_at(members: &Value, key: &str) -> Option<u64>
+pub fn number_at(members: &Value, key: &str) -> Option<u64>
     ensures { result ≡ number_at key.now (view members.now) }
 {
     members.get(key).and_then(Value::as_u64)
 }
 
-fn identifier_at<const MOST: u8>(members: &Value, key: &str) -> Option<Identifier<MOST>>
+/// Returns the identifier at a key; None unless a whole number from 1 to `MOST` is there.
+pub fn identifier_at<const MOST: u8>(members: &Value, key: &str) -> Option<Identifier<MOST>>
     ensures { result ≡ id_at key.now MOST (view members.now) }
 {
     let number = number_at(members, key)?;

@@ -47,7 +47,8 @@ fn read_text(alloc: Global, text: &str) -> Result<Request, LineFault>
     }
 }
 
-fn read_request(value: &Value) -> Result<Request, LineFault>
+/// Returns the request of a JSON value, or its fault.
+pub fn read_request(value: &Value) -> Result<Request, LineFault>
     ensures { result ≡ request_of (view value.now) }
 {
     let Some(name) = value.get("op").and_then(Value::as_str) else {
@@ -66,7 +67,7 @@ fn read_request(value: &Value) -> Result<Request, LineFault>
 }
 
 /// Returns the number of an object's members, 0 for any other value.
-fn member_count(value: &Value) -> usize
+pub fn member_count(value: &Value) -> usize
     ensures { result ≡ member_count (view value.now) }
 {
     match value.as_object() {

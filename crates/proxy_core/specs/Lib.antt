@@ -1,4 +1,5 @@
 pub mod Rules
+pub mod Judging
 pub mod Pending
 pub mod Held
 pub mod Machine

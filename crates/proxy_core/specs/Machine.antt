@@ -1,6 +1,6 @@
 -- The state of the proxy, and the state after each call.
 use Rattle.std.specs.Prelude.{ℕ, ◌+◌, ◌-◌, ◌==◌, ◌&&◌, ◌||◌, not, max, nat_le, nat_lt, Bool, true, false, List, [], ◌∷◌, ◌++◌, Option, Some, None, if◌then◌else◌, filter, count_by, length}
-use Rattle.std.specs.List.{list_all}
+use Rattle.std.specs.List.{list_all, list_any}
 use Rattle.proxy_core.specs.declared.choice.Kind.{Kind}
 use Rattle.proxy_core.specs.declared.choice.Kind.TheVariants.{Any, Alone, Queries, Orders}
 use Rattle.proxy_core.specs.declared.proxy.Admission.{Admission}
@@ -39,6 +39,13 @@ abbrev pub after_admission : Admission → Pending → Proxy → Proxy
 after_admission Queued a f = record f { waiting = f.waiting ++ a ∷ [] }
 after_admission Denied a f = f
 after_admission Deferred a f = f
+
+-- a line of this connection that its role may not send
+abbrev pub is_denied : Rules → ℕ → ℕ → Pending → Bool
+is_denied r c role a = is_from c a && not (r.allows role a.line)
+
+abbrev pub has_denied : Rules → ℕ → ℕ → Proxy → Bool
+has_denied r c role f = list_any (is_denied r c role) f.waiting
 
 -- ---- a flight is sent
 

@@ -14,5 +14,5 @@ mod policy;
 mod proxy;
 
 pub use pending::Pending;
-pub use policy::Policy;
+pub use policy::{Judgement, Policy};
 pub use proxy::{Admission, MOST_FLIGHT_LINES, MOST_HELD, Outcome, Proxy};

@@ -1,29 +1,31 @@
 //! How the proxy reads lines and answers, and who may send what.
 
 ghost use Rattle.std.specs.Prelude.{◌≡◌, IfOk};
+ghost use Rattle.proxy_core.specs.Judging.{judgement};
 ghost use Rattle.proxy_core.specs.Rules.{Rules};
 
 use std::alloc::{AllocError, Global};
+
+/// What the core has to know of a line.
+#[derive(Clone, Copy, Debug, PartialEq, Eq)]
+pub struct Judgement {
+    /// Its connection may send it.
+    pub is_allowed: bool,
+    /// It must not be sent to the server a second time, as `close`.
+    pub is_once: bool,
+    /// It is a query: the server changes nothing for it.
+    pub is_query: bool,
+    /// It is an order without a client and a number.
+    pub is_unnumbered: bool,
+}
 
 /// How lines and answers are read, and who may send what. Contracts see it as `Rules`.
 pub trait Policy {
     ghost rules: { Self → Rules };
 
-    /// Returns whether connections in this role may send this line.
-    fn allows(&self, role: u32, line: &[u8]) -> bool
-        ensures { result ≡ (rules self.now).allows role line.now };
-
-    /// Returns whether the line must not be sent to the server a second time, as `close`.
-    fn is_once(&self, line: &[u8]) -> bool
-        ensures { result ≡ (rules self.now).is_once line.now };
-
-    /// Returns whether the line is a query: the server changes nothing for it.
-    fn is_query(&self, line: &[u8]) -> bool
-        ensures { result ≡ (rules self.now).is_query line.now };
-
-    /// Returns whether the line is an order without a client and a number.
-    fn is_unnumbered(&self, line: &[u8]) -> bool
-        ensures { result ≡ (rules self.now).is_unnumbered line.now };
+    /// Judges a line from a connection in this role. Errors: out of memory.
+    fn judge(&self, alloc: Global, role: u32, line: &[u8]) -> Result<Judgement, AllocError>
+        ensures { IfOk result (λ judged. judged ≡ judgement (rules self.now) role line.now) };
 
     /// Spells an order without a client and a number with the proxy's client and this number. Errors:
     /// out of memory.

@@ -3,7 +3,7 @@
 ghost use Rattle.std.specs.Prelude.{◌≡◌, ◌<◌, ◌↔◌, [], true, IfOk, OnErr, IsTrue, IsSome, length, filter, not};
 ghost use Rattle.proxy_core.specs.Rules.{Rules, as_sent, needs_number};
 ghost use Rattle.proxy_core.specs.Pending.{is_from};
-ghost use Rattle.proxy_core.specs.Machine.{is_none, lost_of, picked, picks_of};
+ghost use Rattle.proxy_core.specs.Machine.{is_denied, is_none, lost_of, picked, picks_of};
 
 use crate::choice::{choose, take_out};
 use crate::counts::{held_by, hold, release};
@@ -70,7 +70,7 @@ impl Model for Proxy {
 
 impl Proxy {
     ghost use Rattle.proxy_core.specs.Pending.{is_from, new_pending, text_of};
-    ghost use Rattle.proxy_core.specs.Machine.{after_broken, after_number, after_outcome, after_admission, counted, without_connection, outcome, flown, held, lost, may_go, new_proxy, picks_of, admission};
+    ghost use Rattle.proxy_core.specs.Machine.{after_broken, after_number, after_outcome, after_admission, counted, without_connection, outcome, flown, has_denied, held, lost, may_go, new_proxy, picks_of, admission};
 
     /// Returns a proxy without lines and without a connection to the server.
     pub fn new(alloc: Global) -> Self
@@ -110,7 +110,8 @@ impl Proxy {
             (new_pending connection line.now ((P.rules policy.now).is_once line.now) ((P.rules policy.now).is_query line.now) (needs_number (P.rules policy.now) line.now)) self.old) }
         ensures err { OnErr result (self.new ≡ self.old) }
     {
-        if !policy.allows(role, line) {
+        let judgement = policy.judge(alloc, role, line)?;
+        if !judgement.is_allowed {
             return Ok(if self.holds_fewer(connection, 1) {
                 Admission::Denied
             } else {
@@ -121,13 +122,12 @@ impl Proxy {
             return Ok(Admission::Deferred);
         }
         let copy = Vec::from_slice(alloc, line)?;
-        let is_once = policy.is_once(line);
-        let is_unnumbered = policy.is_unnumbered(line) && !is_once;
+        let is_unnumbered = judgement.is_unnumbered && !judgement.is_once;
         let pending = Pending::new(
             connection,
             copy,
-            is_once,
-            policy.is_query(line),
+            judgement.is_once,
+            judgement.is_query,
             is_unnumbered,
         );
         self.waiting.reserve(1)?;
@@ -135,6 +135,25 @@ impl Proxy {
         hold(&mut self.held, connection, count + 1)?;
         self.waiting.push_back_reserved(pending);
         Ok(Admission::Queued)
+    }
+
+    /// Returns whether a waiting line of a connection in this role is one that the policy does not allow. After a
+    /// change of the policy the loop ends each such connection. Errors: out of memory.
+    pub fn has_denied<P: Policy>(
+        &self,
+        alloc: Global,
+        policy: &P,
+        connection: u64,
+        role: u32,
+    ) -> Result<bool, AllocError>
+        ensures { IfOk result (λ denied. denied ≡ has_denied (P.rules policy.now) connection role self.now) }
+    {
+        for i in 0..self.waiting.len() {
+            if is_denied(alloc, policy, connection, role, &self.waiting[i])? {
+                return Ok(true);
+            }
+        }
+        Ok(false)
     }
 
     /// Makes a flight of waiting lines if there is none, and returns the number of its lines, which the
@@ -314,6 +333,23 @@ impl Proxy {
     {
         self.flight.is_empty() && self.waiting.is_empty()
     }
+}
+
+/// Returns whether a line is one of this connection that its role may not send. Errors: out of memory.
+fn is_denied<P: Policy>(
+    alloc: Global,
+    policy: &P,
+    connection: u64,
+    role: u32,
+    pending: &Pending,
+) -> Result<bool, AllocError>
+    ensures { IfOk result (λ denied. denied ≡ is_denied (P.rules policy.now) connection role pending.now) }
+{
+    if pending.from() != connection {
+        return Ok(false);
+    }
+    let judgement = policy.judge(alloc, role, pending.line())?;
+    Ok(!judgement.is_allowed)
 }
 
 /// Returns a line as it is written, with this number if it has none. Errors: out of memory.

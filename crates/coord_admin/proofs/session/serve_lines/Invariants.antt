@@ -2,7 +2,7 @@ use Rattle.std.proofs.Common.{◌≤◌, ◌<◌, ℕ, List, length}
 use Rattle.coord_admin.proofs.SoFar.{SoFar}
 use Rattle.coord_admin.proofs.session.serve_lines.Given as goal
 
--- what was read so far, and that its lines have replies or await them
+-- the input read so far, whose lines have replies or await them
 abbrev pub invariant-loop : goal.invariant-loop
 invariant-loop g l =
     (0 < length l.buffer)

@@ -4,7 +4,7 @@ use Rattle.coord_admin.specs.Replies.{reply_lines}
 use Rattle.coord_admin.specs.Stream.{AreWritten}
 use Rattle.coord_admin.proofs.writing.write_answers.Given as goal
 
--- what was written so far, and the text after it, are the lines of the answers so far
+-- the written text, and the text after it, are the lines of the answers so far
 abbrev pub invariant-loop-answer : goal.invariant-loop-answer
 invariant-loop-answer g l =
     (out : List ℕ) × (returned : List Answer)

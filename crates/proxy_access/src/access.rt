@@ -1,0 +1,95 @@
+//! The policy, and the principals of the roles.
+
+ghost use Rattle.std.specs.Prelude.{◌≡◌, ◌≤◌, [], length, map, string_bytes, take, IfOk, IfSome, MatchOption, OnErr, Some};
+ghost use Rattle.std.specs.Option.{option_copied};
+ghost use Rattle.proxy_access.specs.Access.{may, access_principals, principal_of, access_rules};
+
+use crate::judging::is_own;
+use crate::table::{Access, MOST_PRINCIPALS};
+use proxy_policy::Policy;
+use proxy_request::Request;
+use std::alloc::{AllocError, Global};
+
+/// The role of the proxy's own connection.
+pub const PROXY_ROLE: u32 = 0;
+
+impl Access {
+    /// Returns a table without principals.
+    pub fn new(alloc: Global, policy: Policy) -> Self
+        ensures rules { access_rules result ≡ policy.rules.items }
+        ensures principals { access_principals result ≡ [] }
+    {
+        Access {
+            policy,
+            principals: Vec::new(alloc),
+        }
+    }
+
+    /// Returns the role of a principal, which it keeps; None if `MOST_PRINCIPALS` others have one. Errors: out of
+    /// memory.
+    #[tactic(auto, using(crate::proofs::Roles::kept, crate::proofs::Roles::kept_all, crate::proofs::Roles::role_of_last))]
+    pub fn role_of(&mut self, alloc: Global, principal: &str) -> Result<Option<u32>, AllocError>
+        ensures role { IfOk result (λ found. MatchOption found (length (access_principals self.old) ≡ MOST_PRINCIPALS) (λ role. principal_of (access_principals self.new) role ≡ Some principal.now)) }
+        ensures others { take (length (access_principals self.old)) (access_principals self.new) ≡ access_principals self.old }
+        ensures rules { access_rules self.new ≡ access_rules self.old }
+        ensures err { OnErr result (access_principals self.new ≡ access_principals self.old) }
+    {
+        if let Some(role) = role_among(self.principals.as_slice(), principal) {
+            return Ok(Some(role));
+        }
+        if self.principals.len() >= MOST_PRINCIPALS {
+            return Ok(None);
+        }
+        let mut name = String::new(alloc);
+        name.push_str(principal)?;
+        self.principals.push(name)?;
+        Ok(Some(self.principals.len() as u32))
+    }
+
+    /// Returns the principal of a role; None for the proxy's own role, and for one that no principal has.
+    #[tactic(auto, using(crate::proofs::Roles::name_of_role))]
+    pub fn principal(&self, role: u32) -> Option<&str>
+        ensures { option_copied result ≡ principal_of (access_principals self.now) role }
+    {
+        if role == PROXY_ROLE {
+            return None;
+        }
+        let name = self.principals.get(role as usize - 1)?;
+        Some(name.as_str())
+    }
+
+    /// Takes the rules of another policy. The principals keep their roles.
+    pub fn replace(&mut self, policy: Policy)
+        ensures rules { access_rules self.new ≡ policy.rules.items }
+        ensures principals { access_principals self.new ≡ access_principals self.old }
+    {
+        self.policy = policy;
+    }
+
+    /// Returns whether connections in a role may send this request.
+    pub fn may(&self, role: u32, request: &Request) -> bool
+        ensures { result ≡ may (access_rules self.now) (access_principals self.now) role request.now }
+    {
+        if role == PROXY_ROLE {
+            return is_own(request);
+        }
+        match self.principal(role) {
+            Some(name) => self.policy.allows(name, request),
+            None => false,
+        }
+    }
+}
+
+/// Returns the role of a principal that has one.
+#[tactic(auto, using(crate::proofs::Roles::role_of_item))]
+fn role_among(principals: &[String], principal: &str) -> Option<u32>
+    requires { length principals.now ≤ MOST_PRINCIPALS }
+    ensures { IfSome result (λ role. principal_of (map string_bytes principals.now) role ≡ Some principal.now) }
+{
+    for place in 0..principals.len() {
+        if principals[place].as_str() == principal {
+            return Some(place as u32 + 1);
+        }
+    }
+    None
+}

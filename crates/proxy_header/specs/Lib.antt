@@ -1,0 +1,4 @@
+pub mod Names
+pub mod Fields
+pub mod Headers
+pub mod Scanning

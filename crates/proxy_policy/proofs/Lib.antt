@@ -1,0 +1,2 @@
+mod Computes
+mod Entries

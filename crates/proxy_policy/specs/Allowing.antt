@@ -1,0 +1,39 @@
+-- The requests that a policy allows.
+use Rattle.std.specs.Prelude.{ℕ, ◌==◌, ◌&&◌, not, Bool, true, false, List, Option, Some, None, string_bytes}
+use Rattle.std.specs.declared.vec.Vec.{Vec}
+use Rattle.std.specs.declared.alloc.Global.{Global}
+use Rattle.std.specs.List.{list_any}
+use Rattle.std.specs.Str.{bytes_eq}
+use Rattle.proxy_request.specs.Ops.{same_op}
+use Rattle.proxy_request.specs.Requests.{client_of, first_node_of, op_of, second_node_of}
+use Rattle.proxy_request.specs.declared.request.TheConstants.{PROXY_CLIENT}
+use Rattle.proxy_request.specs.declared.request.Request.{Request}
+use Rattle.proxy_policy.specs.declared.rule.Rule.{Rule}
+
+abbrev pub is_proxy_client : Option ℕ → Bool
+is_proxy_client None = false
+is_proxy_client (Some c) = c == PROXY_CLIENT
+
+-- a rule's clients or nodes, None for all: a request without a client or a node is within them
+abbrev pub may_use : Option (Vec ℕ Global) → Option ℕ → Bool
+may_use None one = true
+may_use (Some all) None = true
+may_use (Some all) (Some c) = list_any (λ each. each == c) all.items
+
+abbrev pub may_name : Option (Vec ℕ Global) → Option ℕ → Bool
+may_name None one = true
+may_name (Some all) None = true
+may_name (Some all) (Some u) = list_any (λ each. each == u) all.items
+
+-- the rule lists the principal, the request's op, its client and each node that it names
+abbrev pub rule_allows : Rule → List ℕ → Request → Bool
+rule_allows rule principal r =
+    list_any (λ name. bytes_eq (string_bytes name) principal) rule.principals.items
+    && list_any (λ each. same_op each (op_of r)) rule.ops.items
+    && may_use rule.clients (client_of r)
+    && may_name rule.nodes (first_node_of r)
+    && may_name rule.nodes (second_node_of r)
+
+-- some rule allows it, and it does not use the proxy's client
+abbrev pub allows : List Rule → List ℕ → Request → Bool
+allows rules principal r = not (is_proxy_client (client_of r)) && list_any (λ rule. rule_allows rule principal r) rules

@@ -1,0 +1,3 @@
+mod Computes
+mod Passes
+mod Spelled

@@ -1,0 +1,23 @@
+//! Laws of requests and answers: functions that do nothing, whose contracts are the laws.
+
+ghost use Rattle.proxy_request.specs.Answers.{AnswersAreClassified};
+ghost use Rattle.proxy_request.specs.Laws.{ServerRequestsPass};
+ghost use Rattle.proxy_request.specs.WorkedLines.{WorkedLines};
+
+/// What the server reads as a request the proxy reads as the same.
+#[tactic(auto, using(crate::proofs::Passes::server_requests_pass))]
+pub fn server_requests_pass()
+    ensures { ServerRequestsPass }
+{}
+
+/// The bytes of an answer distinguish replies, refused numbers and refused orders.
+#[tactic(auto, using(crate::proofs::Computes::answers_are_classified))]
+pub fn answers_are_classified()
+    ensures { AnswersAreClassified }
+{}
+
+/// Lines and their requests.
+#[tactic(auto, using(crate::proofs::Computes::lines_compute))]
+pub fn worked_lines()
+    ensures { WorkedLines }
+{}
