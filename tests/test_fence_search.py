@@ -4,9 +4,13 @@ import subprocess
 
 from support.case import Case, tool
 
-# What goes wrong without a part, and the search that finds it first.
-FOUND = (("floor", "links", "returns"), ("talk", "joins", "older"), ("kept", "split", "locked"), ("alone", "readd", "older"),
-         ("asks", "links", "locked"), ("restored", "restore", "older"))
+# The searches that find nothing: their members and depths.
+ABOUT = (("links", 3, 99), ("joins", 3, 99), ("split", 3, 5), ("resets", 3, 6), ("readd", 3, 4), ("lose", 3, 4), ("restore", 3, 5),
+         ("again", 2, 7), ("sides", 2, 7), ("sides", 3, 4))
+# The violation without each part, and the search that finds it first.
+FOUND = (("floor", "links", 3, "returns"), ("talk", "joins", 3, "older"), ("kept", "split", 3, "locked"), ("alone", "readd", 3, "older"),
+         ("asks", "links", 3, "locked"), ("restored", "restore", 3, "locked"), ("generation", "restore", 2, "older"),
+         ("jump", "restore", 2, "older"), ("record", "again", 2, "locked"), ("after", "sides", 2, "locked"))
 
 
 class Searches(Case):
@@ -19,14 +23,14 @@ class Searches(Case):
         return done.returncode, done.stdout.splitlines()
 
     def test_nothing_is_wrong(self) -> None:
-        for about, depth in (("links", 99), ("joins", 99), ("split", 5), ("resets", 6), ("readd", 4), ("lose", 4), ("restore", 5)):
-            status, lines = self.said("--about", about, "--depth", str(depth))
+        for about, members, depth in ABOUT:
+            status, lines = self.said("--about", about, "--members", str(members), "--depth", str(depth))
             self.assertEqual(status, 0, lines)
-            self.assertRegex(lines[-1], f"^{about}, 3 members: nothing is wrong after ")
+            self.assertRegex(lines[-1], f"^{about}, {members} members: nothing is wrong after ")
 
     def test_each_part_is_needed(self) -> None:
-        for part, about, wrong in FOUND:
-            status, lines = self.said("--about", about, "--without", part)
+        for part, about, members, wrong in FOUND:
+            status, lines = self.said("--about", about, "--members", str(members), "--without", part)
             self.assertEqual(status, 1, (part, lines))
             self.assertIn(wrong, lines[-2], part)
             self.assertRegex(lines[-1], f"^{about}: found after ")

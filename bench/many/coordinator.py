@@ -1,4 +1,4 @@
-"""The program over a store of its own, whose syncs are counted and may wait, and what stands before it."""
+"""The program over a new store, whose syncs are counted and may wait, and the front or proxy before it."""
 
 import asyncio
 import contextlib
@@ -19,7 +19,7 @@ ROOT = pathlib.Path(__file__).resolve().parent.parent.parent
 sys.path.insert(0, str(ROOT / "client"))
 from resetd_client.inotify import Inotify  # noqa: E402
 
-Json = dict[str, Any]  # what is read of a line
+Json = dict[str, Any]  # a line that was read
 Links = Sequence[tuple[int, int]]
 Connection = tuple[asyncio.StreamReader, asyncio.StreamWriter]
 Opening = Callable[[], Awaitable[Connection]]  # what opens a connection
@@ -46,14 +46,14 @@ backend coordinator
 
 
 def counting_library(folder: str) -> str:
-    """What is loaded ahead of the C library, so that syncs are counted and may wait."""
+    """The library that is loaded ahead of the C library, so that syncs are counted and may wait."""
     library, source = f"{folder}/syncs.so", (ROOT / "bench" / "serve" / "syncs.c.txt").read_text(encoding="utf-8")
     subprocess.run([os.environ.get("CC", "cc"), "-O1", "-shared", "-fPIC", "-x", "c", "-", "-o", library], input=source, text=True, check=True)
     return library
 
 
 class Server:
-    """`resetd serve`, and what is started before it."""
+    """`resetd serve`, and the front or proxy started before it."""
 
     def __init__(self, program: str, library: str, nodes: int, links: Links, micros: int = 0) -> None:
         self.folder = tempfile.mkdtemp(prefix="resetd-front-bench-")
@@ -89,7 +89,7 @@ class Server:
         return int(struct.unpack("Q", pathlib.Path(f"{self.folder}/count").read_bytes())[0])
 
     def resident(self) -> int:
-        """The memory of what stands before it, in bytes."""
+        """The memory of the front or proxy before it, in bytes."""
         assert self.before
         status = pathlib.Path(f"/proc/{self.before.pid}/status").read_text(encoding="ascii")
         found = re.search(r"VmRSS:\s+(\d+)", status)
@@ -110,7 +110,7 @@ class Server:
         return await asyncio.open_connection(host, int(port), limit=MOST_BYTES)
 
     async def at_socket(self) -> Connection:
-        """A connection to what stands before it."""
+        """A connection to the front or proxy before it."""
         for _ in range(1_000):
             with contextlib.suppress(OSError):
                 return await asyncio.open_unix_connection(self.path, limit=MOST_BYTES)
@@ -125,7 +125,7 @@ async def ask(connection: Connection, *requests: Json) -> list[Json]:
 
 
 async def once(open_connection: Opening, *requests: Json) -> list[Json]:
-    """The answers over a connection of its own, tried again until they come."""
+    """The answers over a new connection, tried again until they come."""
     while True:
         try:
             connection = await open_connection()

@@ -90,7 +90,7 @@ def settled_memory(server: Server) -> int:
 
 
 def await_views(connections: Sequence[socket.socket], epoch: int) -> None:
-    """Reads what comes until each connection has a view in which node 1 has this epoch."""
+    """Reads until each connection has a view in which node 1 has this epoch."""
     poller, rest = select.epoll(), dict[int, tuple[socket.socket, bytes]]()
     for connection in connections:
         poller.register(connection, select.EPOLLIN)
@@ -125,7 +125,7 @@ def watch(connections: Sequence[socket.socket]) -> None:
 
 
 def many(program: str, library: str, count: int, times: int) -> tuple[float, float, float]:
-    """Bytes of memory of an idle connection and of one that watches, and milliseconds until the last watcher is told."""
+    """Bytes of memory of an idle connection and of one that watches, and milliseconds until the last watcher is notified."""
     with Server(program, library, NODES, CHORDS) as server:
         server.start_front()
         before = settled_memory(server)

@@ -1,4 +1,4 @@
-"""From a reset to members that talk: 64 behind one gateway, some services of their own, and one that is told."""
+"""From a reset to members that talk: 64 with one gateway, some separate services, and one that is notified."""
 
 import asyncio
 import contextlib
@@ -48,7 +48,7 @@ class Lines:
 
 @contextlib.contextmanager
 def running(commands: Sequence[Sequence[str]], others: Sequence[Sequence[str]] = ()) -> Iterator[Lines]:
-    """Processes for as long as they are needed; of the first ones what they print is read."""
+    """Processes for as long as they are needed; the output of the first ones is read."""
     processes = [subprocess.Popen([sys.executable, *words], stdout=subprocess.PIPE, stderr=subprocess.DEVNULL) for words in commands]
     quiet = [subprocess.Popen([sys.executable, *words], stdout=subprocess.DEVNULL, stderr=subprocess.DEVNULL) for words in others]
     try:
@@ -73,7 +73,7 @@ def resets(order: Order, lines: Lines, count: int) -> tuple[float, float]:
 
 
 def at_port(server: Server, before: int) -> Order:
-    """Orders of a reset at the port, by a client that has so many orders before."""
+    """Orders of a reset at the port, by a client that has this many orders before."""
     return lambda number: once(server.port, {"op": "reset", "client": CLIENT, "number": before + number, "node": 1})
 
 
@@ -89,7 +89,7 @@ def gateway(program: str, library: str, count: int) -> tuple[float, float]:
 
 
 def services(program: str, library: str, nodes: int, count: int, is_front: bool) -> tuple[float, float]:
-    """As many services as asked for, each with a client of its own, over a ring; at the port or through a front."""
+    """As many services as asked for, each with its own client, over a ring; at the port or through a front."""
     links = [(node, node % nodes + 1) for node in range(1, nodes + 1)]
     with Server(program, library, nodes, links) as server:
         if is_front:

@@ -29,7 +29,7 @@ def decoded(text: str) -> str:
 
 
 class Etcd:
-    """A server over a folder of its own, and its calls over HTTP."""
+    """A server over a new folder, and its calls over HTTP."""
 
     def __init__(self) -> None:
         with contextlib.ExitStack() as free:

@@ -74,7 +74,7 @@ async def measure(server: Server, way: str, links: Links, count: int) -> tuple[f
 
 
 def wave(program: str, library: str, links: Links, way: str, micros: int, count: int) -> tuple[float, float]:
-    """Milliseconds and syncs, the medians of so many resets; each sync waits so many microseconds more."""
+    """Milliseconds and syncs, the medians of this many resets; each sync waits this many microseconds more."""
     with Server(program, library, NODES, links, micros) as server:
         if way == "front":
             server.start_front()

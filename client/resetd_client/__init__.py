@@ -40,6 +40,7 @@ from .address import Credentials
 from .answers import (Away, Fault, Faulted, Garbled, NotNow, NotTaken, Refusal, Refused, Reply)
 from .at_front import AtFront, EarlierFront, orders_of, wakes_of
 from .errors import BadWords, InLoop, ResetdError, Unreadable, Untrusted
+from .fence import Fence, StoreWentBack
 from .files import Held, hold, keep, read
 from .following import LOOK_SECONDS
 from .gateway import Gateway
@@ -51,7 +52,7 @@ from .port import Port, TooLong, patiently
 from .rule import Due
 from .seats import Served
 from .signals import Clock, Follower, Stream, Wake, Wakes
-from .starts import Fence, Shelf, Starts
+from .starts import Shelf, Starts
 from .store_file import NoStore, Restless
 from .topology import BadTopology
 from .view import Link, Node, View
@@ -63,6 +64,6 @@ __all__ = [
     "AtFront", "Away", "BadTopology", "BadWords", "CLIENTS", "Clock", "CountLost", "CountNotFound", "Credentials", "Due",
     "EarlierFront", "Fault", "Faulted", "Fence", "Follower", "GROUPS", "Garbled", "Gateway", "Held", "InLoop", "LOOK_SECONDS", "Link",
     "Member", "NODES", "NoStore", "Node", "NotNow", "NotTaken", "Orders", "OutOfRun", "Past", "Port", "Refusal", "Refused",
-    "Reply", "ResetdError", "Restless", "Run", "Served", "Shelf", "Starts", "Stream", "TooLong", "Unreadable", "Untrusted",
-    "View", "Wake", "Wakes", "Watched", "Work", "find_count", "hold", "keep", "orders_of", "patiently", "read", "views", "wakes_of",
+    "Reply", "ResetdError", "Restless", "Run", "Served", "Shelf", "Starts", "StoreWentBack", "Stream", "TooLong", "Unreadable",
+    "Untrusted", "View", "Wake", "Wakes", "Watched", "Work", "find_count", "hold", "keep", "orders_of", "patiently", "read", "views", "wakes_of",
 ]

@@ -54,9 +54,9 @@ class Member:
         """The fence of the run (`Member.fence`)."""
         return self._member.fence
 
-    def note_overtaken(self, nodes: Iterable[int]) -> None:
+    def note_overtaken(self, nodes: Iterable[int], count: int) -> None:
         """As `Member.note_overtaken`."""
-        self._member.note_overtaken(nodes)
+        self._member.note_overtaken(nodes, count)
 
     async def follow(self, wakes: Wakes, every: float = LOOK_SECONDS) -> None:
         """Follows as a Member does, until nothing more will come, `stop` is called or its task is cancelled; then it ends

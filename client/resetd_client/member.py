@@ -9,17 +9,19 @@ import threading
 from collections.abc import Callable, Iterable, Iterator
 from contextlib import contextmanager
 from dataclasses import dataclass, field
+from typing import NamedTuple
 
 from .answers import Away
 from .at_front import AtFront
 from .errors import BadWords, ResetdError, refuse_in_loop
+from .fence import Fence, check_generation, check_store, count_of
 from .following import DOUBT_SECONDS, LOOK_SECONDS, Following, check_every
 from .orders import Orders, warn
 from .party import are_parted, is_same_run
 from .port import Port
 from .rule import Due
 from .signals import Clock, Wake, Wakes
-from .starts import GENERATIONS, Fence, Shelf, Starts
+from .starts import Shelf, Starts
 from .view import Node, View
 
 MOST_TURNS = 100  # of one look: each begins or confirms an epoch that is new, or asks for a reset
@@ -39,6 +41,15 @@ class Run:
     def takes(self, tag: str) -> bool:
         """Whether a message with this tag is of this run. Two tags of one run need not be equal."""
         return is_same_run(self.tag, tag)
+
+
+class Heard(NamedTuple):
+    """What a member heard of others between two looks: the tags that it refused, and the nodes and the greatest count of the fences
+    for which resources refused its own."""
+
+    tags: set[str]
+    takers: set[int]
+    taken: int
 
 
 class Work(enum.Enum):
@@ -73,14 +84,13 @@ class Member(Following):
                  every: float = LOOK_SECONDS, on_run: Callable[[Run | None], None] = lambda run: None, work: Work = Work.PARTS,
                  generation: int = 0) -> None:
         """`orders` are an AtFront if every address of the port is a front's; it wakes the member too, if no `wakes` are given.
-        `generation` is for the fence: one number of all members, 0 to 8,388,607, and a greater one after each restore of the
-        coordinator's store. Raises Unreadable if a file of its own does not read, and BadWords if work in memory is given as
+        `generation` is for the fence: one number of all members, 0 to 8,388,607, and after each restore of the coordinator's
+        store one that no member had before. Raises Unreadable if a file of its own does not read, and BadWords if work in memory is given as
         begun, or at an invalid generation."""
         super().__init__(orders, told)
         if work is Work.MEMORY and begun is not None:
             raise BadWords("work in memory alone does not outlive its process: give begun=None")
-        if generation not in GENERATIONS:
-            raise BadWords(f"a generation is to be a whole number from 0 to {GENERATIONS[-1]}, and not {generation}")
+        check_generation(generation)
         self.port, self.node, self._generation = port, node, generation
         self._shelf = Shelf(os.path.join(orders.folder, f"start-{node}.json"))
         self._starts = Starts(self._shelf, node, begun)
@@ -95,7 +105,8 @@ class Member(Following):
         self._changes = threading.Condition(threading.RLock())  # over the run, and the work that belongs to it
         self._is_there = True
         self._refused: set[str] = set()  # the tags of messages of other runs, since the last look
-        self._takers: set[int] = set()  # the nodes of the fences by which resources have refused its own, since then
+        self._takers: set[int] = set()  # the nodes of the fences for which resources have refused its own, since then
+        self._taken = 0  # the greatest count of these
         self._epoch: int | None = None  # of its node, in the last view
         self._why: str | None = None  # why somebody wants a reset
 
@@ -143,18 +154,20 @@ class Member(Following):
         self._why = why
         self._bell.ring()
 
-    def note_overtaken(self, nodes: Iterable[int]) -> None:
-        """A resource has rejected the member's fence, and keeps one with these nodes. The member looks. If it may still talk
-        after that look, and one of the nodes is connected with it, it asks for a reset: a start of its own group has the
-        resource. Otherwise another group has it. May be called from any thread."""
+    def note_overtaken(self, nodes: Iterable[int], count: int) -> None:
+        """A resource has rejected the member's fence, and keeps one with these nodes and this count. The member looks. If it may still
+        talk after that look, and one of the nodes is connected with it, it asks for a reset: a start of its own group has the
+        resource. Otherwise another group has it. If the coordinator's store has not settled as many steps as the count says, a
+        reset would not help: the thread that looks ends with StoreWentBack. May be called from any thread."""
         with self._changes:
             self._takers |= set(nodes)
+            self._taken = max(self._taken, count)
         self._bell.ring()
 
     def look(self) -> View:
         """Queries `show`, begins, confirms and asks for resets until there is nothing more to do, and returns the last view.
-        `run` is then the run that the group is in, or None while somebody is not through. After Away call it again; Refused and
-        Faulted need a person."""
+        `run` is then the run that the group is in, or None while somebody is not through. After Away call it again; Refused,
+        Faulted and StoreWentBack need a person."""
         if self._ask_wanted_reset():
             self._await_view()
         for _ in range(MOST_TURNS):
@@ -227,9 +240,11 @@ class Member(Following):
         due = self._starts.due(view, row)
         self._shelf.keep()
         run = self._run_in(view, row) if due is Due.TALK else None
-        refused, takers = self._set_run(run)
-        is_parted = run is not None and any(are_parted(run.tag, tag) for tag in refused)
-        is_overtaken = run is not None and any(node.node in takers for node in view.connected(self.node))
+        heard = self._set_run(run)
+        is_parted = run is not None and any(are_parted(run.tag, tag) for tag in heard.tags)
+        is_overtaken = run is not None and any(node.node in heard.takers for node in view.connected(self.node))
+        if run is not None:
+            self._check_store(view, heard.taken)
         if due is Due.BEGIN:
             self._begin_anew(view, row)
         elif is_parted:
@@ -264,18 +279,23 @@ class Member(Following):
         self._shelf.write()
         self._shelf.keep()
 
-    def _set_run(self, run: Run | None) -> tuple[set[str], set[int]]:
-        """Says which run is on. Answers the tags that it refused before, and the nodes by which it was refused."""
+    def _check_store(self, view: View, count: int) -> None:
+        """Raises StoreWentBack. A view that was pushed may be of before the look that brought the count: then it looks anew."""
+        if count > count_of(self._generation, view.settled):
+            check_store(count, self._generation, self.port.show().settled)
+
+    def _set_run(self, run: Run | None) -> Heard:
+        """Says which run is on. Answers what was heard of others since the last look."""
         with self._changes:
             before, self._run = self._run, run
-            refused, self._refused = self._refused, set()
-            takers, self._takers = self._takers, set()
+            heard = Heard(self._refused, self._takers, self._taken)
+            self._refused, self._takers, self._taken = set(), set(), 0
             self._changes.notify_all()
         if run is None and before is not None:
             self._on_run(None)
         elif run is not None and (before is None or not is_one_run(before, run)):
             self._on_run(run)
-        return refused, takers
+        return heard
 
     def _served_node(self) -> int:
         return self.node

@@ -26,7 +26,7 @@ class Due(enum.Enum):
     TALK = enum.auto()  # all that are connected are through, and its start may talk with them
     WAIT = enum.auto()  # for others, or for a reset that is under way
     BEGIN = enum.auto()  # it begins the shown epoch, and confirms it
-    RESET = enum.auto()  # it asks for a reset: its start doesn't match what is shown
+    RESET = enum.auto()  # it asks for a reset: its start doesn't match the view
 
 
 @dataclass(frozen=True)

@@ -38,7 +38,7 @@ class Since:
         return [thing for thing in self._old if thing.startswith(f"{kind} ")]
 
     def keep(self) -> None:
-        """Stores what was seen this time, and forgets everything else."""
+        """Stores the conditions that were seen this time, and forgets everything else."""
         if self._new != self._old:
             files.keep(self._path, json.dumps({"boot": self._boot, "seen": self._new}))
 

@@ -3,9 +3,10 @@
 from __future__ import annotations
 
 import os
-from dataclasses import dataclass, replace
+from dataclasses import replace
 
 from . import files
+from .fence import Fence, count_of
 from .history import History
 from .party import TAG_DIGITS, digest_of, is_alone, nodes_of, tag_of
 from .rule import Due, Judged, Kept, judge, shown_to
@@ -13,26 +14,7 @@ from .since import boot_name
 from .start_file import Row, read_rows, text_of
 from .view import Node, View
 
-
-GENERATIONS = range(1 << 23)
 MOST_FORESEEN = 4  # parties of a node: of an earlier one a start may have talked, for all that is known
-STEPS_BITS = 40  # a store has fewer steps than 2 to this
-
-
-@dataclass(frozen=True)
-class Fence:
-    """Lets a database, or another resource of one group, refuse a member that was paused while its group went on
-    (docs/QUEUES.md, "A database behind a fence"): a count that is greater for each later run, the name of the run, which all
-    members of the run share, and the nodes of the run. It stays the same as long as the start lives."""
-
-    count: int
-    tag: str
-    nodes: frozenset[int]
-
-    def passes(self, floor: int, count: int, tag: str) -> bool:
-        """Whether a resource with this floor, count and tag (at first 0, 0 and "") accepts the fence. If so, the resource sets its
-        floor to its old count if the tag differs, and then keeps the greater count and this tag."""
-        return self.count > count or self.tag == tag and self.count > floor
 
 
 class Shelf:
@@ -199,9 +181,10 @@ class Starts:
         wait for the disk later. No start has talked with that party yet, so it may still; this process knows that, and the next
         one unless the power was cut. One that does not know it asks for a reset when this party is shown."""
         row, part = view.node(self._node), view.part(self._node)
+        if row is None or row.epoch != self.begun or self._kept.party is not None or not part.is_quiet or is_alone(part.party):
+            return
         digest = digest_of(part.party)
-        if row and row.epoch == self.begun and part.is_quiet and not is_alone(part.party) and self._kept.party is None \
-                and digest not in self._shelf.history:
+        if digest not in self._shelf.history:
             self._shelf.foresee(self._node, digest)
 
     def tag(self, view: View, word: str = "") -> str:
@@ -216,7 +199,7 @@ class Starts:
         party, settled = self._kept.party, self._shelf.count(self._node)
         if party is None or settled is None:
             return None
-        count = (generation << STEPS_BITS) + settled
+        count = count_of(generation, settled)
         digest = digest_of(party, f"{word}@{count}" if is_alone(party) else word)
         return Fence(count, digest[:TAG_DIGITS], nodes_of(party))
 

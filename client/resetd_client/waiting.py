@@ -22,7 +22,7 @@ def of_groups(view: View, audit: str) -> Iterator[Finding]:
     for part in parts.values():
         yield from of_group(part, entries)
     if fault:
-        yield Finding("group", f"the audit of a front has the times and signs of life: {fault}", left_out="since when a group waits")
+        yield Finding("group", f"no times, since the audit of a front can't be read: {fault}", left_out="since when a group waits")
 
 
 def of_group(part: Part, entries: list[Entry]) -> Iterator[Finding]:

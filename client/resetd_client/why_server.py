@@ -1,4 +1,4 @@
-"""The cause of a fault of a server at an address: what listens there, who has its one connection, and what it is doing."""
+"""The cause of a fault of a server at an address: who listens there, who has its one connection, and its present state."""
 
 from __future__ import annotations
 

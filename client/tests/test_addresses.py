@@ -104,12 +104,12 @@ class Certificates(Case):
     def test_a_front_that_the_authority_has_not_signed(self) -> None:
         stranger, address = of_tls(self.server, self.pem, "stranger")
         self.addCleanup(stranger.close)
-        with self.assertRaisesRegex(Untrusted, "its certificate is not taken"):
+        with self.assertRaisesRegex(Untrusted, "its certificate is not accepted"):
             Port(address, 30, self.credentials()).show()
         self.assertEqual(self.server.seen, [])
 
     def test_a_front_of_another_name(self) -> None:
-        with self.assertRaisesRegex(Untrusted, "its certificate is not taken"):
+        with self.assertRaisesRegex(Untrusted, "its certificate is not accepted"):
             Port(self.address.replace("127.0.0.1", "localhost"), 30, self.credentials()).show()
 
     def test_a_client_that_the_front_does_not_take(self) -> None:
@@ -175,6 +175,6 @@ class Certificates(Case):
         status, out, told = self.run_words(*words, "--authority", f"{self.pem}/authority.pem", "show", address=self.address)
         self.assertEqual((status, "node group" in out), (0, True), told)
         status, _, told = self.run_words(*words, "--authority", f"{self.pem}/foreign.pem", "show", address=self.address)
-        self.assertEqual((status, "its certificate is not taken" in told), (1, True), told)
+        self.assertEqual((status, "its certificate is not accepted" in told), (1, True), told)
         status, _, told = self.run_words(*words, "show", address=self.address)
         self.assertEqual((status, "no authority given" in told), (1, True), told)

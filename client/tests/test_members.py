@@ -11,7 +11,8 @@ from contextlib import suppress
 from unittest import mock
 
 from case import Case, in_memory, over_both
-from resetd_client import Clock, Follower, Member, Orders, OutOfRun, Port, Run, Stream, View, read
+from resetd_client import Clock, Follower, Member, Orders, OutOfRun, Port, Run, StoreWentBack, Stream, View, read
+from resetd_client.fence import check_store
 from resetd_client.member import MOST_REFUSED, is_one_run
 
 
@@ -349,9 +350,20 @@ class Refusals(MemberCase):
         talk."""
         member = self.in_a_run()
         for takers, begun in (({7, 9}, [1]), ({2, 9}, [1, 2]), ({2, 9}, [1, 2])):
-            member.note_overtaken(takers)
+            member.note_overtaken(takers, self.port.show().settled)
             self.look(member)
             self.assertEqual(self.begun, begun)
+
+    def test_a_resource_that_no_look_can_have_brought_so_far(self) -> None:
+        """The store went back: a person is told with which generation the members are to be started. A reset would not help."""
+        member = self.in_a_run()
+        asked, settled = sum(order.get("op") == "reset" for order in self.server.seen), self.port.show().settled
+        for count, words in ((settled + 1, f"--fence {settled + 1}`"), (3 << 40, "generation 3 were there, and this one has 0")):
+            member.note_overtaken({2}, count)
+            member.note_overtaken({2}, 0)
+            with self.assertRaisesRegex(StoreWentBack, words):
+                self.look(member)
+        self.assertEqual((self.begun, sum(order.get("op") == "reset" for order in self.server.seen)), ([1], asked))
 
     def test_generations(self) -> None:
         for generation in (-1, 1 << 23):
@@ -361,6 +373,13 @@ class Refusals(MemberCase):
         self.look(member)
         assert member.fence
         self.assertEqual((member.fence.count >> 40, member.fence.nodes), (2, {1, 2}))
+        settled = self.port.show().settled
+        for count in ((1 << 40) + settled + 1, (2 << 40) + settled):
+            member.note_overtaken({9}, count)
+            self.look(member)
+        member.note_overtaken({9}, (2 << 40) + settled + 1)
+        self.assertRaises(StoreWentBack, self.look, member)
+        check_store((2 << 40) + settled, 2, settled)
 
     def test_what_was_refused_before_the_last_look_counts_no_more(self) -> None:
         member = self.in_a_run()

@@ -102,5 +102,5 @@ class Report(Case):
         with mock.patch("resetd_client.device.devices_of", return_value=["dz9"]):
             self.assertEqual(kernel_lines(self.store), "nothing of dz9 among 3 lines\n")
         with mock.patch("resetd_client.device.devices_of", return_value=[]):
-            self.assertIn("no block device", kernel_lines(self.store))
+            self.assertIn("not on a block device", kernel_lines(self.store))
         self.assertEqual(devices_of("/proc/self/status"), [])

@@ -82,7 +82,8 @@ class Controls(Case):
                       "--patience nan", "--client 0", "--client 17", "--client x"):
             self.expect_wrong(*words.split(), "show")
         for words in ("watch --every 0", "watch --every -1", "watch --for -1", "watch --for nan", "health --steps -1",
-                      "health --wave nan", "health --unconfirmed x", "count --most 0", "count --most -5", "count --most x"):
+                      "health --wave nan", "health --unconfirmed x", "count --most 0", "count --most -5", "count --most x",
+                      "restored --fence x", f"restored --fence {1 << 63}"):
             self.expect_wrong(*words.split())
         self.assertEqual(self.run_words("watch", "--for", "0"), (0, "", ""))
 

@@ -39,6 +39,19 @@ class Restored(Case):
         status, out, _ = self.run_words("--patience", "300", "restored")
         self.assertEqual((status, out, self.epochs()), (0, "a reset in each of 3 groups: all 6 nodes have a new epoch\n", [1] * 6))
 
+    def test_the_generation_is_named(self) -> None:
+        """One above that of the count, so that no member of before has a greater fence."""
+        for count, generation in ((0, 1), ((1 << 40) - 1, 1), (1 << 40, 2), ((8_388_607 << 40) - 1, 8_388_607)):
+            status, out, _ = self.run_words("--patience", "300", "restored", "--fence", str(count))
+            self.assertEqual((status, out.splitlines()[1:]), (0, [
+                f"now start all members with generation {generation}, or a greater one if one of them had that before"]))
+
+    def test_counts_above_which_there_is_no_generation(self) -> None:
+        """Then nothing is asked for."""
+        status, _, errors = self.run_words("restored", "--fence", str((1 << 63) - 1))
+        self.assertEqual((status, self.epochs()), (2, [0] * 6))
+        self.assertIn("from 0 to 8388607, and not 8388608", errors)
+
     @in_memory
     def test_a_node_that_gets_no_new_epoch_is_named(self) -> None:
         reset = self.server.reset

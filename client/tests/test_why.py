@@ -167,7 +167,7 @@ class Files(Case):
         self.server.by_somebody("confirm", node=1, epoch=1)
         lines = self.why(store, self.server.address, "--audit", f"{self.folder}/none")[1]
         self.assertIn("group    node 2 has not confirmed epoch 1: the 3 nodes of its group wait", lines)
-        self.assertTrue(any("the audit of a front tells" in line for line in lines), lines)
+        self.assertTrue(any("the audit of a front can't be read" in line for line in lines), lines)
         with open(f"{self.folder}/audit", "w", encoding="utf-8") as audit:
             for time, op, node, kind in (("11:01", "confirm", 2, "done"), ("11:02", "reset", 3, "started"), ("11:03", "reset", 3, "joined"), ("11:04", "confirm", 1, "done")):
                 audit.write(json.dumps({"time": time, "event": "answered", "who": {"user": "service"}, "line": {"op": op, "node": node},
@@ -330,7 +330,7 @@ class BesideTheProgram(Case):
         shutil.copy(sys.executable, f"{program}.new")
         os.replace(f"{program}.new", program)
         _, out, _ = self.run_words("why", self.server.store)
-        self.assertIn(f"{told}; that is not what stands there now", out)
+        self.assertIn(f"{told}; its path has another one now", out)
 
     def test_a_client_that_keeps_the_one_connection(self) -> None:
         assert isinstance(self.server, Real) and self.server.process

@@ -1,4 +1,5 @@
-"""Eight workers share a database and are paused at random while their group goes on: behind the fence no item is taken twice.
+"""Eight workers share a database and are paused at random while their group goes on, or its store goes back: behind the fence no item
+is taken twice.
 
 PAUSES is how many pauses there are (6). PostgreSQL is Debian's server; python3-psycopg2 may be that of another Python here."""
 
@@ -6,7 +7,9 @@ from __future__ import annotations
 
 import glob
 import os
+import pathlib
 import random
+import re
 import shutil
 import signal
 import sqlite3
@@ -16,15 +19,25 @@ import tempfile
 import time
 import unittest
 from collections.abc import Callable, Sequence
-from typing import Any
+from typing import Any, Literal
 
-from case import ROOT, Case, until
+import case
+from case import CLIENT, ROOT, Case, T
+from resetd_client import Port
 
 PAUSES = int(os.environ.get("PAUSES", "6"))
 MEMBERS, ITEMS = 8, 200_000
+PATIENCE = 900.0  # seconds: on a busy machine the workers take items slowly
+PAUSED = (3, 7)  # while the store goes back
+LOST = 2  # resets of which the copy of the store knows nothing
+SPARE, SPARE_STEPS = 60, 200  # a node that nobody is connected with, and steps at it of which the copy knows nothing either
 TABLES = ("CREATE TABLE items (id INTEGER PRIMARY KEY)", "CREATE TABLE taken (item INTEGER NOT NULL, node INTEGER NOT NULL)",
           "CREATE INDEX taken_items ON taken (item)")
 TWICE = "SELECT count(*) FROM (SELECT item FROM taken GROUP BY item HAVING count(*) > 1) AS twice"
+
+
+def until(what: str, holds: Callable[[], T | Literal[False] | None]) -> T:
+    return case.until(what, holds, PATIENCE)
 
 
 def statements() -> list[str]:
@@ -88,6 +101,72 @@ class Workers(Case):
         if any(process.poll() is not None for process in self.processes):
             self.fail(self.said())
 
+    def put_the_store_back(self, database: str, count: Callable[[], int], taken: Callable[[], int], python: str = sys.executable) -> None:
+        """The store goes back by some resets, while two workers are paused. Those of before are refused, and end; with the next
+        generation all go on, and the two that were paused are refused."""
+        until("workers that talk", self.are_through)
+        copy = self.copy_store()
+        words: tuple[dict[str, Any], ...] = ({"op": "remove"}, {"op": "add", "group": 1})
+        steps = [{"client": 9, "number": number, "node": SPARE, **words[number % 2]} for number in range(1, SPARE_STEPS + 1)]
+        self.assertEqual({answer.get("kind") for answer in Port(self.server.address).ask_many(steps) if isinstance(answer, dict)}, {"done"})
+        for _ in range(LOST):
+            self.front.ask(op="reset", node=1)
+            until("a group that is through", self.are_through)
+        self.await_more(taken, 10)
+        for node in PAUSED:
+            self.pause(self.processes[node - 1], random.Random(node))
+        self.put_back(copy)
+        others = [node for node in range(1, MEMBERS + 1) if node not in PAUSED]
+        generation = self.restored(count())
+        self.await_ends(others)
+        self.assertIn(f"restored --fence {count()}", self.said())
+        for node in others:
+            self.processes[node - 1] = self.worker(node, database, python, ["--generation", generation])
+        before = taken()
+        until("items that are taken", lambda: self.confirm_for(PAUSED) and taken() >= before + 10)
+        for node in PAUSED:
+            self.processes[node - 1].send_signal(signal.SIGCONT)
+        self.await_ends(PAUSED)
+        for node in PAUSED:
+            self.processes[node - 1] = self.worker(node, database, python, ["--generation", generation])
+        until("a group that is through", self.are_through)
+        self.await_more(taken, 10)
+
+    def await_ends(self, nodes: Sequence[int]) -> None:
+        """Waits until the workers of these nodes have ended, as the library has them end."""
+        processes = [self.processes[node - 1] for node in nodes]
+        until("their ends", lambda: self.confirm_for(PAUSED) and all(process.poll() is not None for process in processes))
+        self.assertEqual({process.poll() for process in processes}, {1})
+
+    def copy_store(self) -> bytes:
+        """The server ends for a moment, and its store with it is copied."""
+        self.server.kill()
+        copy = pathlib.Path(self.server.store).read_bytes()
+        self.server.start()
+        return copy
+
+    def put_back(self, copy: bytes) -> None:
+        self.server.kill()
+        pathlib.Path(self.server.store).write_bytes(copy)
+        self.server.start()
+
+    def restored(self, count: int) -> str:
+        """Runs `resetctl restored`, and returns the generation that it names."""
+        done = subprocess.run([sys.executable, f"{CLIENT}/resetctl", "--address", self.server.address, "--state", f"{self.folder}/state",
+                               "--patience", "600", "restored", "--fence", str(count)], capture_output=True, encoding="utf-8", check=False)
+        found = re.search(r"start all members with generation (\d+)", done.stdout)
+        assert found, (done.stdout, done.stderr)
+        return found[1]
+
+    def confirm_for(self, nodes: Sequence[int]) -> bool:
+        """Confirms for these by hand, if all others have confirmed, so that the others talk."""
+        rows = self.rows()
+        if all(row[2] == "ready" and (row[4] == row[5] > 0 or node in nodes) for node, row in rows.items()):
+            for node in nodes:
+                if rows[node][4] > rows[node][5]:
+                    self.front.ask(op="confirm", node=node, epoch=rows[node][4])
+        return True
+
     def pause(self, process: subprocess.Popen[bytes], choice: random.Random) -> None:
         """Pauses a process where it holds no lock of the database that others wait for without end."""
         while True:
@@ -144,6 +223,12 @@ class OverSqlite(Workers):
         self.pause_at_random(self.taken, 1, PAUSES)
         self.assertEqual(self.number(TWICE), 0)
 
+    def test_the_store_goes_back(self) -> None:
+        database = f"sqlite:{self.path}"
+        self.start(database)
+        self.put_the_store_back(database, lambda: self.number("SELECT count FROM fence"), self.taken)
+        self.assertEqual(self.number(TWICE), 0)
+
     def test_without_the_fence_items_are_taken_twice(self) -> None:
         self.start(f"sqlite:{self.path}", "--without-fence")
         for seed in range(10):
@@ -178,6 +263,7 @@ class OverPostgres(Workers):
         words = f"-c listen_addresses='' -c unix_socket_directories={self.data} -c fsync=off -c idle_in_transaction_session_timeout=500"
         self.ran([f"{self.binaries}/pg_ctl", "-D", f"{self.data}/data", "-w", "-l", f"{self.data}/log", "-o", words, "start"])
         self.addCleanup(self.ran, [f"{self.binaries}/pg_ctl", "-D", f"{self.data}/data", "-m", "immediate", "stop"])
+        self.database = f"postgresql:host={self.data} user=resetd dbname=postgres"
         for statement in [*statements(), f"INSERT INTO items SELECT generate_series(1, {ITEMS})"]:
             self.query(statement)
 
@@ -200,8 +286,14 @@ class OverPostgres(Workers):
 
     def test_no_item_is_taken_twice(self) -> None:
         assert self.python
-        self.start(f"postgresql:host={self.data} user=resetd dbname=postgres", python=self.python)
+        self.start(self.database, python=self.python)
         self.pause_at_random(self.taken, 1, PAUSES)
+        self.assertEqual(self.query(TWICE), "0")
+
+    def test_the_store_goes_back(self) -> None:
+        assert self.python
+        self.start(self.database, python=self.python)
+        self.put_the_store_back(self.database, lambda: int(self.query("SELECT count FROM fence")), self.taken, self.python)
         self.assertEqual(self.query(TWICE), "0")
 
 

@@ -22,7 +22,7 @@ from ..view import View
 DONE, REFUSED, WRONG_WORDS, AWAY, COUNT = 0, 1, 2, 3, 4
 PATIENCE, SECONDS = 30.0, 20.0
 LOOK_SECONDS = 2.0  # how long a command that only looks waits, in all and for one answer
-SILENCE_SECONDS = 1.0  # after this long without an answer a message says what is waited for
+SILENCE_SECONDS = 1.0  # after this long without an answer a message names the pending request
 Words = argparse.Namespace
 T = TypeVar("T")
 
@@ -69,7 +69,7 @@ class Control:
             print(text, flush=True)
 
     def patient(self, call: Callable[[], T]) -> T:
-        """Repeats a call until it is answered or the time is over, and reports at once what it waits for."""
+        """Repeats a call until it is answered or the time is over, and reports at once that it waits."""
         with told_after(SILENCE_SECONDS, f"waits for an answer of {self.words.address}") as timer:
             def tell(away: Away) -> None:
                 timer.cancel()

@@ -10,6 +10,7 @@ from ..errors import BadWords
 from ..limits import RANGES, check_number
 
 MOST_SECONDS = 1_000_000_000.0  # some thirty years
+MOST_FENCE_COUNT = (1 << 63) - 1
 
 
 def span(text: str) -> float:
@@ -46,6 +47,13 @@ def count(text: str) -> int:
     """How many, one at least."""
     if not is_number(text, 1 << 64) or int(text) == 0:
         raise argparse.ArgumentTypeError(f"{text!r} is not a count")
+    return int(text)
+
+
+def fence_count(text: str) -> int:
+    """The count of a fence, as a database keeps it."""
+    if not is_number(text, MOST_FENCE_COUNT) or int(text) > MOST_FENCE_COUNT:
+        raise argparse.ArgumentTypeError(f"{text!r} is no count of a fence")
     return int(text)
 
 

@@ -2,17 +2,31 @@
 
 from __future__ import annotations
 
+import argparse
+
+from ..fence import check_generation, generation_of
 from ..restored import renew
+from . import ranges
 from .base import DONE, Command, Control
+
+
+def add_words(parser: argparse.ArgumentParser) -> None:
+    parser.add_argument("--fence", type=ranges.fence_count, metavar="COUNT",
+                        help="the greatest count in the fences of your databases: prints the generation for their members")
 
 
 def restored(control: Control) -> int:
     """A reset in each group of linked nodes, and every node at a new epoch."""
+    count = control.words.fence
+    if count is not None:
+        check_generation(generation_of(count) + 1)
     with control.orders() as book:
         control.settle(book)
         control.tell(control.patient(lambda: renew(control.port, book, control.patience)))
+    if count is not None:
+        control.tell(f"now start all members with generation {generation_of(count) + 1}, or a greater one if one of them had that before")
     return DONE
 
 
 COMMANDS = (Command("restored", "after a restore: asks for a reset in each group, and waits until every node has a new epoch",
-                    restored),)
+                    restored, add_words),)

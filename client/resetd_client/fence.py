@@ -1,0 +1,58 @@
+"""The fence of a start, by which a database or another resource of one group refuses members of earlier runs
+(docs/QUEUES.md, "A database behind a fence")."""
+
+from __future__ import annotations
+
+from dataclasses import dataclass
+
+from .errors import BadWords, ResetdError
+
+GENERATIONS = range(1 << 23)
+STEPS_BITS = 40  # a store has fewer steps than 2 to this
+
+
+@dataclass(frozen=True)
+class Fence:
+    """Lets a resource reject a member that was paused while its group went on: a count that is greater for each later run, the name
+    of the run, which all members of the run share, and the nodes of the run. It stays the same as long as the start lives."""
+
+    count: int
+    tag: str
+    nodes: frozenset[int]
+
+    def passes(self, floor: int, count: int, tag: str) -> bool:
+        """Whether a resource with this floor, count and tag (at first 0, 0 and "") accepts the fence. If so, the resource sets its
+        floor to its old count if the tag differs, and then keeps the greater count and this tag."""
+        return self.count > count or self.tag == tag and self.count > floor
+
+
+class StoreWentBack(ResetdError):
+    """A resource keeps the count of a fence that no look at the coordinator's store can have brought: the store was put back, or the
+    member has an earlier generation than others. Needs a person: `resetctl restored`, and then a greater generation for all
+    members."""
+
+
+def count_of(generation: int, settled: int) -> int:
+    """The count of a fence: that of a later generation is greater, however many steps were settled."""
+    return (generation << STEPS_BITS) + settled
+
+
+def generation_of(count: int) -> int:
+    """The generation of a member with such a fence."""
+    return count >> STEPS_BITS
+
+
+def check_generation(generation: int) -> None:
+    """Raises BadWords at a generation that no member can have."""
+    if generation not in GENERATIONS:
+        raise BadWords(f"a generation is to be a whole number from 0 to {GENERATIONS[-1]}, and not {generation}")
+
+
+def check_store(count: int, generation: int, settled: int) -> None:
+    """Raises StoreWentBack if a resource keeps a count that no member of this generation can have, where so many steps are settled."""
+    if count <= count_of(generation, settled):
+        return
+    if generation_of(count) > generation:
+        raise StoreWentBack(f"members with generation {generation_of(count)} were there, and this one has {generation}: start it with theirs")
+    raise StoreWentBack(f"a resource keeps the fence count {count}, and the coordinator's store has settled {settled} steps: it went back, or "
+                        f"an old coordinator answers; `resetctl restored --fence {count}` says what to do")
