@@ -36,7 +36,7 @@ pub of_writing : {A : Type 0} (Q : Fault → Type 0) (result : Result A Fault) �
 of_writing Q (Ok x) among of = tt
 of_writing Q (Err fault) among of = among fault of
 
--- what was served, or was not
+-- served, or not
 pub served : {A D : Type 0} (of : Fault → Type 0) (model : DiskModel D) (argument : List ℕ) (before after : Option Present) (was is : Option (List ℕ)) (ended : Result A Fault) (status : ℕ) (old new : Option (List ℕ)) → IsAddress argument → status ≡ status_of ended
     → MatchResult ended (λ _. Keeps old new) (λ fault. WritesFirstPart old new (fault_line fault))
     → OnOk ended (ServedWhole model before after was is) → IfErr ended of → ServesAt of argument (reads before) (reads after) status old new
@@ -49,17 +49,17 @@ serving_weaker : (P Q : Fault → Type 0) (argument : List ℕ) (fault : Fault) 
 serving_weaker P Q argument fault so (inl none) = inl none
 serving_weaker P Q argument fault so (inr is) = inr (is.0, so is.1)
 
--- what is said of its faults, or less
+-- a statement about its faults, or a weaker one
 pub serves_weaker : (P Q : Fault → Type 0) (argument : List ℕ) (bytes after : Option (List ℕ)) (status : ℕ) (old new : Option (List ℕ)) → ((fault : Fault) → P fault → Q fault) → ServesAt P argument bytes after status old new → ServesAt Q argument bytes after status old new
 serves_weaker P Q argument bytes after status old new so (inl is) = inl is
 serves_weaker P Q argument bytes after status old new so (inr is) = inr (record { fault = is.fault; possible = serving_weaker P Q argument is.fault (so is.fault) is.possible; number = is.number; answered = is.answered })
 
--- what holds where it has ended well
+-- the statement if it ended without a fault
 pub is_done : {A : Type 0} (P : Type 0) (ended : Result A Fault) → IsOk ended → OnOk ended P → P
 is_done P (Ok x) ok so = so
 is_done P (Err fault) ok so = absurd (false≢true ok)
 
--- what is an error with a fault
+-- an error with a fault
 pub err_last : {A : Type 0} (P : Fault → Type 0) (result : Result A Fault) (fault : Fault) → result ≡ Err fault → P fault → IfErr result P
 err_last P result fault is has = rw is has
 
@@ -67,6 +67,6 @@ cut_weaker : (P Q : List ℕ → Type 0) (old new : Option (List ℕ)) (fault : 
 cut_weaker P Q old new fault so (inl kept) = inl kept
 cut_weaker P Q old new fault so (inr part) = inr (part.0, (part.1.0, so part.1.0 part.1.1, part.1.2))
 
--- what is said of faults and of what is printed, or less
+-- a statement about faults and output, or a weaker one
 pub ends_weaker : (Q R : Fault → Type 0) (P S : List ℕ → Type 0) (status : ℕ) (old new : Streams) → ((fault : Fault) → Q fault → R fault) → ((line : List ℕ) → P line → S line) → CommandEnds Q P status old new → CommandEnds R S status old new
 ends_weaker Q R P S status old new h1 h2 h3 = grind (arith, nat_tests, cut_weaker)

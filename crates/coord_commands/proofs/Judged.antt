@@ -43,7 +43,7 @@ of_text file same (NotClosed fault) is why = absurd is
 of_store : (file before after : Option (List ℕ)) (topology : Content) (fault : Fault) → Says file topology → RefusesStore before after topology fault → IsOfMaking file before after fault
 of_store file before after topology fault h1 h2 = grind (arith, nat_tests)
 
--- a file that cannot be read, or is refused, where this is what was left to read of it
+-- a file that cannot be read, or is refused, if this was left to read of it
 pub refused_file : {A : Type 0} (file left same : Option (List ℕ)) (read : Result A Fault) (fault : Fault) → left ≡ file → read ≡ Err fault → IfErr read IsOfText
     → ((reason : ConfigFault) → reason ≢ of_topology.OutOfMemory → IfSome left (λ bytes. IfErr read (λ f. f ≡ Topology reason → said_by (take MOST_BYTES bytes) ≡ Err reason))) → IsOfMaking file same same fault
 refused_file file left same read fault all is named refused =
@@ -51,7 +51,7 @@ refused_file file left same read fault all is named refused =
     (λ reason wanted. subst (λ l. IfSome l (λ bytes. fault ≡ Topology reason → said_by (take MOST_BYTES bytes) ≡ Err reason)) all
     (subst (λ r. IfSome left (λ bytes. IfErr r (λ f. f ≡ Topology reason → said_by (take MOST_BYTES bytes) ≡ Err reason))) is (refused reason wanted)))
 
--- what the topology file was read as, where the store was made of it
+-- the topology that was read from the file, if the store was made of it
 pub said_of : (file left : Option (List ℕ)) (read : Result Given Fault) (topology : Given) → left ≡ file → read ≡ Ok topology
     → IfSome left (λ bytes. IfOk read (λ t. said_by (take MOST_BYTES bytes) ≡ Ok (content t))) → Says file (content topology)
 said_of file left read topology all is said =

@@ -1,4 +1,4 @@
--- The bytes of a store that was just made, and what is known of them.
+-- The bytes of a store that was just made, and facts about them.
 use Rattle.std.proofs.Common.{Result, Ok, Err, IfErr, OnOk, ◌≡◌, ◌⊎◌, ◌≢◌, ℕ, ◌<◌, Bool, true, false, List, [], ◌∷◌, ◌++◌, length, Option, Some, None, IfSome, inl, inr, refl, sym, ap, ◌∙◌, subst, if◌then◌else◌}
 use Rattle.coord_codec.specs.Worlds.{world}
 use Rattle.coord_config.specs.Topology.{Content}
@@ -43,7 +43,7 @@ pub in_commit : (fault : CommitFault) (answered : Fault) → answered ≡ fault_
 in_commit fault answered is (inl memory) device = let same : OutOfMemory ≡ Store of_store.Device = sym memory ∙ is ∙ ap fault_of_commit device in cc
 in_commit fault answered is (inr memory) device = let same : Store of_store.OutOfMemory ≡ Store of_store.Device = sym memory ∙ is ∙ ap fault_of_commit device in cc
 
--- ---- what is known of the bytes
+-- ---- facts about the bytes
 
 module _ (keeps keeps_on : Bool) (old new : Present) (topology : Content) where
   pub made_known : (w : World) → (keeps ≡ true → length old.read ≡ 0) → (keeps_on ≡ true → IsStore topology w new.read) → IsFounded topology w (reads (if keeps then Some old else None)) (reads (if keeps_on then Some new else None))
@@ -121,7 +121,7 @@ module _ (keeps keeps_on : Bool) (old new : Present) (topology : Content) (fault
   pub refused_known : IsOfCreation fault → RefusesStore read_before read_after topology fault
   refused_known of = refuses fault refl of
 
--- ---- a disk that is put back: where what it holds then is known, it is what the disk held
+-- ---- a disk that is put back: if its content then is known, it is the disk's
 
 stays_unread : (before : Option (List ℕ)) → StaysKnown before None
 stays_unread None = tt

@@ -14,12 +14,12 @@ use Rattle.coord_commands.specs.Printed.{migrated_line}
 use Rattle.coord_commands.specs.declared.fault.Fault.{Fault}
 use Rattle.coord_commands.specs.declared.fault.Fault.TheVariants.{Usage, Read, Write, Socket, TooManyReads, OutOfMemory, Topology, Store, Refused, NotClosed}
 
--- what holds of a disk that keeps the model, holds of what is known of it
+-- a predicate on a disk that keeps the model holds for its known content
 pub if_present : (keeps : Bool) (disk : Present) (P : Present → Type 0) → (keeps ≡ true → P disk) → IfSome (if keeps then Some disk else None) P
 if_present true disk P holds = holds refl
 if_present false disk P holds = tt
 
--- what holds of two disks that keep the model, holds of what is known of them
+-- a relation of two disks that keep the model holds for their known contents
 pub if_both : (keeps keeps' : Bool) (disk disk' : Present) (P : Present → Present → Type 0) → (keeps ≡ true → keeps' ≡ true → P disk disk') → IfSome (if keeps then Some disk else None) (λ old. IfSome (if keeps' then Some disk' else None) (λ new. P old new))
 if_both keeps keeps' disk disk' P h1 = grind (arith, nat_tests)
 
@@ -81,7 +81,7 @@ none_is_not (Some w) going is = cc
 pub going_on : {D : Type 0} (kept : Kept D) → kept.torn ≡ None → has_stopped kept ≡ true → ⊥
 going_on kept going is = none_is_not kept.torn going is
 
--- a disk is put back: where what it holds then is known, it is what the disk held
+-- a disk is put back: if its content then is known, it is the disk's
 pub closed : (Q : Option Present → Type 0) (known after : Option Present) → (Q known → Q None) → IfSome after (λ disk. known ≡ Some disk) → Q known → Q after
 closed Q known None less is held = less held
 closed Q known (Some disk) less is held = subst Q is held

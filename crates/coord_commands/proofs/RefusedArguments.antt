@@ -25,7 +25,7 @@ refused_arguments arguments fault status input output old new holds says why is 
       untouched = λ name. refl;
     }
 
--- arguments that could not be had
+-- arguments that could not be read
 pub lacks : (fault wanted : Fault) (status : ℕ) (input output old new : Option (List ℕ)) → fault ≡ wanted → status ≡ fault_status fault → WritesFirstPart old new (fault_line fault) → LacksArguments wanted status (files_around (record { input = input; output = output; errors = old })) (files_around (record { input = input; output = output; errors = new }))
 lacks fault wanted status input output old new is number answered = record { fails = record { fault = fault; possible = is; number = number; answered = answered; cut = inl (Keeps-refl output) }; unread = Keeps-refl input }
 

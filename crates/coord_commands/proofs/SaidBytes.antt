@@ -25,7 +25,7 @@ pub up_to : (left : Option (List ℕ)) (n : ℕ) (front old : List ℕ) → old 
 up_to None n front old none is = tt
 up_to (Some bytes) n front old none is = is ∙ ap (λ l. l ++ take n bytes) none
 
--- what holds of the front
+-- the predicate for the front
 pub of_front : (left : Option (List ℕ)) (n : ℕ) (front : List ℕ) (P : List ℕ → Type 0) → IfSome left (λ bytes. front ≡ take n bytes) → P front → IfSome left (λ bytes. P (take n bytes))
 of_front None n front P is here = tt
 of_front (Some bytes) n front P is here = subst P is here

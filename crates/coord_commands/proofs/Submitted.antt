@@ -23,7 +23,7 @@ module _ (commands : List Command) (i : ℕ) (x : Command) (steps : List Step) (
   pub submitted_push : steps ++ Order founder (length steps + 1) x ∷ [] ≡ numbered 1 (take (i + 1) commands)
   submitted_push = sym (ap (numbered 1) (take-push commands i x below is) ∙ behind [])
 
-  -- where the next one is refused
+  -- if the next one is refused
   pub refused_next : (reason : Refusal) → AllFresh (no_world 2) (no_world 2) steps → accepts (fold (no_world 2) steps) (no_world 2) (Order founder (length steps + 1) x) ≡ Err reason → IsRefusedBy (numbered 1 commands) reason
   refused_next reason fresh why =
       record {

@@ -6,7 +6,7 @@ use Rattle.clap.specs.declared.builder.action.ArgAction.TheVariants.{Set}
 use Rattle.coord_commands.specs.declared.arguments.Task.{Task}
 use Rattle.coord_commands.specs.declared.arguments.Task.TheVariants as task
 
--- what is asked for, with the arguments behind its name
+-- the request, with the arguments after the command's name
 pub data AskedCommand : Type 0 where
   drill : AskedCommand
   check : Text → AskedCommand
@@ -33,11 +33,11 @@ arguments_for (migrate file) = 3
 arguments_for (init file topology) = 4
 arguments_for (serve file address) = 4
 
--- what is asked, where the count of arguments is the one that its command takes
+-- the request, if the number of arguments is the one that the command takes
 abbrev pub in_arguments : ℕ → AskedCommand → Option AskedCommand
 in_arguments count asked = if arguments_for asked == count then Some asked else None
 
--- what a command asks for with a file and, where it has one, a second argument
+-- the request of a command with a file and, if it has one, a second argument
 abbrev pub asked_of_file : Text → Text → List Row → Option AskedCommand
 asked_of_file name file rows =
     if bytes_eq name (codes "check") then Some (check file)
@@ -57,7 +57,7 @@ asked_of_name name rows =
 abbrev pub argument_named : Text → Rule
 argument_named id = record (new_rule id) { action = Some Set; required = true }
 
--- the program as it is described to `clap`: what that refuses asks for nothing
+-- the program as it is described to `clap`: arguments that it refuses are no request
 abbrev pub resetd : App
 resetd =
     with_subcommand
@@ -71,7 +71,7 @@ resetd =
     (with_rule (with_rule (new_app (codes "serve")) (argument_named (codes "file"))) (argument_named (codes "address"))).top)
     (with_rule (new_app (codes "migrate")) (argument_named (codes "file"))).top
 
--- What the arguments ask for, the first of which is the program's own name: what the command that `clap` finds in them asks for,
--- where no other argument is among them, as `--`.
+-- The request of the arguments, the first of which is the program's own name: that of the command that `clap` finds
+-- in them, if there is no other argument among them, such as `--`.
 abbrev pub task_of : List Text → Option AskedCommand
 task_of arguments = option_and_then (in_arguments (length arguments)) (option_and_then (λ found. asked_of_name found.0 found.1) (subcommand_of resetd arguments))

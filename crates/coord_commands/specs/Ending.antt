@@ -1,4 +1,4 @@
--- How a command ends: its exit status, and what it adds to the output and to standard error.
+-- The end of a command: its exit status, and what it appends to the output and to standard error.
 use Rattle.std.specs.Prelude.{◌≡◌, ◌⊎◌, ℕ, List, Option}
 use Rattle.std.specs.Io.KnownBytes.{Appends, Keeps}
 use Rattle.coord_lines.specs.Written.{WritesFirstPart}

@@ -1,4 +1,4 @@
--- The texts and the exit statuses of faults, and what is printed of them.
+-- The texts and the exit statuses of faults, and their printed lines.
 use Rattle.std.specs.Prelude.{ℕ, List, ◌++◌, codes, decimal, Result, Ok, Err}
 use Rattle.coord_types.specs.Names.{refusal_text}
 use Rattle.coord_config.specs.Faults.{fault_name as topology_name}

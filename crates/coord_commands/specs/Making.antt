@@ -29,7 +29,7 @@ pub record IsFounded (topology : Content) (w : World) (before after : Option (Li
   pub empty : IfSome before (λ bytes. length bytes ≡ 0)
   pub made : IfSome after (IsStore topology w)
 
--- the topology file, where it is known, says this topology; no more of it is read than one byte after the longest
+-- the topology file, if it is known, contains this topology; at most one byte beyond the longest file is read
 abbrev pub Says : Option (List ℕ) → Content → Type 0
 Says file topology = IfSome file (λ bytes. said_by (take MOST_BYTES bytes) ≡ Ok topology)
 
@@ -54,30 +54,31 @@ pub record LeavesWithoutMemory (topology : Content) (before after : Option (List
   pub taken : KeepsTaken before after
   pub empty : IfSome before (λ old. length old ≡ 0 → IfSome after (λ new. (length new ≡ 0) ⊎ IsStore topology (no_world 2) new))
 
--- a disk that is not empty is refused, and then as it was
+-- a disk that is not empty is refused, and unchanged
 abbrev pub RefusesDisk : Option (List ℕ) → Option (List ℕ) → Content → StoreFault → Type 0
 RefusesDisk before after topology NotEmpty = IfSome before (λ bytes. 0 < length bytes) × StaysKnown before after
 RefusesDisk before after topology HalfSize = StaysKnown before after
 RefusesDisk before after topology of_store.OutOfMemory = LeavesWithoutMemory topology before after
 RefusesDisk before after topology fault = IsCreateFault fault
 
--- the topology file, where it is known, says no topology, and this is why; or there is no memory to read it
+-- the topology file, if it is known, contains no topology, for this reason; or memory to read it ran out
 abbrev pub RefusesFile : Option (List ℕ) → ConfigFault → Type 0
 RefusesFile file of_topology.OutOfMemory = Unit {0}
 RefusesFile file reason = IfSome file (λ bytes. said_by (take MOST_BYTES bytes) ≡ Err reason)
 
--- why the store of a topology is not made on a disk; where one of its orders is refused, it was made without any step
+-- why the store of a topology is not made on a disk; if one of its orders is refused, it was made without any step
 abbrev pub RefusesStore : Option (List ℕ) → Option (List ℕ) → Content → Fault → Type 0
 RefusesStore before after topology OutOfMemory = LeavesWithoutMemory topology before after
 RefusesStore before after topology (Store fault) = RefusesDisk before after topology fault
 RefusesStore before after topology (Refused refusal) = RefusesToBegin (orders topology) refusal × IsFounded topology (no_world 2) before after
 RefusesStore before after topology fault = ⊥
 
--- the topology file, where it is known, says a topology, and there was no memory to make its store, or to print the line of it
+-- the topology file, if it is known, contains a topology, and memory to make its store, or to print its line, ran out
 abbrev pub LacksMemoryToMake : Option (List ℕ) → Option (List ℕ) → Option (List ℕ) → Type 0
 LacksMemoryToMake file before after = (topology : Content) × Says file topology × (LeavesWithoutMemory topology before after ⊎ IsFounded topology (begun topology) before after)
 
--- The faults of `init`, its arguments aside. The topology file is judged first: it says a topology where its store is not made. Where the line cannot be written, the store was made.
+-- The faults of `init`, other than those of its arguments. The topology file is judged first: it contains a topology
+-- if its store is not made. If the line cannot be written, the store was made.
 abbrev pub IsOfMaking : Option (List ℕ) → Option (List ℕ) → Option (List ℕ) → Fault → Type 0
 IsOfMaking file before after Read = StaysKnown before after
 IsOfMaking file before after Write = (topology : Content) × Says file topology × IsFounded topology (begun topology) before after

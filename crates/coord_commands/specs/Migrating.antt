@@ -1,4 +1,4 @@
--- What `migrate` does to the disk of a name, as far as what it holds before and after is known.
+-- The effect of `migrate` on the named disk, as far as its content before and after is known.
 use Rattle.std.specs.Prelude.{◌≡◌, ◌⊎◌, ℕ, ◌+◌, true, List, Option, Some, IfSome, Result, Ok, Err}
 use Rattle.coord_disk.specs.Model.Moments.{LeavesOnly}
 use Rattle.coord_disk.specs.Model.DiskModel.{DiskModel}
@@ -67,13 +67,13 @@ IsOfRaising before after (Store (NotQuiet node)) = IsNotQuiet before after node
 IsOfRaising before after (Store fault) = IsOpenFault fault × IfSome before (λ old. RefusesOpen old.read fault) × ReadsAsBefore before after
 IsOfRaising before after fault = ⊥
 
--- the faults of `migrate`: where the line cannot be written, the store was raised
+-- the faults of `migrate`: if the line cannot be written, the store was migrated
 abbrev pub IsOfMigrating : Option Present → Option Present → Fault → Type 0
 IsOfMigrating before after Write = (w : World) × IsRaised before after w
 IsOfMigrating before after OutOfMemory = ReadsAsBefore before after ⊎ ((w : World) × IsRaised before after w)
 IsOfMigrating before after fault = IsOfRaising before after fault
 
--- how often the device has failed where the store is not raised
+-- how often the device has failed if the store is not migrated
 abbrev pub failed_in_migration : Fault → ℕ
 failed_in_migration (Store fault) = failed_in_store fault
 failed_in_migration fault = 0
@@ -82,7 +82,7 @@ abbrev pub failures_in_migration : {A : Type 0} → Result A Fault → ℕ
 failures_in_migration (Ok line) = 0
 failures_in_migration (Err fault) = failed_in_migration fault
 
--- the disk of the name was not to be had, or it was taken and put back
+-- the named disk was unavailable, or it was taken and put back
 abbrev pub EndsRaising : {D : Type 0} → DiskModel D → Option Present → Option Present → Fault → Type 0
 EndsRaising model before after fault =
     ((fault ≡ Store Device) × (after ≡ before)) ⊎ RaisesNamed model (failed_in_migration fault) before after

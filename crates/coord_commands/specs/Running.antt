@@ -19,7 +19,7 @@ use Rattle.coord_commands.specs.Arguments.{AskedCommand, check, drill, init, mig
 use Rattle.coord_commands.specs.declared.fault.Fault.{Fault}
 use Rattle.coord_commands.specs.declared.fault.Fault.TheVariants.{Usage, OutOfMemory}
 
--- what is known around a run: its streams, and by names what disks hold, and the bytes of texts
+-- the surroundings of a run: its streams, and by name the contents of disks and texts
 pub record Around : Type 0 where
   pub streams : Streams
   pub holds : List ℕ → Option Present
@@ -32,7 +32,7 @@ pub record HasDrilled (status : ℕ) (old new : Streams) : Type 0 where
   pub end : IsAtEnd new.input
   pub silent : Keeps old.errors new.errors
 
--- it has failed for this fault, where what was read and written ends
+-- it has failed for this fault, at the end of the input read and the output written
 pub record FailsToDrill (status : ℕ) (old new : Streams) : Type 0 where
   pub fault : DrillFault
   pub number : status ≡ fault_status (fault_of_drill fault)
@@ -47,7 +47,7 @@ RunsDrill status old new = HasDrilled status old new ⊎ FailsToDrill status old
 abbrev pub files_around : Streams → Around
 files_around streams = record { streams = streams; holds = λ _. None; says = λ _. None }
 
--- what is asked for is done
+-- the request is carried out
 abbrev pub Does : AskedCommand → ℕ → Around → Around → Type 0
 Does drill status old new = RunsDrill status old.streams new.streams
 Does (init file topology) status old new =
@@ -69,7 +69,7 @@ pub record RefusesArguments (arguments : List Text) (status : ℕ) (old new : Ar
   pub unread : Keeps old.streams.input new.streams.input
   pub untouched : (name : List ℕ) → new.holds name ≡ old.holds name
 
--- the arguments could not be had: nothing but this fault's line is printed, and nothing is read
+-- the arguments could not be read: only this fault's line is printed, and nothing is read
 pub record LacksArguments (fault : Fault) (status : ℕ) (old new : Around) : Type 0 where
   pub fails : CommandFails (λ answered. answered ≡ fault) (λ _. ⊥) status old.streams new.streams
   pub unread : Keeps old.streams.input new.streams.input
@@ -78,6 +78,6 @@ pub record LacksArguments (fault : Fault) (status : ℕ) (old new : Around) : Ty
 abbrev pub RunsMigrate : {D : Type 0} → DiskModel D → List Text → List ℕ → ℕ → Around → Around → Type 0
 RunsMigrate model arguments file status old new = RefusesArguments arguments status old new ⊎ EndsMigrating model (old.holds file) (new.holds file) status old.streams new.streams
 
--- the arguments are refused, or what they ask for is done
+-- the arguments are refused, or their request is carried out
 abbrev pub RunsArguments : List Text → ℕ → Around → Around → Type 0
 RunsArguments arguments status old new = RefusesArguments arguments status old new ⊎ ((asked : AskedCommand) × (task_of arguments ≡ Some asked) × Does asked status old new)

@@ -1,4 +1,5 @@
--- How `serve` ends, where this is the argument of its address, and this is what is known of the disk before and after it.
+-- How `serve` ends, with this argument as its address, as far as the content of the disk before and after it is
+-- known.
 use Rattle.std.specs.Prelude.{◌≡◌, ◌⊎◌, ℕ, ◌+◌, true, List, Option, Some, None, IfSome, Result, Ok, Err}
 use Rattle.std.specs.Io.KnownBytes.{Keeps}
 use Rattle.std.specs.Net.Grammar.{IsSocketV4Text}
@@ -54,7 +55,7 @@ fault_of_end ended = fault_at_end (has_stopped ended.closed.store) ended.served 
 abbrev pub RunsWithOutput : {D : Type 0} → DiskModel D → (List Step → ℕ → ℕ → ℕ → Type 0) → Kept D → Option (List ℕ) → Option (List ℕ) → ServerEnd D Timeouts (Option (List ℕ)) → Type 0
 RunsWithOutput model gives store old new ended = HasServedUsual model (λ known. known) gives store (new_printer old store.world.count) ended × (ended.printer.output ≡ new)
 
--- what a server returns that ended so: what it left, beside the fault if there is one
+-- the result of a server that ended so: what it left, beside the fault if there is one
 abbrev pub ReportedAtEnd : {D V W : Type 0} → ServerEnd D V W → Result (Closed D) (ServerFault × Closed D) → Type 0
 ReportedAtEnd ended (Ok closed) = (closed ≡ ended.closed) × (fault_of_end ended ≡ None)
 ReportedAtEnd ended (Err answered) = (answered.1 ≡ ended.closed) × (fault_of_end ended ≡ Some answered.0)
@@ -76,7 +77,7 @@ module _ {D : Type 0} (model : DiskModel D) where
     pub failures : model.failures back ≡ model.failures taken + failed
     pub reads : failed ≡ 0 → ReadsAsBefore before after
 
-  -- no store was opened: the disk was not to be had; or it was taken, refused and put back
+  -- no store was opened: the disk was unavailable; or it was taken, refused and put back
   pub record IsNotOpened (before after : Option Present) (answered : Fault) : Type 0 where
     pub fault : StoreFault
     pub named : answered ≡ Store fault

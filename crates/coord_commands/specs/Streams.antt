@@ -1,17 +1,17 @@
--- The streams of a run: what it reads, what it prints on, and where it reports faults.
+-- The streams of a run: its input, its output, and standard error.
 use Rattle.std.specs.Prelude.{ℕ, List, ◌∷◌, Option, option_map}
 
--- what is left of the input, and what the output and standard error hold, where that is known
+-- the rest of the input, and the content of the output and of standard error, if that is known
 pub record Streams : Type 0 where
   pub input : Option (List ℕ)
   pub output : Option (List ℕ)
   pub errors : Option (List ℕ)
 
--- what is known of an output that is lent, behind the number that stands for this output
+-- the known content of a lent output, after the number that identifies this output
 abbrev pub known_as : ℕ → Option (List ℕ) → Option (List ℕ)
 known_as number bytes = option_map (λ known. number ∷ known) bytes
 
--- the streams themselves, and what is known of them
+-- the streams themselves, and their known contents
 pub record StreamsState (R W E : Type 0) : Type 0 where
   pub input : R
   pub output : W

@@ -113,7 +113,7 @@ fn argument_named(alloc: Global, id: &str) -> Arg<'_>
     Arg::new(alloc, id).required(true).action(ArgAction::Set)
 }
 
-/// What the command asks for that `clap` found in so many arguments.
+/// Returns the request of the command that `clap` found in this many arguments.
 fn task_in<'a>(matches: &ArgMatches<'a>, count: usize) -> Option<Task<'a>>
     ensures { option_map asked_of result ≡ option_and_then (in_arguments count)
         (option_and_then (λ found. asked_of_name found.0 found.1) (subcommand_rows_of matches.now)) }

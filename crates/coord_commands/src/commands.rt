@@ -80,9 +80,9 @@ pub fn init<S: Files<File = File> + AllocGlobal, R: Read, W: Write, E: Write>(
     init_in(rt.alloc(), &mut folder, file, topology, streams)
 }
 
-/// Raises the store on a file to version 2, prints how many steps it has, and answers the exit
-/// status. The file is locked meanwhile, and made where there is none. A store of version 2 is left
-/// as it is, and the same is printed; one with a node in a reset is refused, and left as it is too.
+/// Migrates the store in a file to version 2, prints its number of steps, and returns the exit
+/// status. The file is locked meanwhile, and created if it does not exist. A store of version 2 is
+/// unchanged, and the same is printed; one with a node in a reset is refused and unchanged too.
 pub fn migrate<S: Files<File = File> + AllocGlobal, R: Read, W: Write, E: Write>(
     rt: &S,
     file: &str,

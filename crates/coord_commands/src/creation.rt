@@ -21,7 +21,7 @@ use coord_store::Store;
 use std::alloc::Global;
 
 /// Makes a store on an empty disk, which begins with the nodes and links of a topology, committed
-/// at once. Where one of them is refused, the store is left empty.
+/// at once. If one of them is refused, the store is left empty.
 pub fn create_store<D: Disk + Takable>(
     alloc: Global,
     disk: D,

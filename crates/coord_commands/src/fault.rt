@@ -60,8 +60,8 @@ impl Fault {
         }
     }
 
-    /// The exit status: 1 for what was refused, 2 for refused arguments, 3 for reading, writing, sockets
-    /// and the device, 4 for lack of memory.
+    /// Returns the exit status: 1 for a refusal, 2 for refused arguments, 3 for reading, writing,
+    /// sockets and the device, 4 for out of memory.
     pub fn status(&self) -> u8
         ensures number { result ≡ fault_status self.now }
         ensures failed { 0 < result }

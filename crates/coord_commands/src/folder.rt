@@ -1,4 +1,4 @@
-//! Where the disks and texts of names are.
+//! The places of named disks and texts.
 
 ghost use Rattle.std.specs.Prelude.{◌≡◌, Option, List, ℕ, Some, None, IfErr, IfOk, IfSome};
 ghost use Rattle.coord_commands.specs.Folders.{bytes_of, known_of, reads};
@@ -17,7 +17,7 @@ pub trait Folder {
     /// A disk under a name.
     type Disk: Disk + Send + Takable;
 
-    /// A text under a name, as it is read.
+    /// A named text, read whole.
     type Text: Read + Drop;
 
     ghost holds: { Self → List ℕ → Option Present };

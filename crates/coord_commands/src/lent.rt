@@ -4,9 +4,9 @@ use coord_server::TakableOutput;
 use std::io;
 use std::io::Write;
 
-/// An output that is lent to a server. What contracts see of its bytes begins with the number that stands
-/// for this output: so if a server returns one that holds what was lent, and more after it, that
-/// is this very output, and no other.
+/// An output that is lent to a server. The bytes that contracts see begin with the number that
+/// identifies this output: so if a server returns one that holds the lent bytes, and more after
+/// them, it is exactly this output.
 #[derive(Drop)]
 pub struct Lent<'a, W: Write> {
     pub output: &'a mut W,

@@ -1,17 +1,17 @@
 //! The program's commands: each a function that answers its exit status.
 //!
-//! `specs/Arguments.antt` says what the program's arguments ask for, `specs/Faults.antt` what the faults
-//! are called, which status each has and what is printed of it, and `specs/Printed.antt` the lines
-//! of a store. `run` carries out what the arguments ask for.
+//! `specs/Arguments.antt` defines the request of the program's arguments, `specs/Faults.antt` the
+//! name, the status and the printed line of each fault, and `specs/Printed.antt` the lines of a
+//! store. `run` carries out the arguments.
 //!
-//! Each command but the drill works in a `Folder`, which says where the disks and texts of names
-//! are: `run_in`, `init_in`, `check_in`, `show_in`, `migrate_in` and `serve_in`. The public
-//! commands are thin calls of these over the files of the system, of which nothing is claimed; of a
-//! `MemFolder`, whose disk and texts are in memory, all is known. `run_in` waits for nobody, and
-//! leaves just `serve` to its caller.
+//! Each command but the drill works in a `Folder`, which has the named disks and texts: `run_in`,
+//! `init_in`, `check_in`, `show_in`, `migrate_in` and `serve_in`. The public commands are thin
+//! calls of these over the files of the system, of which nothing is claimed; of a `MemFolder`,
+//! whose disk and texts are in memory, everything is known. `run_in` waits for nobody, and leaves
+//! `serve` to its caller.
 //!
-//! What a run reads, what it prints on and where it reports faults goes about as one value,
-//! `Streams`. A contract sees the three and what is known of them (`specs/Streams.antt`).
+//! The input, the output and standard error of a run are passed as one value, `Streams`. A contract
+//! sees the three and their known contents (`specs/Streams.antt`).
 //!
 //! Beneath them are functions over any disk: `create_store`, whose store begins with the orders of
 //! a topology (`specs/Founding.antt`), `check_store` and `show_store` (`specs/Inspection.antt`),

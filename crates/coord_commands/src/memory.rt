@@ -56,7 +56,7 @@ impl Folder for MemFolder {
 
     ghost says = { λ folder. text_under folder.texts.items };
 
-    /// A copy, of which a crash leaves only what is synced.
+    /// A copy, of which a crash leaves only the synced bytes.
     fn open_to_read(&self, name: &str) -> Result<MemDisk, DiskFault> {
         if self.name.as_str() != name {
             return Err(DiskFault);

@@ -21,13 +21,13 @@ use coord_store::Store;
 use std::alloc::Global;
 use std::io::{Read, Write};
 
-/// Raises the store on the disk of a name to version 2, prints how many steps it has, and answers
-/// the exit status. A store of version 2 is left as it is, and the same is printed; one with a node
-/// in a reset is refused, and left as it is too.
+/// Migrates the store on the named disk to version 2, prints its number of steps, and returns the
+/// exit status. A store of version 2 is unchanged, and the same is printed; one with a node in a
+/// reset is refused and unchanged too.
 ///
-/// At each moment, from the taking of the disk until it is put back, a crash leaves what it could have
-/// left before or what gives the world in one version or the other. `Device` is reported if the disk
-/// is not to be had, or its count of failures rose.
+/// At each moment, from the taking of the disk until it is put back, a crash leaves what it could
+/// have left before or the world in one version or the other. `Device` is reported only if the disk
+/// is unavailable, or its count of failures rose.
 pub fn migrate_in<F: Folder, R: Read, W: Write, E: Write>(
     alloc: Global,
     folder: &mut F,
@@ -102,9 +102,9 @@ fn migrate_disk<D: Disk + Takable>(alloc: Global, disk: D) -> (Result<String, Fa
     }
 }
 
-/// Raises an opened store to version 2, and answers the line that is to be printed, with the count
-/// of its steps, which stays. The line is made before the store is raised: without memory for it
-/// the store stays as it was.
+/// Migrates an opened store to version 2, and returns the line to print, with its number of steps,
+/// which stays. The line is made before the store is migrated: if memory for it runs out the store
+/// is unchanged.
 pub fn migrate_store<D: Disk + Takable>(
     alloc: Global,
     store: &mut Store<D>,

@@ -21,9 +21,9 @@ use std::sync::Wait;
 use std::thread::Threads;
 use std::time::Clock;
 
-/// Carries out what the program's arguments ask for, the first of which is its own name, and answers the
-/// exit status: the drill reads the input, what is asked for is printed on the output, and the line
-/// of a fault on standard error. If the arguments could not be had, that is reported, and nothing is done.
+/// Carries out the program's arguments, the first of which is its own name, and returns the exit
+/// status: the drill reads the input, results are printed on the output, and the line of a fault on
+/// standard error. If the arguments could not be read, that is reported, and nothing is done.
 pub fn run_program<
     S: Files<File = File> + Net + Threads + Wait + Clock + Sync + AllocGlobal,
     I: Iterator<Item = String>,
@@ -51,7 +51,7 @@ pub fn run_program<
 
 /// Opens a folder for reading, so that each standard descriptor that was closed when the program
 /// began is taken, and a read or write of it fails. Otherwise a file that is opened later gets its
-/// number, and what is printed goes into that file.
+/// number, and output goes into that file.
 fn take_descriptors<S: Files<File = File>>(rt: &S) -> [io::Result<File>; 3] {
     [
         File::open(rt, "/"),

@@ -23,9 +23,9 @@ pub struct ToServe<'a> {
     pub address: &'a str,
 }
 
-/// Carries out what the program's arguments ask for in a folder, and answers the exit status; with
-/// nothing done what is to be served, where they ask for `serve`. It waits for nobody. Of `migrate` it
-/// says too what a crash may leave at each moment.
+/// Carries out the program's arguments in a folder, and returns the exit status; for `serve` it
+/// does nothing and returns what to serve. It waits for nobody. For `migrate` it also states what a
+/// crash may leave at each moment.
 pub fn run_in<'a, F: Folder, R: Read, W: Write, E: Write>(
     alloc: Global,
     folder: &mut F,

@@ -51,11 +51,11 @@ pub fn serve<
     serve_in(rt, &mut folder, file, address, streams)
 }
 
-/// Serves the store on the disk of a name to the connections that come to an address, until one of
-/// them closes it, and answers the exit status. The address is judged before the disk is opened,
-/// and the socket is bound once the store is open. The disk is put back in any case: as a server has left
-/// it; or as it was, where it is refused, no socket can be bound, or there is no memory to begin with. What
-/// the server prints goes to the output, and nothing else does.
+/// Serves the store on the named disk to the connections at an address, until one of them closes
+/// it, and returns the exit status. The address is checked before the disk is opened, and the
+/// socket is bound once the store is open. The disk is put back in any case: as a server has left
+/// it; or unchanged, if it is refused, no socket can be bound, or memory to begin runs out. Only
+/// the server prints to the output.
 pub fn serve_in<
     S: Net + Threads + Wait + Clock + Sync + AllocGlobal,
     F: Folder,
@@ -122,9 +122,9 @@ fn serve_at<S: Net + Threads + Wait + Clock + Sync + AllocGlobal, F: Folder, W: 
     }
 }
 
-/// Serves an opened store to the connections of a listener, until a line closes it, and returns what is left of
-/// its last engine, beside the fault if there is one; or the store as it was, with nothing more in the output,
-/// if there was no memory to begin. What it prints goes to the output.
+/// Serves an opened store to the connections of a listener, until a line closes it, and returns the
+/// last engine's state, beside the fault if there is one; or the store and the output unchanged, if
+/// memory to begin ran out. Only the server prints to the output.
 fn serve_open<
     'a,
     D: Disk + Send,
@@ -196,8 +196,8 @@ fn serve_and_report<
     }
 }
 
-/// A listener at an address, where a descriptor is left for a connection: without one the server
-/// would listen, and answer nobody.
+/// A listener at an address, if a descriptor is left for a connection: without one the server would
+/// listen, and answer nobody.
 fn listening<S: Net>(rt: &S, address: SocketAddrV4) -> io::Result<S::Listener> {
     let listener = TcpListener::bind(rt, SocketAddr::V4(address))?;
     let spare = listener.try_clone()?;

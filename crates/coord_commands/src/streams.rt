@@ -1,4 +1,4 @@
-//! What a command reads, what it prints on, and where it reports faults.
+//! The input of a command, its output, and standard error.
 
 ghost use Rattle.coord_commands.specs.Streams.{StreamsState};
 

@@ -13,7 +13,7 @@ use std::alloc::Global;
 use std::io::Read;
 use std::str;
 
-/// One byte more than the longest topology file has: what stands after it is not read.
+/// One byte more than the longest topology file: the bytes after it are not read.
 const MOST_BYTES: u64 = MAX_TEXT_BYTES as u64 + 1;
 
 /// Reads a topology file.

@@ -17,7 +17,7 @@ use Rattle.coord_engine.specs.declared.collected.Collected.TheVariants.{Settled,
 abbrev pub note_of : Claim → Note
 note_of claim = record { step = claim.step; what = claim.what; kind = claim.kind }
 
--- what is said to a step, memory aside: none is accepted once the engine is finishing
+-- the answer to a step, memory aside: none is accepted once the engine is finishing
 abbrev pub engine_verdict : {D : Type 0} → GuardedState D → Step → Result Verdict Refusal
 engine_verdict g s = if g.finishing then Err Stopped else verdict g.ledger.log s
 
@@ -26,7 +26,8 @@ pub record LedgerAndNotes (D : Type 0) : Type 0 where
   pub ledger : LedgerState D
   pub notes : List Note
 
--- An accepted step is added to the trail, and its note to the caller's; a repeat gets the reply that was kept. Being out of memory may stand in the place of any answer, and after a refusal nothing has changed.
+-- An accepted step is added to the trail, and its note to the caller's; a repeat gets the kept reply. OutOfMemory may
+-- replace any answer, and a refusal changes nothing.
 abbrev pub AnswersStep : {D : Type 0} → Step → Result Verdict Refusal → LedgerAndNotes D → Result Claim Refusal → LedgerAndNotes D → Type 0
 AnswersStep s (Ok (Fresh kind)) before (Ok claim) after = (claim ≡ claimed s (reply (front_world before.ledger.log) s)) × (after ≡ record { ledger = with_accepted before.ledger s; notes = before.notes ++ note_of claim ∷ [] })
 AnswersStep s (Ok (Repeat kept)) before (Ok claim) after = (claim ≡ claimed s kept) × (after ≡ before)
@@ -40,13 +41,13 @@ RefusesTicket l claim Stranger = (claim.step ≤ settled_count l.log) × ¬ IsCo
 RefusesTicket l claim Stopped = (settled_count l.log < claim.step) × (is_some l.log.doubt ≡ true)
 RefusesTicket l claim refusal = ⊥
 
--- what is said to a ticket: its reply once its step is settled, that there will be none, or that it has to wait
+-- the answer to a ticket: its reply once its step is settled, that there will be none, or that it has to wait
 abbrev pub CollectsAs : {D : Type 0} → LedgerState D → Claim → Collected → Type 0
 CollectsAs l claim (Settled reply) = (reply ≡ reply_of claim) × IsCollectable l.log claim
 CollectsAs l claim (Refused refusal back) = (back ≡ claim) × RefusesTicket l claim refusal
 CollectsAs l claim (Waiting back) = (back ≡ claim) × (settled_count l.log < claim.step) × (is_some l.log.doubt ≡ false)
 
--- what is returned to a ticket that need not wait: its reply, or that there will be none
+-- the answer to a ticket that need not wait: its reply, or that there will be none
 abbrev pub IsReturnedToTicket : {D : Type 0} → LedgerState D → Claim → Result Reply (Refusal × Claim) → Type 0
 IsReturnedToTicket l claim (Ok reply) = CollectsAs l claim (Settled reply)
 IsReturnedToTicket l claim (Err refused) = CollectsAs l claim (Refused refused.0 refused.1)

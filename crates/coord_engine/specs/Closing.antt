@@ -21,7 +21,8 @@ fault_name SharesMissing = codes "SharesMissing"
 fault_name NotNamed = codes "NotNamed"
 fault_name NotSettled = codes "NotSettled"
 
--- What is left is of a ledger that had this base and had accepted these steps, and that has accepted since just what the shares noted: each step once with the kind of its reply, and each share's own in order.
+-- The remaining ledger had this base and had accepted these steps, and has since accepted exactly the steps that the
+-- shares noted: each once with the kind of its reply, and each share's own in order.
 pub record IsSince (base : World) (before : List Step) (shares : List (List Note)) (left : World) (trail : List Step) : Type 0 where
   pub same_base : left ≡ base
   pub begins : take (length before) trail ≡ before
@@ -32,7 +33,7 @@ abbrev pub IsNamedBy : {D : Type 0} → GuardedState D → List (List Note) → 
 IsNamedBy g shares =
     IsNamed shares (g.ledger.log.base.count + g.start) (drop g.start g.ledger.log.trail) (drop g.start (kinds_of g.ledger.log.base g.ledger.log.trail))
 
--- no flight is out, each share that was given out is there, and they noted what was accepted
+-- no flight is out, each share is back, and they noted exactly the accepted steps
 pub record MayClose {D : Type 0} (g : GuardedState D) (shares : List (List Note)) : Type 0 where
   pub home : is_none g.ledger.disk ≡ false
   pub all : length shares ≡ g.given

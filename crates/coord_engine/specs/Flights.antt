@@ -14,7 +14,7 @@ abbrev pub Begins : {D : Type 0} → Basis D → Option (FlightState D) → Type
 Begins b (Some flight) = AtSomeMoment b (Leaves flight)
 Begins b None = AtSomeMoment b (λ g. keeps_store g.ledger ≡ true)
 
--- what is answered where it is to leave; or there was no memory for it
+-- the answer if it may leave; or memory for it ran out
 abbrev pub AnswersBegin : {D E : Type 0} → Basis D → Result (Option (FlightState D)) E → Type 0
 AnswersBegin b (Ok begun) = Begins b begun
 AnswersBegin b (Err fault) = AtSomeMoment b (λ g. keeps_store g.ledger ≡ false)
@@ -45,7 +45,8 @@ pub record FlewBack {D : Type 0} (b : Basis D) (mark : Mark) (failed : ℕ) : Ty
   pub tried : IsTried b.failures left back mark failed
   pub comes : AtSomeMoment b (ComesBack back)
 
--- Why no flight was settled: Device where one that left came back torn, its disk failed meanwhile, and the ledger has its steps in doubt; OutOfMemory where none could leave, or one came back new.
+-- Why no flight was settled: Device if one that left came back torn, its disk failed meanwhile, and the ledger has
+-- its steps in doubt; OutOfMemory if none could leave, or one came back new.
 abbrev pub RefusesFlush : {D : Type 0} → Basis D → CommitFault → Type 0
 RefusesFlush b Device = FlewBack b Torn 1
 RefusesFlush b OutOfMemory = AtSomeMoment b (λ g. keeps_store g.ledger ≡ false) ⊎ FlewBack b New 0

@@ -26,7 +26,9 @@ finds_no_memory answer = false
 
 -- the meaning of an engine, and of the port that it hands to
 module _ {D P : Type 0} (b : Basis D) (carried : P → ℕ → Packet → Bool → P → Type 0) (signalled : P → ℕ → ℕ → ℕ → Bool → P → Type 0) (handed_on : P → ℕ → P → Type 0) where
-  -- what follows a flush before the next one: all that was released is asked of the port, each delivery once and in order, and then it is to hand on what it has gathered; where none left or there was no memory, nothing is; after any other fault no flush follows
+  -- between a flush and the next one: every release is requested from the port, each delivery once and in order, and
+  -- then the port hands on what it has gathered; nothing if no flight left or memory ran out; after any other fault
+  -- no flush follows
   abbrev pub FollowsFlush : P → Result (Option (List Release)) CommitFault → P → Type 0
   FollowsFlush port (Ok None) later = later ≡ port
   FollowsFlush port (Ok (Some released)) later = AreHanded carried signalled handed_on port (deliveries_of released) later

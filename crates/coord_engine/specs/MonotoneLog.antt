@@ -33,11 +33,11 @@ KnowOneHistory views = (history : List Step) × ((pass : ℕ) (v : Known) → ge
 abbrev pub IsWrittenOn : List Step → TableStep (Unit {0}) → Me (Unit {0}) Known → ℕ → Me (Unit {0}) Known → Type 0
 IsWrittenOn steps s before found after = after ≡ (knows steps before.0.returned, before.1)
 
--- what a token has read begins with what it knows another one has read
+-- the prefix of a token begins with the known prefix of another one
 abbrev pub IsCompared : TableStep (Unit {0}) → Me (Unit {0}) Known → ℕ → Me (Unit {0}) Known → Type 0
 IsCompared s before found after = (after ≡ before) × StartsWith before.0.read before.0.returned
 
--- what a token has read now begins with what it had read, and with what it knew another one had read
+-- the new prefix of a token begins with its old one, and with the known prefix of another one
 abbrev pub HasReadOn : TableStep (Unit {0}) → Me (Unit {0}) Known → ℕ → Me (Unit {0}) Known → Type 0
 HasReadOn s before found after = StartsWith after.0.read before.0.read × StartsWith after.0.read before.0.returned × (after.1 ≡ before.1)
 

@@ -30,7 +30,8 @@ is_gathered g = nat_eq g.in_hand 0 && nat_le g.awaited (pending_count g)
 abbrev pub starts_at_once : {D : Type 0} → GuardedState D → Bool
 starts_at_once g = is_gathered g || (nat_le MAX_BATCH_STEPS (pending_count g) || g.finishing)
 
--- a flusher is to be woken: where nothing could be flushed before, since from now on it waits only a little, and once a flight starts at once
+-- a flusher must be woken: if nothing could be flushed before, since it then waits only a little, and at once when a
+-- flight starts
 abbrev pub wakes_flusher : {D : Type 0} → Bool → GuardedState D → Bool
 wakes_flusher was_idle g = not (is_idle g) && (was_idle || starts_at_once g)
 
@@ -52,7 +53,8 @@ is_order (Clear receipt) = false
 abbrev pub leaving_orders : {D : Type 0} → GuardedState D → ℕ
 leaving_orders g = count_by is_order (take MAX_BATCH_STEPS (pending g.ledger.log))
 
--- of so many steps that are likely to come, how many are waited for: all, or none where that many fill a flight well without
+-- of the steps that are likely to come, how many are waited for: all, or none if they would fill a flight well
+-- without waiting
 abbrev pub worth_awaiting : ℕ → ℕ
 worth_awaiting n = if nat_le n MOST_AWAITED then n else 0
 

@@ -25,7 +25,7 @@ pub record Past : Type 1 where
 abbrev pub no_past : Past
 no_past = record { keeps_model = false; clock = 0; left_since = λ t image. ⊥ }
 
--- of a disk as it is now
+-- of a disk in its present state
 abbrev pub past_of : {D : Type 0} → DiskModel D → D → Past
 past_of m disk = record { keeps_model = m.keeps_model disk; clock = m.clock disk; left_since = m.left_since disk }
 
@@ -93,7 +93,8 @@ pub record FliesBehind {D : Type 0} (m : DiskModel D) (history : TableId) (earli
   pub read_them : HasReadSettled history earlier settled read
   pub flies : FliesFrom m first base settled f
 
--- A new flight was committed with this answer: its disk keeps the model as before, and a crash at any moment of the call left the world from before its steps or the one after them; where there was no memory, the one from before.
+-- A new flight was committed with this answer: its disk keeps the model as before, and a crash at any moment of the
+-- call left the world before its steps or the one after them; if memory ran out, the one before.
 pub record LeavesFlown {D : Type 0} (m : DiskModel D) (left now : FlightState D) (answer : Result (Unit {0}) CommitFault) : Type 0 where
   pub same_model : m.keeps_model now.disk ≡ m.keeps_model left.disk
   pub moments : m.keeps_model left.disk ≡ true → LeavesOnly m left.disk now.disk (GivesEither left.world (fold left.world left.steps))

@@ -1,4 +1,4 @@
--- What is asked of a port for what was released, and which step each packet makes.
+-- The requests to a port for releases, and the step of each packet.
 use Rattle.std.specs.Prelude.{◌≡◌, ℕ, Bool, List, [], ◌∷◌, ◌++◌, map}
 use Rattle.coord_types.specs.declared.outputs.Output.{Output}
 use Rattle.coord_types.specs.declared.outputs.Output.TheVariants as output
@@ -16,7 +16,7 @@ delivery_of step (output.Sent p) = Carry p.to (Carried p)
 delivery_of step (output.Receipted p) = Carry p.from (Receipted p)
 delivery_of step (output.Signalled u epoch) = Signal step u epoch
 
--- what is asked for some releases, in their order
+-- the requests for some releases, in their order
 abbrev pub deliveries_of : List Release → List Delivery
 deliveries_of released = map (λ r. delivery_of r.step r.output) released
 
@@ -46,9 +46,10 @@ module _ {P : Type 0} (carried : P → ℕ → Packet → Bool → P → Type 0)
   AreAsked port [] later = later ≡ port
   AreAsked port (d ∷ ds) later = (next : P) × IsAsked port d next × AreAsked next ds later
 
-  -- `handed_on`: what a port may be once it has handed on what it had gathered, and answered that so many packets are lost
+  -- `handed_on`: the possible states of a port after it has handed on its packets, and returned that this many are
+  -- lost
   module _ (handed_on : P → ℕ → P → Type 0) where
-    -- a port was asked for these, each once and in order, and then to hand on what it had gathered
+    -- a port received these requests, each once and in order, and then handed on its packets
     pub record AreHanded (port : P) (ds : List Delivery) (later : P) : Type 0 where
       pub asked : P
       pub lost : ℕ

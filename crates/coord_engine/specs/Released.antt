@@ -15,7 +15,8 @@ pub record GivesSignal (base : World) (steps : List Step) (step node epoch : ℕ
   pub after : List Release
   pub given : releases_of (outs base steps) ≡ before ++ release_of step (Signalled node epoch) ∷ after
 
--- what was read are earlier steps of this history, and after them the settled steps of an instance that began with this world
+-- the steps that were read are earlier steps of this history, followed by the settled steps of an instance that began
+-- with this world
 abbrev pub HasReadSettled : TableId → List Step → List Step → Beginning → Type 0
 HasReadSettled history earlier settled read = read ≡ record { history = history; steps = earlier ++ settled }
 
@@ -29,11 +30,13 @@ pub record AreOfSettled (history : TableId) (earlier : List Step) (base : World)
   pub read_them : HasReadSettled history earlier settled read
   pub given : MayAskAll (GivesSignal base settled) released
 
--- a port may be asked for each signal among these by one who has read the settled steps that give them out
+-- each signal among these may be requested from a port by a holder of a token that has read the settled step of the
+-- signal
 abbrev pub MayHand : TableId → List Step → World → (Beginning → ℕ → ℕ → ℕ → Type 0) → List Release → Type 0
 MayHand history earlier base may released = (read : Beginning) → AreOfSettled history earlier base read released → MayAskAll (may read) released
 
--- A port may be asked for each signal of a settled step by one who has read that step. `may`: for which it may be asked, by what was read, step, node and epoch
+-- Each signal of a settled step may be requested from a port by a holder of a token that has read that step. `may`:
+-- which signals may be requested, by the steps read, step, node and epoch
 abbrev pub MayPrint : TableId → List Step → World → (Beginning → ℕ → ℕ → ℕ → Type 0) → Type 0
 MayPrint history earlier base may =
     (settled : List Step) (step node epoch : ℕ) → GivesSignal base settled step node epoch → may (record { history = history; steps = earlier ++ settled }) step node epoch

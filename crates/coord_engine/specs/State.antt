@@ -10,12 +10,12 @@ pub record GuardedState (D : Type 0) : Type 0 where
   pub ledger : LedgerState D
   pub start : ℕ  -- how many steps the trail had when the engine was made
   pub noted : ℕ  -- how many steps all shares have noted
-  pub given : ℕ  -- how many shares were given out
+  pub given : ℕ  -- the number of shares
   pub finishing : Bool  -- no more steps are accepted
   pub in_hand : ℕ  -- how many packets callers may still turn into steps: a hint
   pub awaited : ℕ  -- how many steps the next flight waits for, and while one is out how many orders left with it: a hint
 
--- how many shares there are; one more part of the count stays behind the lock
+-- the number of shares; one more part of the count stays with the value under the lock
 abbrev pub most_shares : ℕ
 most_shares = 65535
 
@@ -55,7 +55,7 @@ guarded_over l = record { ledger = l; start = length l.log.trail; noted = 0; giv
 abbrev pub with_ledger : {D : Type 0} → GuardedState D → LedgerState D → GuardedState D
 with_ledger g l = record g { ledger = l }
 
--- with its ledger changed, and so many steps noted
+-- with its ledger changed, and this many steps noted
 abbrev pub with_noted : {D : Type 0} → GuardedState D → LedgerState D → ℕ → GuardedState D
 with_noted g l n = record g { ledger = l; noted = n }
 

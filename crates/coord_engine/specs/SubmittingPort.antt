@@ -1,4 +1,4 @@
--- A port that submits packets itself: what it has, and what it may be once it was asked.
+-- A port that submits packets itself: its state, and its possible states after each request.
 use Rattle.std.specs.Prelude.{◌≡◌, ◌≤◌, ℕ, Bool, true, false, List, [], ◌∷◌, ◌++◌, length}
 use Rattle.coord_types.specs.declared.packets.Packet.{Packet}
 use Rattle.coord_ledger.specs.declared.ticket.Note.{Note}
@@ -6,7 +6,8 @@ use Rattle.coord_engine.specs.State.{Basis}
 use Rattle.coord_engine.specs.Working.{WorksAndTries}
 use Rattle.coord_engine.specs.declared.hand.Hand.{Hand}
 
--- the port that signals go to, the packets that it has gathered and for how many there is room, the notes of those whose step was accepted, and what it has of those that were not
+-- the port for signals, the gathered packets and the room for them, the notes of those whose step was accepted, and
+-- the packets that wait
 pub record Submitting (P : Type 0) : Type 0 where
   pub signals : P
   pub gathered : List Packet
@@ -14,14 +15,14 @@ pub record Submitting (P : Type 0) : Type 0 where
   pub notes : List Note
   pub hand : Hand
 
--- nothing but what is gathered has changed, and there is no less room
+-- only the gathered packets have changed, and there is at least as much room
 pub record KeepsRest {P : Type 0} (port later : Submitting P) : Type 0 where
   pub signals : later.signals ≡ port.signals
   pub notes : later.notes ≡ port.notes
   pub hand : later.hand ≡ port.hand
   pub room : port.room ≤ later.room
 
--- a packet is gathered after the others; only where there is no room it may be lost
+-- a packet is gathered after the others; it may be lost only if there is no room
 abbrev pub Gathers : {P : Type 0} → Submitting P → ℕ → Packet → Bool → Submitting P → Type 0
 Gathers port to packet true later = (later.gathered ≡ port.gathered ++ packet ∷ []) × KeepsRest port later
 Gathers port to packet false later = (later.gathered ≡ port.gathered) × (port.room ≤ length port.gathered) × KeepsRest port later

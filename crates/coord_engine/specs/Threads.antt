@@ -44,12 +44,13 @@ RefusesShow (Behind settled) seen g = (settled ≡ settled_count g.ledger.log) �
 RefusesShow OutOfMemory seen g = Unit {0}
 RefusesShow refusal seen g = ⊥
 
--- what is answered to a caller that wants to see it, once this was read: it is shown, or not and the caller has seen no more
+-- the answer to a caller that wants a view, once this was read: the view, or a refusal that leaves the caller's seen
+-- count
 abbrev pub AnswersShow : {D : Type 0} → Basis D → TableId → List Step → Beginning → Result Shown Refusal → ℕ → ℕ → Type 0
 AnswersShow {D} b history earlier read (Ok view) seen later = AtMomentRead b history earlier read (Shows {D = D} view seen later)
 AnswersShow {D} b history earlier read (Err refusal) seen later = AtMomentRead b history earlier read (RefusesShow {D = D} refusal seen) × (later ≡ seen)
 
--- what is answered to a ticket that was waited for, once this was read
+-- the answer to a ticket that was waited for, once this was read
 abbrev pub AnswersTicket : {D : Type 0} → Basis D → TableId → List Step → Beginning → Claim → Result Reply (Refusal × Claim) → Type 0
 AnswersTicket {D} b history earlier read claim answer = AtMomentRead {D = D} b history earlier read (λ g. IsReturnedToTicket g.ledger claim answer)
 
@@ -65,7 +66,7 @@ Flushes released g = (keeps_store g.ledger ≡ false) × (released ≡ releases_
 abbrev pub SendsAgain : {D : Type 0} → List Release → GuardedState D → Type 0
 SendsAgain released g = released ≡ resent (settled_world g.ledger.log)
 
--- what is left of an engine is what its ledger had: the base, the steps, how many are settled, and the store
+-- an engine leaves its ledger's base, steps, settled count and store
 abbrev pub IsLeftOf : {D : Type 0} → Kept D → World → List Step → ℕ → GuardedState D → Type 0
 IsLeftOf store base trail settled g =
     (base ≡ g.ledger.log.base) × (trail ≡ g.ledger.log.trail) × (settled ≡ settled_count g.ledger.log)

@@ -1,4 +1,4 @@
--- How a worker works: what came, what was tried, what waits, and what it notes in its share.
+-- How a worker works: the packets that came, its attempts, the packets that wait, and the notes of its share.
 use Rattle.std.specs.Prelude.{◌≡◌, ◌⊎◌, ℕ, ◌+◌, ◌-◌, ◌^◌, min, Bool, true, false, List, [], ◌∷◌, ◌++◌, All, Result, Ok, Err, Vec, flat_map}
 use Rattle.std.specs.declared.alloc.Global.{Global}
 use Rattle.coord_types.specs.declared.packets.Packet.{Packet}
@@ -22,7 +22,7 @@ pub record AddsPackets (notes later : List Note) : Type 0 where
   pub are : later ≡ notes ++ added
   pub packets : All IsOfPacket added
 
--- a packet waits for another try where there was no room for its step
+-- a packet waits for another try if there was no room for its step
 abbrev pub has_to_wait : Refusal → Bool
 has_to_wait PendingFull = true
 has_to_wait OutOfMemory = true
@@ -41,12 +41,13 @@ one_more n = min (n + 1) (2 ^ 64 - 1)
 abbrev pub with_put_down : Hand → Hand
 with_put_down hand = record hand { put_down = one_more hand.put_down }
 
--- What a worker has once a packet was submitted: one that has to wait does so, or it is lost for lack of memory to wait in, and counted; any other is done with.
+-- The state of a worker once a packet was submitted: a packet that has to wait does so, or is lost and counted if
+-- memory runs out; any other is done.
 abbrev pub Keeps : Bool → Hand → Packet → Hand → Type 0
 Keeps true hand p kept = (kept ≡ record hand { waiting = with_packet hand.waiting p }) ⊎ (kept ≡ record hand { lost = one_more hand.lost })
 Keeps false hand p kept = kept ≡ hand
 
--- the packets of what came together, in order
+-- the packets that came together, in order
 abbrev pub all_packets : List (Vec Packet Global) → List Packet
 all_packets parcels = flat_map (λ parcel. parcel.items) parcels
 
@@ -64,7 +65,7 @@ module _ {D : Type 0} (b : Basis D) where
       (next : List Note) × (waits : Bool) × Tries notes p waits next
       × (((waits ≡ true) × (later ≡ next) × (left ≡ p ∷ ps)) ⊎ ((waits ≡ false) × TriesAll next ps later left))
 
-  -- a packet that came was submitted, kept where it has to wait, and put down
+  -- a packet was submitted, kept if it has to wait, and put down
   pub record TakesPacket (notes : List Note) (hand : Hand) (p : Packet) (later : List Note) (left : Hand) : Type 0 where
     pub waits : Bool
     pub tries : Tries notes p waits later

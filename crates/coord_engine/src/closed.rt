@@ -1,4 +1,4 @@
-//! What is left of an engine.
+//! The state of an engine that was taken apart.
 
 ghost use Rattle.std.specs.Prelude.{◌≡◌, ◌↔◌, IsTrue, Some};
 ghost use Rattle.coord_engine.specs.Closing.{fault_name, fault_number};
@@ -18,7 +18,7 @@ use std::fmt;
 pub enum CloseFault {
     /// A flight is out. Every call of this crate gives its flight back.
     FlightOut,
-    /// A share was given out and is not handed in.
+    /// A share was not returned.
     SharesMissing,
     /// The shares' notes are not the steps that were accepted since the engine was made.
     NotNamed,
@@ -50,8 +50,8 @@ impl fmt::Display for CloseFault {
 
 impl Error for CloseFault {}
 
-/// What is left of an engine: its store, the base world, the steps that were accepted since, and
-/// the settled count.
+/// The state of a closed engine: its store, the base world, the steps accepted since, and the
+/// settled count.
 #[derive(Drop)]
 pub struct Closed<D: Disk> {
     pub store: Store<D>,
@@ -60,8 +60,8 @@ pub struct Closed<D: Disk> {
     pub settled: u64,
 }
 
-/// What is left of an engine in any case, with what writes its history; and why the engine was not
-/// closed, if so: then nothing is known of whose its steps are.
+/// The state of an engine that was taken apart in any case, with the authority of its history; and
+/// why the engine was not closed, if so: then it is unknown whose its steps are.
 #[derive(Drop)]
 pub struct Retired<D: Disk> {
     pub closed: Closed<D>,
@@ -84,7 +84,7 @@ fn is_among(base: u64, steps: &[Step], note: &Note) -> bool
 }
 
 impl<D: Disk> Closed<D> {
-    /// Whether the note's step stands in the trail at its number.
+    /// Whether the trail has the note's step at the note's number.
     pub fn names(&self, note: &Note) -> bool
         ensures { IsTrue result ↔ IsAmong self.now.base.count self.now.trail.items note.now }
     {

@@ -1,9 +1,9 @@
-//! What is said to a ticket.
+//! The answer to a ticket.
 
 use coord_ledger::Ticket;
 use coord_types::{Refusal, Reply};
 
-/// What is said to a ticket, under the lock.
+/// The answer to a ticket, under the lock.
 pub enum Collected {
     /// The ticket's step is settled, with this reply.
     Settled(Reply),

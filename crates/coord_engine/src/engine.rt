@@ -59,10 +59,10 @@ pub struct Engine<D: Disk, L: Origin> {
 }
 
 impl<D: Disk, L: Origin> Engine<D, L> {
-    /// Makes an engine over a ledger whose store is at home. `L` names the history with the steps of
-    /// earlier instances, which are written there, and that ledger: its base, the steps that it has accepted,
-    /// and its disk as it is. The blank has 65,536 parts. No clause can say what lies behind a lock; so
-    /// the contract is that of `Guarded::new`, and `close` says what it returns in terms of `L`.
+    /// Makes an engine over a ledger whose store is at home. `L` names the history, in which the
+    /// steps of earlier instances are written, and that ledger: its base, its accepted steps, and
+    /// its disk. The blank has 65,536 parts. No clause can state the value under a lock; so the
+    /// contract is that of `Guarded::new`, and `close` states its result in terms of `L`.
     pub fn new(
         alloc: Global,
         blank: Blank,
@@ -88,7 +88,7 @@ impl<D: Disk, L: Origin> Engine<D, L> {
         }
     }
 
-    /// A share without notes, where not all 65,535 were given out.
+    /// Returns a share without notes, unless all 65,535 are taken.
     pub fn share<R: Wait>(&self, rt: &R) -> Option<Share<L>>
         ensures given { IfSome result (λ share. (share ≡ []) ×
             AtSomeMoment (based_on D.model L.base L.before) (λ g. g.given < most_shares)) }
@@ -129,8 +129,8 @@ impl<D: Disk, L: Origin> Engine<D, L> {
         guarded.submit(step, mine)
     }
 
-    /// Wakes a flusher that waits for steps, where there is something to flush. No clause can say that a
-    /// thread wakes.
+    /// Wakes a flusher that waits for steps, if there is something to flush. No clause can say that
+    /// a thread wakes.
     pub fn wake_flusher<R: Wait>(&self, rt: &R) {
         if !self.guarded.lock(rt).is_idle() {
             self.work.notify_all();
@@ -157,8 +157,8 @@ impl<D: Disk, L: Origin> Engine<D, L> {
         answer
     }
 
-    /// Waits until a ticket can be answered, and takes the lock then. The answer is that of the very ledger
-    /// that is locked: a reply is returned while its step is settled there.
+    /// Waits until a ticket can be answered, and then takes the lock. The answer is that of the
+    /// ledger that is locked: a reply is returned while its step is settled there.
     fn lock_to_answer<'g, R: Wait>(
         &'g self,
         rt: &R,
@@ -182,8 +182,8 @@ impl<D: Disk, L: Origin> Engine<D, L> {
         unreachable!()
     }
 
-    /// Shows the settled world, of which the caller must not have seen more. A reader reads on: what is
-    /// shown is the world after the settled steps that it has read then.
+    /// Returns a view of the settled world, unless the caller has seen a later one. A token reads
+    /// on: the view is the world after the settled steps that it has read then.
     pub fn show<R: Wait>(
         &self,
         rt: &R,
@@ -223,7 +223,7 @@ impl<D: Disk, L: Origin> Engine<D, L> {
     }
 
     /// Sends a flight out under the lock, commits it outside the lock, and takes it back under it.
-    /// None where nothing is pending, a flight is out or the ledger has stopped.
+    /// Returns None if nothing is pending, a flight is out or the ledger has stopped.
     ///
     /// After `OutOfMemory` it may be tried again; after `Device` the ledger has stopped.
     pub fn flush_once<R: Wait + Clock>(&self, rt: &R) -> Result<Option<Released<L>>, CommitFault>
@@ -274,19 +274,19 @@ impl<D: Disk, L: Origin> Engine<D, L> {
         unreachable!()
     }
 
-    /// From now on no step is accepted. What is pending is still settled. No clause can say what
-    /// a call does behind a lock: `Guarded::finish` has that in its contract.
+    /// From now on no step is accepted. Pending steps are still settled. No clause can state the
+    /// effect of a call under a lock: the contract of `Guarded::finish` does.
     pub fn finish<R: Wait>(&self, rt: &R) {
         let due = self.guarded.lock(rt).finish();
         due.wake_all(&self.changed, &self.work);
     }
 
-    /// Takes the engine apart, where no flight is out, all shares are there, what callers have seen is
-    /// settled, and the shares' notes are what was accepted since the engine was made. What is left
-    /// has the base of the ledger that the engine was made over, and a trail that begins with that
-    /// ledger's. A crash at any moment since then left only worlds after the first steps of that
-    /// trail. What writes the history comes back too: it has written the settled steps of that trail
-    /// after those of earlier instances. It takes no memory.
+    /// Takes the engine apart, if no flight is out, all shares are there, everything that callers
+    /// have seen is settled, and the shares' notes are exactly the steps accepted since the engine
+    /// was made. The result has the base of the ledger that the engine was made over, and a trail
+    /// that begins with that ledger's. A crash at any moment since then left only worlds after the
+    /// first steps of that trail. The authority of the history is returned too: it has written the
+    /// settled steps of that trail after those of earlier instances. It allocates nothing.
     pub fn close(
         self,
         shares: Vec<Share<L>>,

@@ -1,4 +1,4 @@
-//! Flights as they are needed, and what they release handed to a port.
+//! Flights on demand; their releases are handed to a port.
 
 ghost use Rattle.std.specs.Prelude.{◌≡◌, false, true, length};
 ghost use Rattle.std.specs.Sync.Mutex.{mutex_guard_value};
@@ -203,7 +203,7 @@ impl Pace {
         }
     }
 
-    /// Rests. Nothing else clears what is due.
+    /// Rests. Nothing else clears a due rest.
     fn rest<R: Clock>(&mut self, rt: &R)
         ensures { self.new.rest_is_due ≡ false }
     {
@@ -229,13 +229,13 @@ fn flush<D: Disk, L: Origin, R: Wait + Clock>(
     flushed
 }
 
-/// Flushes what is accepted as long as flights start, and hands what each released to the port.
+/// Flushes accepted steps as long as flights start, and hands the releases of each to the port.
 /// Before a flight it waits for two things. Callers that the last flight answered may come again:
-/// where they are few, they have a sixteenth of that flight's time. Packets that it released may come
+/// if they are few, they have a sixteenth of that flight's time. Packets that it released may come
 /// back as steps: they have some milliseconds.
 ///
-/// The port may be asked for each signal of a settled step. It ends after a fault of the device, and after `Engine::finish` once nothing is pending. Where it
-/// finds no memory it rests and tries again.
+/// The port may be asked for each signal of a settled step. It ends after a fault of the device,
+/// and after `Engine::finish` once nothing is pending. If memory runs out it rests and tries again.
 pub fn flusher<D: Disk, L: Origin, P: Port, R: Wait + Clock>(
     rt: &R,
     engine: &Engine<D, L>,

@@ -120,7 +120,7 @@ impl<D: Disk, L: Origin> Guarded<D, L> {
         }
     }
 
-    /// A share without notes, where not all 65,535 were given out.
+    /// Returns a share without notes, unless all 65,535 are taken.
     pub fn share(&mut self) -> Option<Share<L>>
         ensures some { IfSome result (λ share. (share ≡ []) × (self.old.given < most_shares) ×
             (self.new ≡ with_share self.old)) }
@@ -152,8 +152,8 @@ impl<D: Disk, L: Origin> Guarded<D, L> {
         PendingWake::new()
     }
 
-    /// Does nothing. Its contract is what the type keeps, so it holds of whatever value the lock
-    /// has when it is taken.
+    /// Does nothing. Its contract is the invariant of the type, so it holds for the value whenever
+    /// the lock is taken.
     pub fn keeps(&self)
         ensures { CanHold (based_on D.model L.base L.before) self.now }
     {

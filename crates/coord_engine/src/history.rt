@@ -1,11 +1,11 @@
-//! The steps that were settled, instance after instance, as a history that grows. It stands in the proofs
-//! alone.
+//! The settled steps, instance after instance, as a history that grows. It exists only in the
+//! proofs.
 //!
-//! Nothing is known of the value under a lock but what its type keeps. So a flight that leaves under
-//! the lock takes a [`LogPrefix`] along, and the [`LogAuthority`] stays there. When the flight is back, the
-//! writer says that its history begins with what the reader has read. What a flight released has a
-//! reader too, which has read the steps that gave it out. Neither takes a byte; each call loads a word
-//! of the [`MonotoneLog`], which is 0.
+//! Nothing is known of the value under a lock except its type's invariant. So a flight that leaves
+//! under the lock takes a [`LogPrefix`] along, and the [`LogAuthority`] stays there. When the
+//! flight is back, the authority shows that its history begins with the prefix of the token. The
+//! releases of a flight have a token too, which has read their steps. Neither takes a byte; each
+//! call loads a word of the [`MonotoneLog`], which is 0.
 
 use crate::Origin;
 use atomic_table::{Join, Play, Seat, Split, Table, TableRule};
@@ -35,7 +35,7 @@ impl TableRule<(), Known, ()> for OneHistory {
     ghost first = { λ _. knows [] [] };
 }
 
-/// A token that stands for a part of what is known.
+/// A token for a part of the known steps.
 type Pass = Seat<(), Known>;
 
 /// Names steps that a history is to have, or that a token has read.
@@ -63,7 +63,7 @@ impl<G: NamedSteps> Play<(), Known> for WritesOn<G> {
     ghost then = { IsWrittenOn G.steps };
 }
 
-/// The first token compares what another token has read with what it has read itself.
+/// The first token compares the prefix of another token with its own.
 struct Compares;
 
 impl Play<(), Known> for Compares {
@@ -172,8 +172,8 @@ impl MonotoneLog {
         Ok((MonotoneLog { table }, LogAuthority { token }))
     }
 
-    /// The same history once more. It takes no memory; there is an error only where the count of all that
-    /// share it is full.
+    /// Returns another handle of the same history. It allocates nothing; it fails only if the count
+    /// of its handles is full.
     pub fn another(&self) -> Result<MonotoneLog, AllocError>
         ensures { IfOk result (λ other. other ≡ self.now) }
     {
@@ -218,7 +218,7 @@ impl LogAuthority {
         LogPrefix { token }
     }
 
-    /// Takes a reader back: what is written begins with what it has read.
+    /// Takes a token back: the written history begins with its prefix.
     pub fn take_back(&mut self, history: &MonotoneLog, reader: LogPrefix)
         requires here { history.now ≡ self.old.history }
         requires theirs { reader.history ≡ self.old.history }
@@ -262,8 +262,8 @@ impl LogPrefix {
         LogPrefix { token }
     }
 
-    /// Takes another reader of the history in, and reads on: what it has read then begins with what it had
-    /// read, and with what the other one has read.
+    /// Joins another token of the history, and reads on: the new prefix begins with the old one,
+    /// and with that of the other token.
     pub fn join(&mut self, history: &MonotoneLog, other: LogPrefix)
         requires here { history.now ≡ self.old.history }
         requires theirs { other.history ≡ self.old.history }

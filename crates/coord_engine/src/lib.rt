@@ -5,8 +5,8 @@
 //! lock and calls it. A flight is committed by the caller of `flush_once`, outside the lock.
 //!
 //! A caller holds a [`Share`] with the notes of its accepted steps. `Engine::close` gathers all
-//! shares, and takes the engine apart only where the notes are what was accepted since the engine
-//! was made (`specs/Named.antt`): one history, of just the callers' steps.
+//! shares, and takes the engine apart only if the notes are exactly the steps accepted since the
+//! engine was made (`specs/Named.antt`): one history, of the callers' steps only.
 //!
 //! `specs/State.antt` is what contracts see of the value under the lock, `specs/Calls.antt` and
 //! `specs/Closing.antt` what its methods answer, and `specs/Threads.antt` what the engine's calls
@@ -14,11 +14,11 @@
 //! contracts of the methods of `Guarded`, and that of `Engine::close`. No contract says that a
 //! thread runs, that a waiter wakes or that anyone is served.
 //!
-//! A [`flusher`] flushes what is accepted and hands what is released to a [`Port`], each delivery once
+//! A [`flusher`] flushes accepted steps and hands the releases to a [`Port`], each delivery once
 //! and in order (`specs/Flushing.antt`); a [`worker`] submits the packets that come for a node
-//! (`specs/Working.antt`), and a [`SubmittingPort`] those of the flusher's own flights, in its thread
-//! (`specs/SubmittingPort.antt`). `specs/Pacing.antt` says when a flight starts, `specs/Waiting.antt` what a
-//! worker keeps for another try.
+//! (`specs/Working.antt`), and a [`SubmittingPort`] those of the flusher's own flights, in its
+//! thread (`specs/SubmittingPort.antt`). `specs/Pacing.antt` says when a flight starts,
+//! `specs/Waiting.antt` which packets a worker keeps for another try.
 #![tactic(auto)]
 
 mod closed;

@@ -1,4 +1,5 @@
-//! Notes against steps, worked out: functions that do nothing, whose contracts say what is named.
+//! Worked examples of notes against steps: functions that do nothing, whose contracts say which
+//! steps are named.
 
 ghost use Rattle.coord_engine.specs.WorkedNames.{NamedByTwo, NamesInPlace, NotInOrder, NotOfAnotherKind, NotOneShort};
 
@@ -12,12 +13,12 @@ pub fn not_in_order()
     ensures { NotInOrder }
 {}
 
-/// Where one of two steps was not noted, the steps are not named.
+/// If one of two steps was not noted, the steps are not named.
 pub fn not_one_short()
     ensures { NotOneShort }
 {}
 
-/// Where a step was noted with another kind of reply, it is not named.
+/// If a step was noted with another kind of reply, it is not named.
 pub fn not_of_another_kind()
     ensures { NotOfAnotherKind }
 {}

@@ -10,12 +10,13 @@ ghost use Rattle.coord_engine.specs.Past.{Past, no_past};
 use std::marker::Brand;
 use std::sync::ledger::Ledger as Count;
 
-/// Names an engine: the count of its shares, its history, and the ledger that it was made over. It is asked for
-/// by `Engine::new` and returned by `Engine::close`, since no clause can say what lies behind a lock.
+/// Names an engine: the count of its shares, its history, and the ledger that it was made over.
+/// `Engine::new` takes it and `Engine::close` returns it, since no clause can state the value under
+/// a lock.
 ///
 /// An engine is made in code that is generic over this name and called with `Brand`, which picks
-/// the history with what is written in it, and the base, the steps and the disk's past of the ledger at
-/// hand.
+/// the history with its written steps, and the base, the steps and the disk's past of the given
+/// ledger.
 pub trait Origin: Count {
     /// Which history it writes.
     ghost history: { TableId };
@@ -29,7 +30,7 @@ pub trait Origin: Count {
     /// The steps that the ledger had accepted.
     ghost before: { List Step };
 
-    /// The ledger's disk, as it was then.
+    /// The ledger's disk at that time.
     ghost disk: { Past };
 }
 

@@ -11,10 +11,10 @@ use coord_ledger::Flight;
 use coord_store::CommitFault;
 use std::marker::{Model, PhantomData};
 
-/// A flight of the engine that `L` names, with what it has read of the engine's history: after those
-/// of earlier instances the steps that were settled when it left. Contracts see the flight. Its type keeps
-/// that it left after these steps, and that a crash at any moment since the engine was made left only
-/// worlds after the first of them and of its own.
+/// A flight of the engine that `L` names, with a prefix of the engine's history: the steps of
+/// earlier instances, and those that were settled when it left. Contracts see the flight. Its type
+/// keeps that it left after these steps, and that a crash at any moment since the engine was made
+/// left only worlds after the first of them and of its own.
 pub struct OwnFlight<D: Disk, L: Origin> {
     pub(crate) flight: Flight<D>,
     pub(crate) reader: LogPrefix,

@@ -6,28 +6,29 @@ ghost use Rattle.coord_engine.specs.Port.{delivery_of, step_of};
 use crate::LogPrefix;
 use coord_types::{NodeId, Output, Packet, Step};
 
-/// What carries released packets to the workers of nodes, and signals to their services. No promise
-/// rests on it: what it takes may be lost, come twice or come late, and it answers false where it
-/// knows that something is lost.
+/// Carries released packets to the workers of nodes, and signals to their services. No promise
+/// depends on it: a packet may be lost, come twice or come late; it returns false if it knows that
+/// something is lost.
 ///
-/// Its meaning is what it may be after each call. No port has to say more of that; to code that works
-/// at any port it shows what was asked, how often and in which order.
+/// Its meaning is its possible states after each call. No port has to state more; for code that
+/// works with any port it records the requests, how often and in which order.
 pub trait Port {
     ghost use Rattle.std.specs.Prelude.{ℕ, Bool, ⊤};
     ghost use Rattle.coord_types.specs.declared.packets.Packet.{Packet as Asked};
     ghost use Rattle.coord_engine.specs.MonotoneLog.{Beginning};
 
-    /// What it may be once it was asked to carry a packet to a node, and answered so.
+    /// Its possible states after a request to carry a packet to a node, with this answer.
     ghost carried: { Self → ℕ → Asked → Bool → Self → Type 0 } = { λ _ _ _ _ _. ⊤ };
 
-    /// Of which signals it may be asked: by what was read of a history, the number of the step that gives
-    /// one out, the node and the epoch.
+    /// The signals that may be requested: by the prefix of a history that was read, the number of
+    /// the signal's step, the node and the epoch.
     ghost may_signal: { Beginning → ℕ → ℕ → ℕ → Type 0 } = { λ _ _ _ _. ⊤ };
 
-    /// What it may be once it was asked to signal an epoch to a node, for a step, and answered so.
+    /// Its possible states after a request to signal an epoch to a node, for a step, with this
+    /// answer.
     ghost signalled: { Self → ℕ → ℕ → ℕ → Bool → Self → Type 0 } = { λ _ _ _ _ _ _. ⊤ };
 
-    /// What it may be once it was asked to hand on what it has gathered, and answered so.
+    /// Its possible states after a request to hand on its packets, with this answer.
     ghost handed_on: { Self → ℕ → Self → Type 0 } = { λ _ _ _. ⊤ };
 
     /// Carries a packet to this node. It may gather packets, so that those for one place go together.
@@ -46,7 +47,7 @@ pub trait Port {
         ensures { handed_on self.old result self.new };
 }
 
-/// What is asked of a port for an output; for a signal with the number of its step.
+/// The request to a port for an output; for a signal with the number of its step.
 #[derive(Clone, Copy)]
 pub enum Delivery {
     Carry(NodeId, Packet),
@@ -68,7 +69,7 @@ impl Delivery {
     }
 }
 
-/// The step that a packet makes where it has come.
+/// The step of a packet that has arrived.
 pub fn step_of(packet: Packet) -> Step
     ensures { result ≡ step_of packet }
 {

@@ -1,4 +1,4 @@
-//! What a flight has released, with what was read of the history.
+//! The releases of a flight, with a prefix of the history.
 
 ghost use Rattle.std.specs.Prelude.{◌≡◌, length};
 ghost use Rattle.coord_engine.specs.Port.{MayAskAll};
@@ -8,9 +8,9 @@ use crate::{LogPrefix, Origin};
 use coord_ledger::Releases;
 use std::marker::{Model, PhantomData};
 
-/// What is to be handed to a port, with a reader that has read the settled steps of the engine that `L`
-/// names. It has to be spent. Contracts see what is left to hand out. Its type keeps that steps which the
-/// reader has read give out each signal among it.
+/// Releases for a port, with a token that has read the settled steps of the engine that `L` names.
+/// It must be consumed. Contracts see the remaining ones. Its type keeps that the token has read
+/// the step of each signal among them.
 pub struct Released<L: Origin> {
     pub(crate) releases: Releases,
     pub(crate) reader: LogPrefix,

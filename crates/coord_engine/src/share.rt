@@ -37,7 +37,7 @@ impl<L: Count> Share<L> {
         &self.notes
     }
 
-    /// Takes room for so many notes more.
+    /// Allocates room for this many more notes.
     pub fn reserve(&mut self, notes: usize) -> Result<(), AllocError>
         ensures { self.new ≡ self.old }
     {

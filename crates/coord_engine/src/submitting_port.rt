@@ -12,14 +12,14 @@ use std::alloc::Global;
 use std::marker::Model;
 use std::sync::Wait;
 
-/// Room for so many packets is taken at first: more than a flight releases, which has at most 256 steps,
-/// each with a receipt and a packet to at most 16 neighbours. Only where there is no memory for that, a packet
-/// may be lost later for lack of memory to gather it.
+/// Room for this many packets is allocated at first: more than a flight releases, which has at most
+/// 256 steps, each with a receipt and a packet to at most 16 neighbours. Only if memory for that
+/// runs out, a packet may be lost later.
 const ROOM: usize = 4_352;
 
-/// A flusher's port that submits packets itself, by a share of its own, so that none of them goes to
-/// another thread and comes back. It gathers those of a flight, and submits them where it is to hand them
-/// on. Signals go to another port, which is asked for no packet.
+/// A flusher's port that submits packets itself, with its own share, so that none of them goes to
+/// another thread and comes back. It gathers those of a flight, and submits them when it is to hand
+/// them on. Signals go to another port, which gets no packet.
 ///
 /// It takes, keeps, drops or loses a packet as a worker does (`worker`), and tries those that it keeps once
 /// more after each flight.

@@ -105,7 +105,7 @@ impl Waiting {
         self.packets.len()
     }
 
-    /// The first, where one waits.
+    /// The first, if one waits.
     pub fn first(&self) -> Option<Packet>
         ensures { result ≡ slice_get self.now 0 }
     {
@@ -115,7 +115,7 @@ impl Waiting {
         }
     }
 
-    /// Drops the first, where one waits.
+    /// Drops the first, if one waits.
     pub fn drop_first(&mut self)
         ensures { self.new ≡ drop 1 self.old }
     {

@@ -59,7 +59,7 @@ fn try_waiting<D: Disk, L: Origin>(
     }
 }
 
-/// Submits a packet that came, keeps it where it has to wait, and puts it down.
+/// Submits a packet, keeps it if it has to wait, and puts it down.
 fn take<D: Disk, L: Origin>(
     guarded: &mut Guarded<D, L>,
     packet: &Packet,
@@ -127,10 +127,9 @@ pub(crate) fn take_and_try<D: Disk, L: Origin, R: Wait>(
 /// Submits the packets that come, in order, and ends after the last one. Their replies are
 /// forgotten. Those that come together are submitted under one lock.
 ///
-/// Where no more steps may be pending, or no memory is found, it keeps the packet, and tries those
-/// kept again before it takes the next one. After any other refusal it drops the packet, and where
-/// there is no memory to keep it, it loses it: what was needed is sent again. In any case it puts the
-/// packet down.
+/// After PendingFull or OutOfMemory it keeps the packet, and tries the kept ones again before it
+/// takes the next one. After any other refusal it drops the packet; if memory to keep it runs out,
+/// it loses it: a needed packet is sent again. In any case it puts the packet down.
 pub fn worker<D: Disk, L: Origin, I: Iterator<Item = Vec<Packet>>, R: Wait>(
     rt: &R,
     engine: &Engine<D, L>,
@@ -150,8 +149,8 @@ pub fn worker<D: Disk, L: Origin, I: Iterator<Item = Vec<Packet>>, R: Wait>(
     share
 }
 
-/// A worker over a channel whose share says by its type that its notes are of packets, for a thread
-/// of its own. It ends when the channel closes.
+/// A worker over a channel whose share's type says that its notes are of packets, for a separate
+/// thread. It ends when the channel closes.
 pub fn packet_worker<D: Disk, L: Origin, R: Wait>(
     rt: &R,
     alloc: Global,

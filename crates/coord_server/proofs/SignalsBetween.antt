@@ -1,5 +1,5 @@
 -- The lines that are printed of a node's signals are of different steps, each of which gives the signal out.
-use Rattle.std.proofs.Common.{◌≡◌, ◌⊎◌, ℕ, ◌+◌, ◌≤◌, ◌-◌, ◌&&◌, Bool, true, List, [], ◌∷◌, Option, length, refl, sym, ap, ◌∙◌, subst, inl, inr, arith, cond, count_by}
+use Rattle.std.proofs.Common.{◌≡◌, ◌⊎◌, ℕ, ◌+◌, ◌≤◌, ◌-◌, ◌&&◌, Bool, true, List, [], ◌∷◌, ◌++◌, Option, length, refl, sym, ap, ◌∙◌, subst, inl, inr, arith, cond, count_by}
 use Rattle.std.specs.List.{AllByRecursion}
 use Rattle.std.specs.Prelude.{nat_le, nat_lt}
 use Rattle.std.proofs.lemmas.Bool.Decides.{nat_tests}
@@ -10,7 +10,8 @@ use Rattle.coord_types.specs.declared.steps.Step.{Step}
 use Rattle.coord_world.specs.laws.Trails.{IsTrail}
 use Rattle.coord_world.specs.laws.Waves.{signals_of}
 use Rattle.coord_world.specs.Facade.{World, fold, outs}
-use Rattle.coord_world.proofs.Facade.{bound_between, by_test, same_or_apart, trail_is_cut}
+use Rattle.coord_world.proofs.Facade.{bound_between, bound_with_drops, by_test, same_or_apart, trail_is_cut}
+use Rattle.coord_store.specs.Kept.{Kept}
 use Rattle.coord_ledger.specs.declared.release.Release.{Release}
 use Rattle.coord_ledger.specs.laws.SignalsBetween.{is_signal_within}
 use Rattle.coord_ledger.specs.machine.After.{release_of, releases_of}
@@ -18,12 +19,14 @@ use Rattle.coord_ledger.specs.promises.Headline.{is_signal}
 use Rattle.coord_ledger.proofs.machine.SignalsBetween.{all_within, count_within}
 use Rattle.coord_admin.specs.Connections.{Talk}
 use Rattle.coord_engine.specs.Facade.{GivesSignal, first_settled}
-use Rattle.coord_server.specs.Lines.{after_line, is_next}
+use Rattle.coord_server.specs.Lines.{after_line, is_next, nothing_since}
 use Rattle.coord_server.specs.Instances.{all_steps}
-use Rattle.coord_server.specs.Printed.{Follow}
+use Rattle.coord_server.specs.Printed.{Follow, PrinterState}
+use Rattle.coord_server.specs.ServerRun.{ServerRun}
 use Rattle.coord_server.specs.Signals.{StepSignal}
-use Rattle.coord_server.specs.SignalsBetween.{PrintedBetween, is_printed_within}
+use Rattle.coord_server.specs.SignalsBetween.{PrintedBetween, PrintedWithDrops, is_printed_within}
 use Rattle.coord_server.specs.declared.last_line.LastLine.{LastLine}
+use Rattle.coord_server.specs.declared.server_end.ServerEnd.{ServerEnd}
 
 -- 1 for a release that passes a test
 abbrev weight_of : (Release → Bool) → Release → ℕ
@@ -119,20 +122,34 @@ module _ (a b v : ℕ) where
               omega (arith, all, more, none)
         ]
 
+module _ {D V W : Type 0} (model : DiskModel D) (talked : V → List Talk → V → Type 0) (failed : V → V → Type 0) (contents : W → Option (List ℕ)) (most : ℕ) (store : Kept D) (callers : V) (printer : PrinterState W) (ended : ServerEnd D V W)
+    (run : ServerRun model talked failed most contents (GivesSignal store.world) store callers printer ended) (new : printer.last ≡ nothing_since store.world.count) (earlier between rest : List Step)
+    (is : first_settled store.world (all_steps run.instances) ended.closed.settled ≡ earlier ++ (between ++ rest)) where
+  -- the settled steps are a trail
+  settled_trail : IsTrail store.world (earlier ++ (between ++ rest))
+  settled_trail = subst (IsTrail store.world) is (trail_is_cut store.world (all_steps run.instances) (ended.closed.settled - store.world.count) run.trail).first
+
+  -- what is printed of the steps between is no more than they signal
+  printed_most : (v : ℕ) → count_by (is_printed_within (store.world.count + length earlier) (store.world.count + length earlier + length between) v) run.printed.signals ≤ signals_of v (outs (fold store.world earlier) between)
+  printed_most v =
+      let base = store.world in
+      let steps = first_settled base (all_steps run.instances) ended.closed.settled in
+      let a = base.count + length earlier in
+      let b = a + length between in
+      let returned = lines a b v base steps run.printed.signals printer.last ended.printer.last base.count (subst (λ l. IsPast a b v l base.count) (sym new) (inr (refl, inr refl))) run.printed.follow run.printed.may_be_printed in
+      let some = after_within a b v base.count (releases_of (outs base steps)) in
+      let all = subst (λ l. count_within a b v (releases_of (outs base l)) ≤ signals_of v (outs (fold base earlier) between)) (sym is) (all_within a b v base earlier between rest refl refl) in
+      omega (arith, returned, some, all)
+
 pub printed_between : {D V W : Type 0} (model : DiskModel D) (talked : V → List Talk → V → Type 0) (failed : V → V → Type 0) (contents : W → Option (List ℕ)) → PrintedBetween model talked failed contents
 printed_between model talked failed contents most store callers printer ended run new earlier between rest part is again =
-    let base = store.world in
-    let settled = ended.closed.settled in
-    let steps = first_settled base (all_steps run.instances) settled in
-    let a = base.count + length earlier in
-    let b = a + length between in
-    let trail = subst (IsTrail base) is (trail_is_cut base (all_steps run.instances) (settled - base.count) run.trail).first in
-    let bounds = bound_between base earlier between rest part trail again in
+    let bounds = bound_between store.world earlier between rest part (settled_trail model talked failed contents most store callers printer ended run new earlier between rest is) again in
     record {
-      most = λ v x inside linked.
-          let returned = lines a b v base steps run.printed.signals printer.last ended.printer.last base.count (subst (λ l. IsPast a b v l base.count) (sym new) (inr (refl, inr refl))) run.printed.follow run.printed.may_be_printed in
-          let some = after_within a b v base.count (releases_of (outs base steps)) in
-          let all = subst (λ l. count_within a b v (releases_of (outs base l)) ≤ signals_of v (outs (fold base earlier) between)) (sym is) (all_within a b v base earlier between rest refl refl) in
-          omega (arith, returned, some, all, bounds.most v x inside linked);
+      most = λ v x inside linked. omega (arith, printed_most model talked failed contents most store callers printer ended run new earlier between rest is v, bounds.most v x inside linked);
       least = bounds.least;
     }
+
+pub printed_with_drops : {D V W : Type 0} (model : DiskModel D) (talked : V → List Talk → V → Type 0) (failed : V → V → Type 0) (contents : W → Option (List ℕ)) → PrintedWithDrops model talked failed contents
+printed_with_drops model talked failed contents most store callers printer ended run new earlier between rest part is ready v inside =
+    let trail = settled_trail model talked failed contents most store callers printer ended run new earlier between rest is in
+    omega (arith, printed_most model talked failed contents most store callers printer ended run new earlier between rest is v, bound_with_drops store.world earlier between rest part trail ready v inside)

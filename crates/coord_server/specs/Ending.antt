@@ -1,4 +1,4 @@
--- How a server ends, and what it leaves of its engine.
+-- The end of a server, and the state of its engine.
 use Rattle.std.specs.Borrow.{Bor}
 use Rattle.std.specs.Prelude.{◌≡◌, ◌⊎◌, ℕ, ◌≤◌, List, [], ◌∷◌, ◌++◌, All, Bool, true, false, Option, Some, None, length}
 use Rattle.atomic_table.specs.Seated.{TableId}
@@ -34,18 +34,21 @@ pub record IsOneHistory {D P : Type 0} (b : Basis D) (desk : DeskState P) (left 
   pub closed : AtSomeMoment b (Closes {D = D} left.store left.base left.trail.items left.settled (desk.notes ∷ workers))
   pub seen : desk.seen ≤ left.settled
 
--- What is left of an instance's engine is what its ledger had, in a state that it can have: also where nothing is known of whose its steps are.
+-- An instance's engine leaves its ledger's parts, in a possible state of the ledger: also if it is unknown whose its
+-- steps are.
 abbrev pub LeavesLedger : {D : Type 0} → Basis D → Closed D → Type 0
 LeavesLedger {D} b left = AtSomeMoment b (IsLeftOf {D = D} left.store left.base left.trail.items left.settled)
 
--- An engine refused for this reason to be taken apart with all ten shares, the desk's, the flusher's and those of eight workers; and this is what it had then.
+-- An engine refused for this reason to be taken apart with all ten shares, the desk's, the flusher's and those of
+-- eight workers; and these are its parts.
 pub record RefusesShares {D P : Type 0} (b : Basis D) (desk : DeskState P) (left : Closed D) (why : CloseFault) : Type 0 where
   pub workers : List (List Note)
   pub of_packets : All (All IsOfPacket) workers
   pub all : length (desk.notes ∷ workers) ≡ 10
   pub so : AtSomeMoment b (λ g. IsLeftOf {D = D} left.store left.base left.trail.items left.settled g × RefusesClosing {D = D} g (desk.notes ∷ workers) desk.seen why)
 
--- what is known of what an instance leaves that ends so: it is one history, unless the instance did not begin, or its engine refused to be taken apart
+-- the known parts of an instance that ends so: one history, unless the instance did not begin, or its engine refused
+-- to be taken apart
 abbrev pub IsLeftAs : {D P : Type 0} → Basis D → DeskState P → Closed D → Option ServerFault → Type 0
 IsLeftAs b desk left (Some fault.NotBegun) = LeavesLedger b left
 IsLeftAs b desk left (Some (fault.NotClosed why)) = RefusesShares b desk left why
@@ -60,19 +63,22 @@ abbrev pub end_fault : InstanceEnd → Option ServerFault
 end_fault (end.Ended served) = served
 end_fault left = None
 
--- `talked v talks w`: those who call were v, had these talks, and then are w
+-- `talked v talks w`: the callers were v, had these talks, and then are w
 module _ {D : Type 0} (b : Basis D) {V : Type 0} (talked : V → List Talk → V → Type 0) where
-  -- those who called were served by a desk that began with nothing over this port, in an instance of so many steps, until one of them closed it
+  -- the callers were served by a desk that began without notes over this port, in an instance of this many steps,
+  -- until one of them closed it
   abbrev pub IsClosed : {P : Type 0} → ℕ → P → V → V → DeskState P → Type 0
   IsClosed most port v w desk = ServedToClose (DeskAnswers b) (DeskKeeps b) most talked v (new_desk port) w desk
 
-  -- those who called were served by such a desk until no one came any more
+  -- the callers were served by such a desk until no one came any more
   abbrev pub ServedWhileOpen : {P : Type 0} → ℕ → P → V → V → DeskState P → Type 0
   ServedWhileOpen most port v w desk = ServedOpen (DeskAnswers b) (DeskKeeps b) most talked v (new_desk port) w desk
 
-  -- `failed v w`: those who call were v, and have failed
+  -- `failed v w`: the callers were v, and have failed
   module _ (failed : V → V → Type 0) (most : ℕ) where
-    -- How the desk went on in an instance of so many steps, from this port. It rests only once it keeps them; and it ends by a close, by out of memory or of a first line before anyone was served, or because those who call have failed.
+    -- How the desk served in an instance of this many steps, from this port. It rests only once it keeps them; and it
+    -- ends by a close, out of memory or without a first line before anyone was served, or because the callers have
+    -- failed.
     abbrev pub ServesInstance : {P : Type 0} → P → V → V → DeskState P → InstanceEnd → Type 0
     ServesInstance port v w desk end.Resting = ServedWhileOpen most port v w desk × HasKept (DeskKeeps b) desk most
     ServesInstance port v w desk end.Unfollowed = ⊥
@@ -82,7 +88,8 @@ module _ {D : Type 0} (b : Basis D) {V : Type 0} (talked : V → List Talk → V
     ServesInstance port v w desk (end.Ended (Some fault.Socket)) = (last : V) × ServedWhileOpen most port v last desk × failed last w
     ServesInstance port v w desk (end.Ended (Some other)) = ⊥
 
-    -- How the desk went on in an instance that was left so. Where there was no memory for the next one it rested; where it did not begin nobody was served; where its engine refused to be taken apart the desk had served until some end.
+    -- How the desk served in an instance that was left so. If memory for the next one ran out it rested; if it did
+    -- not begin nobody was served; if its engine refused to be taken apart the desk had served until some end.
     abbrev pub LeavesInstance : {P : Type 0} → P → V → V → DeskState P → InstanceEnd → Type 0
     LeavesInstance port v w desk end.Unfollowed = ServesInstance port v w desk end.Resting
     LeavesInstance port v w desk (end.Ended (Some fault.NotBegun)) = talked v [] w × (desk ≡ new_desk port)
@@ -106,7 +113,8 @@ module _ {D : Type 0} (b : Basis D) {V : Type 0} (talked : V → List Talk → V
       pub added : AddsWorkers (desk.notes ∷ []) shares
       pub all : length shares ≡ 10
 
-    -- one instance: the desk served until it was left so, and what is left. The settled steps begin with those by which the desk has answered
+    -- one instance: the desk served until it was left so, and its remaining parts. The settled steps begin with those
+    -- by which the desk has answered
     pub record IsInstance (v : V) (instance : Instance D V) : Type 0 where
       pub port : Local
       pub desk : DeskState Local
@@ -122,7 +130,8 @@ LeavesShares {D} {V} b shares seen served instance =
     ⊎ ((why : CloseFault) × (instance.left ≡ end.Ended (Some (fault.NotClosed why)))
     × AtSomeMoment b (λ g. IsLeftOf {D = D} instance.closed.store instance.closed.base instance.closed.trail.items instance.closed.settled g × RefusesClosing {D = D} g shares seen why))
 
--- how an instance ends whose output was not opened: those who call have failed, or the first line was not printed. `failed v w`: those who call were v, and have failed
+-- how an instance ends whose output was not opened: the callers have failed, or the first line was not printed.
+-- `failed v w`: the callers were v, and have failed
 abbrev pub EndsUnopened : {V : Type 0} → (V → V → Type 0) → V → InstanceEnd → Type 0
 EndsUnopened failed v end.Unprinted = Unit {0}
 EndsUnopened failed v (end.Ended (Some fault.Socket)) = failed v v

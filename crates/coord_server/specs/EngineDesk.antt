@@ -21,7 +21,8 @@ use Rattle.coord_admin.specs.declared.answer.Answer.TheVariants.{Closed}
 use Rattle.coord_admin.specs.declared.request.Request.{Request}
 use Rattle.coord_admin.specs.declared.request.Request.TheVariants as request
 
--- the notes of the steps that were accepted for the desk, the greatest step that it knows to be settled, the settled steps that it has read, and the port to which it hands what is sent again
+-- the notes of the steps that were accepted for the desk, the greatest step that it knows to be settled, the settled
+-- steps that it has read, and the port for resent packets
 pub record DeskState (P : Type 0) : Type 0 where
   pub notes : List Note
   pub seen : ℕ
@@ -45,26 +46,30 @@ pub record AtMomentAnswered {D : Type 0} (b : Basis D) (before now : List Step) 
 abbrev pub AcceptsOrder : {D : Type 0} → Basis D → Step → Claim → List Note → List Note → Type 0
 AcceptsOrder {D} b s claim before after = AtSomeMoment b (Submits {D = D} s (Ok claim) before after)
 
--- what was answered to a ticket, without the ticket that came back with a refusal
+-- the answer to a ticket, without the ticket that came back with a refusal
 abbrev pub without_ticket : Result Reply (Refusal × Claim) → Result Reply Refusal
 without_ticket (Ok reply) = Ok reply
 without_ticket (Err refused) = Err refused.0
 
--- what is said to a step that was posted, where these steps were read before and these now: its reply once it is settled, or why there will be none
+-- the answer to a posted step, with these steps read before and these now: its reply once it is settled, or why there
+-- will be none
 abbrev pub Replies : {D : Type 0} → Basis D → Result Claim Refusal → Result Reply Refusal → List Step → List Step → Type 0
 Replies {D} b (Ok claim) (Ok reply) before now = AtMomentAnswered b before now (λ g. CollectsAs {D = D} g.ledger claim (Settled reply))
 Replies {D} b (Ok claim) (Err refusal) before now = AtMomentAnswered b before now (λ g. CollectsAs {D = D} g.ledger claim (Refused refusal claim))
 Replies {D} b (Err why) (Ok reply) before now = ⊥
 Replies {D} b (Err why) (Err refusal) before now = (refusal ≡ why) × (now ≡ before)
 
--- A reply is given once its step is settled. A refusal is one of the submitting, or it comes while the reply is waited for: then the step was accepted, and a repeat of its number gets the reply. The lists of steps: what was read before and now.
+-- A reply is returned once its step is settled. A refusal is one of the submitting, or it comes while the reply is
+-- waited for: then the step was accepted, and a repeat of its number gets the reply. The lists of steps: those read
+-- before and now.
 abbrev pub AnswersOrder : {D : Type 0} → Basis D → Step → Result Reply Refusal → List Note → List Note → List Step → List Step → Type 0
 AnswersOrder {D} b s (Ok reply) before after read now = (claim : Claim) × AcceptsOrder b s claim before after × AtMomentAnswered b read now (λ g. CollectsAs {D = D} g.ledger claim (Settled reply))
 AnswersOrder {D} b s (Err refusal) before after read now =
     (AtSomeMoment b (Submits {D = D} s (Err refusal) before after) × (now ≡ read))
     ⊎ ((claim : Claim) × AcceptsOrder b s claim before after × AtMomentAnswered b read now (λ g. CollectsAs {D = D} g.ledger claim (Refused refusal claim)))
 
--- the settled world is shown as it is after the steps that have been read now; or not, for a reason that holds then
+-- the settled world is shown as it is after the steps that have been read now; or a refusal, for a reason that holds
+-- then
 abbrev pub ShowsTo : {D : Type 0} → Basis D → Result shown.Shown Refusal → ℕ → ℕ → List Step → List Step → Type 0
 ShowsTo {D} b (Ok view) seen later before now = AtMomentAnswered b before now (Shows {D = D} view seen later)
 ShowsTo {D} b (Err refusal) seen later before now = AtMomentAnswered b before now (RefusesShow {D = D} refusal seen) × (later ≡ seen)
@@ -78,7 +83,9 @@ abbrev pub Resends : {D : Type 0} → Basis D → Result ℕ Refusal → Type 0
 Resends {D} b (Ok count) = (released : List Release) × AtSomeMoment b (SendsAgain {D = D} released) × (count ≡ length released)
 Resends {D} b (Err refusal) = refusal ≡ OutOfMemory
 
--- What may have been lost was asked of a port again, each packet once and in order, and then it was to hand on what it had gathered; and so many they are. `carried`, `signalled`, `handed_on`: what the port may be once it was asked so.
+-- The packets that may have been lost were requested from a port again, each once and in order, and then the port was
+-- to hand them on; and this is their number. `carried`, `signalled`, `handed_on`: the possible states of the port
+-- after each request.
 abbrev pub HandsAgain : {D P : Type 0} → Basis D → (P → ℕ → Packet → Bool → P → Type 0) → (P → ℕ → ℕ → ℕ → Bool → P → Type 0) → (P → ℕ → P → Type 0) → ℕ → P → P → Type 0
 HandsAgain {D} b carried signalled handed_on count port later =
     (released : List Release) × AtSomeMoment b (SendsAgain {D = D} released) × (count ≡ length released) × AreHanded carried signalled handed_on port (deliveries_of released) later

@@ -1,4 +1,4 @@
--- What holds of the two halves of an order.
+-- The statements about the two halves of an order.
 use Rattle.std.proofs.Common.{◌≡◌, ℕ, List, length, max, Result, Ok, Err, inl, inr, refl, sym, ap, ◌∙◌, subst}
 use Rattle.coord_types.specs.declared.refusals.Refusal.{Refusal}
 use Rattle.coord_types.specs.declared.steps.Reply.{Reply}
@@ -44,6 +44,6 @@ desk_apart b d e f request.Show p q reply put returned = absurd put
 desk_apart b d e f request.Resend p q reply put returned = absurd put
 desk_apart b d e f request.Close p q reply put returned = absurd put
 
--- where a reply is waited for nothing is noted, and no step is lost
+-- waiting for a reply notes nothing, and loses no step
 pub desk_loses_none : {D P : Type 0} (b : Basis D) (d e : DeskState P) (posted : Result Claim Refusal) (reply : Result Reply Refusal) (kept : ℕ) → DeskReplies b d posted reply e → DeskKeeps b d kept → DeskKeeps b e kept
 desk_loses_none b d e posted reply kept returned is = (is.0, is.1, subst (λ notes. kept ≡ max is.0 (length notes)) (sym returned.1) is.2)

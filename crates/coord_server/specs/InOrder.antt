@@ -1,4 +1,5 @@
--- What the answers of an instance say of its one history: each follows from some first settled steps, and none goes back behind the one before.
+-- The answers of an instance in its one history: each follows from some first settled steps, and the number of these
+-- steps never falls.
 use Rattle.std.specs.List.{AllByRecursion}
 use Rattle.std.specs.Prelude.{◌≡◌, ◌⊎◌, ℕ, List, [], ◌∷◌, ◌++◌, Result, Ok, Some, map, slice_get, take}
 use Rattle.coord_types.specs.declared.steps.Reply.{Reply}
@@ -43,7 +44,7 @@ abbrev pub ShowsAfter : World → List Step → Shown → Result Request LineFau
 ShowsAfter base steps view (Ok request.Show) = (accepted : ℕ) × (view ≡ shown accepted (fold base steps))
 ShowsAfter base steps view asked = ⊥
 
--- these steps from a world bear out what was answered to what was asked
+-- these steps from a world bear out the answer to the request
 abbrev pub BearOut : World → List Step → Result Request LineFault → Answer → Type 0
 BearOut base steps asked (answer.Replied r) = RepliesTo base steps r asked
 BearOut base steps asked (answer.Shown view) = ShowsAfter base steps view asked
@@ -60,7 +61,8 @@ abbrev pub GoOn : List Step → List Returned → List Step → Type 0
 GoOn first [] last = StartsWith last first
 GoOn first (t ∷ returned) last = StartsWith t.after first × GoOn t.after returned last
 
--- What was written over a connection are the answers to its first lines, each borne out by settled steps, of which none goes back after these first ones, nor after those of an answer before. In one more line it may break off.
+-- The output of a connection is the answers to its first lines, each borne out by settled steps, which include these
+-- first ones and those of the answer before. In one more line it may break off.
 pub record WritesInOrder (base : World) (first : List Step) (talk : Talk) (last : List Step) : Type 0 where
   pub returned : List Returned
   pub torn : List Returned

@@ -1,4 +1,4 @@
--- The instances of a server, one after the other: each is one history of its own over the store that the one before left.
+-- The instances of a server, one after the other: each is one history over the store that the previous one left.
 use Rattle.std.specs.List.{range_with_len}
 use Rattle.std.specs.Prelude.{◌≡◌, ◌⊎◌, ℕ, ◌+◌, ◌-◌, ◌≤◌, List, [], ◌∷◌, ◌++◌, false, true, Option, Some, flat_map, length, map, take}
 use Rattle.coord_disk.specs.Model.DiskModel.{DiskModel}
@@ -37,7 +37,8 @@ HasFaultForCause most ended = (ended.served ≡ Some fault.Write → ended.print
 abbrev pub instance_steps : ℕ
 instance_steps = 262144
 
--- One instance: over which port its desk served and what it was in the end, what is left of its engine, and who those were then who call.
+-- One instance: the port of its desk and the desk in the end, the remaining parts of its engine, and the callers
+-- then.
 pub record InstanceRun (D V : Type 0) : Type 0 where
   pub port : Local
   pub desk : DeskState Local
@@ -52,7 +53,7 @@ all_steps instances = flat_map (λ l. l.left.trail.items) instances
 abbrev pub all_given : {D V : Type 0} → List (InstanceRun D V) → List StepOutcome
 all_given instances = flat_map (λ l. outs l.left.base l.left.trail.items) instances
 
--- `talked v talks w`: those who call were v, had these talks, and then are w. An instance ends after `most` steps
+-- `talked v talks w`: the callers were v, had these talks, and then are w. An instance ends after `most` steps
 module _ {D : Type 0} (m : DiskModel D) {V : Type 0} (talked : V → List Talk → V → Type 0) (most : ℕ) where
   -- what an instance is based on that began over a store with this world
   abbrev pub begun_over : World → Basis D
@@ -67,12 +68,13 @@ module _ {D : Type 0} (m : DiskModel D) {V : Type 0} (talked : V → List Talk �
     pub going : has_stopped instance.left.store ≡ false
     pub returned : StartsWith (first_settled instance.left.base instance.left.trail.items instance.left.settled) instance.desk.read
 
-  -- instances that rest, each of which begins where the one before ended, and then this world is there, and those are who call
+  -- instances that rest, each of which begins where the previous one ended, and then this is the world, and these are
+  -- the callers
   abbrev pub HaveRested : World → V → List (InstanceRun D V) → World → V → Type 0
   HaveRested began v [] next w = (next ≡ began) × (w ≡ v)
   HaveRested began v (instance ∷ later) next w = Rests began v instance × HaveRested instance.left.store.world instance.callers later next w
 
--- `failed v w`: those who call were v, and have failed
+-- `failed v w`: the callers were v, and have failed
 module _ {D : Type 0} (m : DiskModel D) {V : Type 0} (talked : V → List Talk → V → Type 0) (failed : V → V → Type 0) (most : ℕ) where
   -- The last instance of a server, from this world, where this ended it: its desk served until then, and answered by settled steps; and so its engine was left.
   pub record IsLast (began : World) (v : V) (instance : InstanceRun D V) (why : Option ServerFault) : Type 0 where
@@ -80,13 +82,17 @@ module _ {D : Type 0} (m : DiskModel D) {V : Type 0} (talked : V → List Talk �
     pub history : IsLeftAs (based_on m began []) instance.desk instance.left why
     pub returned : StartsWith (first_settled instance.left.base instance.left.trail.items instance.left.settled) instance.desk.read
 
-  -- these are the instances of a server that ended for this, and left these: each but the last rests, and the next one begins where it ended
+  -- these are the instances of a server that ended for this reason, with these remaining parts: each but the last
+  -- rests, and the next one begins where it ended
   abbrev pub AreInstances : World → V → List (InstanceRun D V) → Option ServerFault → Closed D → V → Type 0
   AreInstances began v [] why left callers = ⊥
   AreInstances began v (instance ∷ []) why left callers = IsLast began v instance why × (instance.left ≡ left) × (instance.callers ≡ callers)
   AreInstances began v (instance ∷ next ∷ later) why left callers = Rests m talked most began v instance × AreInstances instance.left.store.world instance.callers (next ∷ later) why left callers
 
--- Instances from the world of a first store, of which the last one left this store and this count of settled steps, are one history. Their steps are one trail from that world, and each instance began with the world after the steps of those before it. What they gave out is what that one trail gives out, and each step has a number of its own: so none, and no signal of one, stands in two instances. The store has the world after all steps that are settled, which are the first ones.
+-- Instances from the world of a first store, of which the last one left this store and this count of settled steps,
+-- are one history. Their steps are one trail from that world, and each instance began with the world after the steps
+-- of those before it. Their outputs are those of that one trail, and each step has its own number: so no step, and no
+-- signal of one, is in two instances. The store has the world after all settled steps, which are the first ones.
 pub record AreOneHistory {D V : Type 0} (began : World) (instances : List (InstanceRun D V)) (store : Kept D) (settled : ℕ) : Type 0 where
   pub trail : IsTrail began (all_steps instances)
   pub follow : (before rest : List (InstanceRun D V)) (instance : InstanceRun D V) → instances ≡ before ++ instance ∷ rest → instance.left.base ≡ fold began (all_steps before)

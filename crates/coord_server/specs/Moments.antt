@@ -23,7 +23,10 @@ pub record KeepsAlong {D : Type 0} (m : DiskModel D) (first : Kept D) (steps : L
 abbrev pub HasWritten : {D : Type 0} → TableId → List Step → Closed D → Beginning → Type 0
 HasWritten history earlier left written = HasReadSettled history earlier (first_settled left.base left.trail.items left.settled) written
 
--- Some instances rested, and then this one was had, over the store that they left. At every moment from the first store to what is left, whatever the disk may hold is the world after the first of all the steps that they accepted; and those that are settled are written. `talked v talks w`: those who call were v, had these talks, and then are w; `failed v w`: they were v, and have failed
+-- Some instances rested, and then this one ran, over the store that they left. At every moment from the first store
+-- to the remaining one, whatever the disk may hold is the world after the first of all the steps that they accepted;
+-- and the settled ones are written. `talked v talks w`: the callers were v, had these talks, and then are w; `failed
+-- v w`: they were v, and have failed
 pub record HasLived {D : Type 0} (m : DiskModel D) {V : Type 0} (talked : V → List Talk → V → Type 0) (failed : V → V → Type 0) (most : ℕ) (first : Kept D) (v : V) (last : Instance D V) : Type 0 where
   pub rested : List (InstanceRun D V)
   pub world : World

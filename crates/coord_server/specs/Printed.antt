@@ -52,13 +52,14 @@ is_amiss p settled = p.is_broken || not (nat_le p.last.step settled)
 abbrev pub IsOfPrinting : ServerFault → Type 0
 IsOfPrinting returned = (returned ≡ fault.OutOfMemory) ⊎ (returned ≡ fault.Write)
 
--- what was written of the line of an address in which the output failed: a first part of it
+-- the written part of the line of an address in which the output failed: a prefix of it
 pub record IsTornAddress {W : Type 0} (q : PrinterState W) (torn : List ℕ) : Type 0 where
   pub broken : q.is_broken ≡ true
   pub address : SocketAddr
   pub part : IsFirstPart torn (listening_line address)
 
--- what was written of the line of a signal in which the output failed: a first part of it. The signal may be printed, and comes after the last one
+-- the written part of the line of a signal in which the output failed: a prefix of it. The signal may be printed, and
+-- comes after the last one
 pub record IsTornSignal {W : Type 0} (may : ℕ → ℕ → ℕ → Type 0) (q : PrinterState W) (torn : List ℕ) : Type 0 where
   pub broken : q.is_broken ≡ true
   pub signal : StepSignal
@@ -66,7 +67,7 @@ pub record IsTornSignal {W : Type 0} (may : ℕ → ℕ → ℕ → Type 0) (q :
   pub next : is_next q.last signal.step signal.node ≡ true
   pub part : IsFirstPart torn (signal_line signal.node signal.epoch)
 
--- Why the first line was not printed, where it was to be printed and was not: there was no memory, or the output has failed.
+-- Why the first line was not printed, if it should have been: memory ran out, or the output has failed.
 abbrev pub IsUnprintedFor : {W : Type 0} → PrinterState W → Option ServerFault → Type 0
 IsUnprintedFor p None = Unit {0}
 IsUnprintedFor p (Some fault.OutOfMemory) = Unit {0}
@@ -96,7 +97,8 @@ module _ {W : Type 0} (contents : W → Option (List ℕ)) where
 
   -- `may`: which signals may be printed, by step, node and epoch
   module _ (may : ℕ → ℕ → ℕ → Type 0) where
-    -- The lines of such signals were printed, each after the one before it; where the output failed in a line, a first part of that one after them.
+    -- The lines of such signals were printed, each after the one before it; if the output failed in a line, followed
+    -- by a prefix of that one.
     pub record HasPrinted (p q : PrinterState W) : Type 0 where
       pub signals : List StepSignal
       pub torn : List ℕ

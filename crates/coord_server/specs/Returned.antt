@@ -1,4 +1,4 @@
--- What a reply, and what is left of a disk, say of the steps of an instance.
+-- What a reply, and the remaining disk, say about the steps of an instance.
 use Rattle.std.specs.List.{AllByRecursion}
 use Rattle.std.specs.Prelude.{◌≡◌, ◌⊎◌, ℕ, ◌+◌, ◌-◌, ◌≤◌, true, List, [], ◌∷◌, ◌++◌, Contains, Ok, Some, length, slice_get, take}
 use Rattle.coord_disk.specs.Model.Present.{IsImage}
@@ -31,7 +31,7 @@ pub record NamesItsStep {D : Type 0} (b : Basis D) (s : Step) (reply : Reply) (b
 abbrev pub RepliesNameSteps : Type 0 → Type 0
 RepliesNameSteps D = (b : Basis D) (s : Step) (reply : Reply) (before after : List Note) (read now : List Step) → AnswersOrder b s (Ok reply) before after read now → NamesItsStep b s reply before after now
 
--- the step of a note stands in what is left of an instance at the note's number, and what is left gives it the reply that the note has
+-- the remaining trail of an instance has the step of a note at the note's number, and returns the note's reply for it
 pub record IsReplied {D : Type 0} (left : Closed D) (note : Note) : Type 0 where
   pub place : ℕ
   pub number : note.step ≡ left.base.count + place + 1
@@ -44,7 +44,7 @@ pub record IsReplied {D : Type 0} (left : Closed D) (note : Note) : Type 0 where
 abbrev pub NotesAreReplies : Type 0 → Type 0 → Type 0
 NotesAreReplies D P = (b : Basis D) (desk : DeskState P) (left : Closed D) → IsOneHistory b desk left → (note : Note) → Contains desk.notes note → IsReplied left note
 
--- an answer names no step after this one: neither its reply nor what it shows
+-- an answer names no step after this one, in its reply or in its view
 abbrev pub AnswersUpTo : ℕ → Answer → Type 0
 AnswersUpTo step (Replied r) = r.step ≤ step
 AnswersUpTo step (Shown v) = v.settled ≤ step
@@ -53,7 +53,7 @@ AnswersUpTo step (Resent n) = Unit {0}
 AnswersUpTo step answer.Closed = Unit {0}
 AnswersUpTo step (Faulted f) = Unit {0}
 
--- what was written is lines, each of which names no step after this one; in the last of them it may break off
+-- the output is lines, each of which names no step after this one; in the last of them it may break off
 pub record WritesUpTo (step : ℕ) (text : List ℕ) : Type 0 where
   pub returned : List Answer
   pub up_to : AllByRecursion (AnswersUpTo step) returned
@@ -65,7 +65,8 @@ pub record WritesUpTo (step : ℕ) (text : List ℕ) : Type 0 where
 abbrev pub AllWriteUpTo : ℕ → List Connection → Type 0
 AllWriteUpTo step cs = AllByRecursion (λ c. WritesUpTo step c.talk.bytes_written) cs
 
--- all that the desk of an instance replied or showed is settled in what is left of it, whether or not a line closed it
+-- all replies and views of an instance's desk are of steps that are settled in its remaining parts, whether or not a
+-- line closed it
 abbrev pub ReturnedIsSettled : Type 0 → Type 0 → {V : Type 0} → (V → List Talk → V → Type 0) → Type 0
 ReturnedIsSettled D P {V} talked =
     (b : Basis D) (most : ℕ) (port : P) (v w : V) (desk : DeskState P) (left : Closed D) → IsOneHistory b desk left

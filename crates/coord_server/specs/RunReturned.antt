@@ -17,9 +17,9 @@ use Rattle.coord_server.specs.Printed.{PrinterState}
 use Rattle.coord_server.specs.ServerRun.{ServerRun}
 use Rattle.coord_server.specs.declared.server_end.ServerEnd.{ServerEnd}
 
--- `talked v talks w`: those who call were v, had these talks, and then are w; `failed v w`: they were v, and have failed
+-- `talked v talks w`: the callers were v, had these talks, and then are w; `failed v w`: they were v, and have failed
 module _ {V : Type 0} (talked : V → List Talk → V → Type 0) (failed : V → V → Type 0) where
-  -- those who call had these connections, and then may have failed
+  -- the callers had these connections, and then may have failed
   pub record HadConnections (v : V) (connections : List Connection) (w : V) : Type 0 where
     pub last : V
     pub talks : talked v (talks connections) last

@@ -11,9 +11,9 @@
 -- `InstancesAreOne`, that steps and signals are numbered as one history, and `RunAnswersFromOneHistory`, that each reply and each
 -- view is that of a first part of it.
 --
--- `model` is the meaning of the disk. `talked` and `failed` say what those who call may do. An instance ends after
--- `most` steps. `contents` are the bytes of an output, where they are known. `gives` says which signals a list of steps gives
--- out, by step, node and epoch.
+-- `model` is the meaning of the disk. `talked` and `failed` describe the callers. An instance ends after `most`
+-- steps. `contents` are the bytes of an output, if they are known. `gives` says which signals a list of steps sends,
+-- by step, node and epoch.
 use Rattle.std.specs.Prelude.{◌≡◌, ⊤, ℕ, ◌+◌, ◌≤◌, List, Option, length}
 use Rattle.coord_disk.specs.Model.DiskModel.{DiskModel}
 use Rattle.coord_types.specs.declared.steps.Step.{Step}
@@ -39,7 +39,7 @@ pub record ServerRun {D V W : Type 0} (model : DiskModel D) (talked : V → List
   pub settled : ended.closed.store.world ≡ fold store.world (first_settled store.world (all_steps instances) ended.closed.settled)
   -- at every moment the disk gives the world after the first n of these steps, for some n
   pub along : KeepsAlong model store (all_steps instances) ended.closed.store
-  -- what was printed
+  -- the output
   pub printed : IsPrinted contents (gives (first_settled store.world (all_steps instances) ended.closed.settled)) printer ended.printer
   -- why it returns a fault
   pub cause : HasFaultForCause most ended

@@ -1,10 +1,11 @@
 -- How often a server prints signals between two moments at which every node of a part is Ready.
-use Rattle.std.specs.Prelude.{◌≡◌, ℕ, ◌+◌, ◌==◌, ◌&&◌, Bool, List, ◌++◌, Option, length, count_by, nat_le, nat_lt}
+use Rattle.std.specs.Prelude.{◌≡◌, ℕ, ◌+◌, ◌≤◌, ◌==◌, ◌&&◌, Bool, true, List, ◌++◌, Option, length, count_by, nat_le, nat_lt}
 use Rattle.coord_disk.specs.Model.DiskModel.{DiskModel}
 use Rattle.coord_types.specs.declared.steps.Step.{Step}
 use Rattle.coord_store.specs.Kept.{Kept}
 use Rattle.coord_world.specs.Facade.{fold}
-use Rattle.coord_world.specs.laws.Between.{BoundSignals, IsReadyAgain}
+use Rattle.coord_world.specs.laws.Between.{BoundSignals, IsReadyAgain, IsReadyApart}
+use Rattle.coord_world.specs.laws.Drops.{most_signals}
 use Rattle.coord_admin.specs.Connections.{Talk}
 use Rattle.coord_engine.specs.Facade.{GivesSignal, first_settled}
 use Rattle.coord_server.specs.Lines.{nothing_since}
@@ -26,3 +27,12 @@ PrintedBetween {D} {V} {W} model talked failed contents =
     printer.last ≡ nothing_since store.world.count → (earlier between rest : List Step) (part : ℕ → Bool) →
     first_settled store.world (all_steps run.instances) ended.closed.settled ≡ earlier ++ (between ++ rest) → IsReadyAgain store.world earlier between part →
     BoundSignals (fold store.world earlier) between part (λ v. count_by (is_printed_within (store.world.count + length earlier) (store.world.count + length earlier + length between) v) run.printed.signals)
+
+-- While nodes and links come and go, as long as no link joins the part with the rest, it printed no more lines of signals of a node of the
+-- part by the steps between than resets were started and links dropped there, and its own resets answered Finished.
+abbrev pub PrintedWithDrops : {D V W : Type 0} → DiskModel D → (V → List Talk → V → Type 0) → (V → V → Type 0) → (W → Option (List ℕ)) → Type 0
+PrintedWithDrops {D} {V} {W} model talked failed contents =
+    (most : ℕ) (store : Kept D) (callers : V) (printer : PrinterState W) (ended : ServerEnd D V W) (run : ServerRun model talked failed most contents (GivesSignal store.world) store callers printer ended) →
+    printer.last ≡ nothing_since store.world.count → (earlier between rest : List Step) (part : ℕ → Bool) →
+    first_settled store.world (all_steps run.instances) ended.closed.settled ≡ earlier ++ (between ++ rest) → IsReadyApart store.world earlier between part → (v : ℕ) → part v ≡ true →
+    count_by (is_printed_within (store.world.count + length earlier) (store.world.count + length earlier + length between) v) run.printed.signals ≤ most_signals (fold store.world earlier) between part v

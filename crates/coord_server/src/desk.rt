@@ -15,9 +15,9 @@ use coord_view::View;
 use std::marker::Model;
 use std::sync::Wait;
 
-/// Asks an engine, and hands what is to be sent again to a port. Contracts see the notes of its
-/// share, how much it has seen, the settled steps that it has read, and the port. What it answers is so
-/// after the steps that it has read then.
+/// Queries an engine, and hands resent packets to a port. Contracts see the notes of its share, its
+/// seen count, the settled steps that it has read, and the port. Its answers are right after the
+/// steps that it has read then.
 #[derive(Drop)]
 pub struct EngineDesk<'a, D: Disk, L: Origin, P: Port, R: Wait> {
     rt: &'a R,
@@ -66,8 +66,8 @@ impl<'a, D: Disk, L: Origin, P: Port + Drop, R: Wait> EngineDesk<'a, D, L, P, R>
         }
     }
 
-    /// The desk's share, with the notes of what was accepted for it, what the desk has seen, and its
-    /// reader.
+    /// The desk's share, with the notes of its accepted steps, the desk's seen count, and its
+    /// token.
     pub fn into_parts(self) -> (Share<L>, Seen, LogPrefix)
         ensures notes { result.0 ≡ self.entry.notes }
         ensures seen { result.1 ≡ self.entry.seen }
@@ -120,7 +120,7 @@ fn collect<D: Disk, L: Origin, R: Wait>(
     without_ticket(engine.collect(rt, ticket, reader))
 }
 
-/// Returns what was answered to a ticket, and forgets the ticket if it came back.
+/// Returns the answer to a ticket, and forgets the ticket if it came back.
 fn without_ticket(answer: Result<Reply, (Refusal, Ticket)>) -> Result<Reply, Refusal>
     ensures { result ≡ without_ticket answer }
 {

@@ -9,7 +9,7 @@ use std::fmt;
 pub enum ServerFault {
     /// There was not enough memory to serve, or to begin the next instance.
     OutOfMemory,
-    /// There was not enough memory, or no thread could be had, to begin an instance: nobody was served in it.
+    /// There was not enough memory, or no thread, to begin an instance: nobody was served in it.
     NotBegun,
     /// The listener failed.
     Socket,

@@ -1,4 +1,4 @@
-//! One instance of a server: an engine with its threads, from a store to what is left of it.
+//! One instance of a server: an engine with its threads, from a store to its remaining parts.
 
 ghost use Rattle.std.specs.Prelude.{◌≡◌, ◌≤◌, [], false, length, IfErr, IfOk, IfSome, None, Some};
 ghost use Rattle.coord_engine.specs.MonotoneLog.{StartsWith};
@@ -35,10 +35,10 @@ use std::sync::ledger::Blank;
 use std::thread::Threads;
 use std::time::Clock;
 
-/// For so many notes the desk's share takes room when an instance begins, and the flusher's as many. Notes
-/// that stay within it never move. The room is more than 32 MiB, so that the C library takes it from
-/// the system by itself and gives it back when the instance ends: smaller blocks stay with the thread that
-/// took them.
+/// The desk's share allocates room for this many notes when an instance begins, and the flusher's
+/// for as many. Notes that stay within it never move. The room is more than 32 MiB, so that the C
+/// library maps it separately and returns it to the system when the instance ends: smaller blocks
+/// stay with the thread that allocated them.
 const NOTES_ROOM: usize = 600_000;
 
 /// What an instance begins with: a store's ledger, in which nothing is accepted yet, and a handle on the
@@ -47,13 +47,13 @@ const NOTES_ROOM: usize = 600_000;
 pub struct InstanceStart<D: Disk> {
     pub history: MonotoneLog,
     pub ledger: Ledger<D>,
-    /// The store as it was.
+    /// The store, unchanged.
     pub over: Snapshot<Store<D>>,
     pub ghost adopted: { ledger ≡ ledger_over over.value.world over.value.disk },
 }
 
 impl<D: Disk> InstanceStart<D> {
-    /// Over a store, which comes back where there is no memory.
+    /// Begins over a store, which is returned if memory runs out.
     pub fn new(alloc: Global, history: &MonotoneLog, store: Store<D>) -> Result<Self, Store<D>>
         requires { has_stopped store ≡ false }
         ensures history { IfOk result (λ start. start.history ≡ history.now) }
@@ -75,8 +75,8 @@ impl<D: Disk> InstanceStart<D> {
     }
 }
 
-/// What is left of an instance, and of the callers, and what writes the history, which has its settled steps
-/// now.
+/// The remaining parts of an instance, the callers, and the authority of the history, which has its
+/// settled steps now.
 #[derive(Drop)]
 pub struct Instance<D: Disk, C> {
     pub closed: Closed<D>,
@@ -85,9 +85,9 @@ pub struct Instance<D: Disk, C> {
     pub left: InstanceEnd,
 }
 
-/// Serves a ledger's store to those who call, until a line closes it or the instance is old, and returns
-/// what is left of the engine, in any case. What was accepted is settled first. The first instance opens the
-/// output.
+/// Serves a ledger's store to the callers, until a line closes it or the instance is old, and
+/// returns the engine's parts, in any case. Accepted steps are settled first. The first instance
+/// opens the output.
 ///
 /// An instance for which there is no memory or no thread leaves its engine as nobody was served; `left` says
 /// so, and whether the engine refused to be taken apart with all shares.
@@ -170,8 +170,8 @@ fn serve_ledger<
     }
 }
 
-/// Gives out the desk's share and the flusher's, makes room for all that an instance may not lose, and
-/// connects the port to a channel for each worker. None where there is no memory.
+/// Makes the desk's share and the flusher's, allocates room for everything that an instance must
+/// not lose, and connects the port to a channel for each worker. Returns None if memory runs out.
 fn begin<D: Disk, L: Origin, O: SignalSource, R: Wait>(
     setting: &Setting<'_, R, O>,
     engine: &Engine<D, L>,
@@ -202,7 +202,8 @@ fn share_with_room<D: Disk, L: Origin, R: Wait>(rt: &R, engine: &Engine<D, L>) -
     Some(share)
 }
 
-/// What is left of an instance that did not begin, of those who call, whom nobody served, and of its engine.
+/// The remaining parts of an instance that did not begin, the callers, whom nobody served, and its
+/// engine's parts.
 fn unbegun<D: Disk, L: Origin, C, O: SignalSource, R: Wait + Clock>(
     setting: &Setting<'_, R, O>,
     engine: Engine<D, L>,
@@ -230,8 +231,9 @@ fn unbegun<D: Disk, L: Origin, C, O: SignalSource, R: Wait + Clock>(
     }
 }
 
-/// What is left of an instance whose threads have run, once its engine is taken apart with all shares; or,
-/// where the engine refuses them, whatever they noted. What is written begins with what the desk has read.
+/// The remaining parts of an instance whose threads have run, once its engine is taken apart with
+/// all shares; or, if the engine refuses them, whatever they noted. The written history begins with
+/// the steps that the desk has read.
 fn retired<D: Disk, L: Origin, C: Callers, R: Wait + Clock>(
     rt: &R,
     history: &MonotoneLog,

@@ -30,18 +30,19 @@ use std::thread;
 use std::thread::{PromisedHandle, Scope, Threads};
 use std::time::Clock;
 
-/// Serves a store to those who call, one after the other, until a line closes it, and returns what is left of
-/// the engine of its last instance.
+/// Serves a store to the callers, one after the other, until a line closes it, and returns the
+/// parts of its last instance's engine.
 ///
-/// In each instance a flusher and the workers run. In the first one, once all threads run, `listening`
-/// and the address is printed. Then packets that a crash or the end of the previous instance may have lost are
-/// sent again, and those who call are served. A thread prints each signal that is released as a line, in
-/// order, from a channel without bound: a slow output delays nothing else. If a line can't be printed, no
-/// more are, and the server goes on: the epochs that it shows report signals that were not printed. An
-/// instance ends between two connections once its engine keeps `most` steps; a connection is ended after a
-/// reply once it keeps twice as many. At the end of each instance, after a close or a fault too, all that was
-/// accepted is settled, the flusher ends, and then the workers. At the last end the signals that are left are
-/// printed, however long the output takes.
+/// In each instance a flusher and the workers run. In the first one, once all threads run,
+/// `listening` and the address is printed. Then packets that a crash or the end of the previous
+/// instance may have lost are sent again, and the callers are served. A thread prints each released
+/// signal as a line, in order, from an unbounded channel: a slow output delays nothing else. If a
+/// line can't be printed, no more are, and the server continues: the epochs that it shows include
+/// signals that were not printed. An instance ends between two connections once its engine keeps
+/// `most` steps; a connection is ended after a reply once it keeps twice as many. At the end of
+/// each instance, after a close or a fault too, all accepted steps are settled, the flusher ends,
+/// and then the workers. At the last end the remaining signals are printed, however long the output
+/// takes.
 ///
 /// It prints the address and signals of the history that `O` names, which is new and which it writes. Its
 /// printer can't print anything else, also if the server never returns.
@@ -142,8 +143,8 @@ fn serve_and_print<
     )
 }
 
-/// Starts the thread that prints signals. Where the system has none to give, nobody asks for the first
-/// line any more, and what would have printed it comes back.
+/// Starts the thread that prints signals. If the system has no thread, nobody waits for the first
+/// line any more, and its printer is returned.
 fn start_printing<
     's,
     'r: 's,
@@ -256,7 +257,7 @@ fn goes_on<D: Disk>(most: usize, closed: &Closed<D>) -> bool
     closed.settled - base == closed.trail.len() as u64
 }
 
-/// What the next instance begins with over what is left of one, which comes back where there is no memory.
+/// Begins the next instance over the parts of the last one, which are returned if memory runs out.
 fn start_over<D: Disk, O: SignalSource, R: Wait>(
     setting: &Setting<'_, R, O>,
     closed: Closed<D>,
@@ -321,9 +322,9 @@ fn next_of<D: Disk, C, O: SignalSource, R: Wait>(
     }
 }
 
-/// How a server ended, by its last instance. One that rests is the last only where it can't go on, as over a
-/// store that has stopped. If the first line was not printed, what printed says why. The steps of all
-/// signals that were printed are among those that all instances have written.
+/// How a server ended, by its last instance. One that rests is the last only if it can't continue,
+/// as over a store that has stopped. If the first line was not printed, the printer says why. The
+/// steps of all printed signals are among those that all instances have written.
 fn end_of<D: Disk, C, W: Write>(
     history: &MonotoneLog,
     instance: Instance<D, C>,

@@ -5,7 +5,7 @@ ghost use Rattle.std.specs.Prelude.{ℕ};
 ghost use Rattle.coord_server.specs.InOrder.{AnsweredInOrder};
 ghost use Rattle.coord_server.specs.Instances.{InstancesAreOne};
 ghost use Rattle.coord_server.specs.RunReturned.{RunAnswersFromOneHistory};
-ghost use Rattle.coord_server.specs.SignalsBetween.{PrintedBetween};
+ghost use Rattle.coord_server.specs.SignalsBetween.{PrintedBetween, PrintedWithDrops};
 ghost use Rattle.coord_server.specs.Returned.{InstancesLeaveSteps, NotesAreReplies, NotesEndALife, RepliesNameSteps, ReturnedIsSettled};
 ghost use Rattle.coord_server.specs.WorkedReturned.{ReturnUpToThird};
 
@@ -15,15 +15,17 @@ use coord_disk::Disk;
 use coord_engine::Port;
 use std::io::Write;
 
-/// All instances of a server are one history: one trail from the world of its first store, over which each
-/// instance began where the one before ended, and of which each step has a number of its own.
+/// All instances of a server are one history: one trail from the world of its first store, over
+/// which each instance began where the previous one ended, and in which each step has its own
+/// number.
 pub fn instances_are_one<D: Disk, C: Callers>()
     ensures { (most : ℕ) → InstancesAreOne D.model C.talked C.failed most }
 {}
 
-/// An order that gets a reply was just noted, with the number and the kind of the reply, or it repeats one. The
-/// log of that instance had the step at that number, settled, and answered it with that kind; or the base kept
-/// that reply for it. A desk's notes stand in the trail of its instance, each at its number.
+/// An order that gets a reply was just noted, with the number and the kind of the reply, or it
+/// repeats one. The log of that instance had the step at that number, settled, and answered it with
+/// that kind; or the base kept that reply for it. A desk's notes are in the trail of its instance,
+/// each at its number.
 pub fn replies_name_steps<D: Disk>()
     ensures { RepliesNameSteps D }
 {}
@@ -34,8 +36,8 @@ pub fn notes_are_replies<D: Disk, P: Port>()
     ensures { NotesAreReplies D P }
 {}
 
-/// All that the desk of an instance replied or showed, over each connection that ended, is settled in what is
-/// left: no reply has a greater number, and no world that was shown counts more steps as settled.
+/// All replies and views of the desk of an instance, over each connection that ended, are of
+/// settled steps: no reply has a greater number, and no shown world counts more steps as settled.
 pub fn returned_is_settled<D: Disk, C: Callers, P: Port>()
     ensures { ReturnedIsSettled D P C.talked }
 {}
@@ -60,6 +62,13 @@ pub fn run_answers_from_one_history<D: Disk, C: Callers, W: Write, O: SignalSour
 /// reset is signalled by those steps.
 pub fn printed_between<D: Disk, C: Callers, W: Write>()
     ensures { PrintedBetween D.model C.talked C.failed W.contents }
+{}
+
+/// While nodes and links come and go, but no link joins the part with the rest: a server prints no more
+/// signals of a node of the part than resets were started and links dropped there since every node of it
+/// was Ready, and its own resets answered Finished.
+pub fn printed_with_drops<D: Disk, C: Callers, W: Write>()
+    ensures { PrintedWithDrops D.model C.talked C.failed W.contents }
 {}
 
 /// The reply to the third step and a world with three settled steps name three steps, and not two. So does the line of that reply, as a client reads it.

@@ -66,12 +66,12 @@ impl<R: Wait, O: SignalSource> LocalPort<R, O> {
         self.ways.lock(&self.rt).channels = channels;
     }
 
-    /// Closes the channels of packets. What they hold is still received.
+    /// Closes the channels of packets. Their content is still received.
     pub fn hang_up(&self) {
         self.ways.lock(&self.rt).channels.clear();
     }
 
-    /// Closes the channel of signals. What it holds is still received.
+    /// Closes the channel of signals. Its content is still received.
     pub fn fall_silent(&self) {
         *self.signals.lock(&self.rt) = None;
     }
@@ -115,7 +115,7 @@ impl Ways {
         }
     }
 
-    /// Hands on what was gathered, and answers how many packets are lost.
+    /// Hands on the gathered packets, and returns how many are lost.
     fn hand_on<R: Wait>(&mut self, rt: &R, alloc: Global) -> u64 {
         let mut lost = 0u64;
         for (worker, gathered) in self.gathered.iter_mut().enumerate() {

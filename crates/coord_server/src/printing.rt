@@ -1,4 +1,4 @@
-//! The thread that prints: first where the server listens, then each signal.
+//! The thread that prints: first the address, then each signal.
 
 ghost use Rattle.std.specs.Prelude.{◌≡◌, ◌⊎◌, List, Err, IfErr, IsErr, None, OnOk, true};
 ghost use Rattle.std.specs.Iterator.{Drains, IsFinite};
@@ -18,12 +18,12 @@ use std::snapshot::Snapshot;
 use std::sync::Wait;
 use std::thread::Promise;
 
-/// What has printed, with a reader that has read the step of each signal that was printed.
+/// The printer, with a token that has read the step of each printed signal.
 #[derive(Drop)]
 pub struct Printed<W: Write> {
     pub printer: Printer<W>,
     pub reader: LogPrefix,
-    /// Why the first line was not printed, where it was to be printed and was not.
+    /// Why the first line was not printed, if it should have been.
     pub unprinted: Option<ServerFault>,
 }
 
@@ -133,8 +133,8 @@ pub struct Printing<W: Write + Drop, O: SignalSource> {
 
 #[tactic(auto, using(crate::proofs::Starts::printed_none))]
 impl<W: Write + Drop, O: SignalSource> Printing<W, O> {
-    /// Prints the address that comes, and then the signals that come, and returns what printed. No
-    /// clause can say what comes over a channel but what the type of a signal says.
+    /// Prints the address that comes, and then the signals that come, and returns the printer. No
+    /// clause can state the content of a channel except the invariant of a signal's type.
     pub fn print<R: Wait>(self, rt: &R) -> Printed<W>
         ensures printed { IsPrinted W.contents (O.gives result.reader.steps)
             self.printer result.printer }
@@ -171,8 +171,8 @@ impl<W: Write + Drop, O: SignalSource> Printing<W, O> {
     }
 }
 
-/// That what printed has printed from what it was: the address, and signals of steps that its reader has
-/// read.
+/// The printer has printed, from its first state, the address, and signals of steps that its token
+/// has read.
 #[derive(Drop)]
 pub struct PrintsFrom<W: Write + Drop, O: SignalSource> {
     pub first: Snapshot<SignalPrinter<W, O>>,

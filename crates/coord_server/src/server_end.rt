@@ -11,7 +11,7 @@ use coord_disk::Disk;
 use coord_engine::Closed;
 use std::io::Write;
 
-/// What is left of a server's last engine and of those who called, and how the server ended.
+/// The parts of a server's last engine, the callers, and how the server ended.
 #[derive(Drop)]
 pub struct ServerEnd<D: Disk, C, W: Write> {
     pub closed: Closed<D>,
@@ -50,8 +50,8 @@ impl<D: Disk, C, W: Write> ServerEnd<D, C, W> {
 }
 
 impl<D: Disk, C: Callers + Drop, W: Write + Drop> ServerEnd<D, C, W> {
-    /// Returns what is left of the last engine, beside the fault to report if there is one; and what printed.
-    /// There is no fault only if a line closed the server and its store has not stopped.
+    /// Returns the parts of the last engine, beside the fault to report if there is one; and the
+    /// printer. There is no fault only if a line closed the server and its store has not stopped.
     pub fn into_closed(self) -> (Result<Closed<D>, (ServerFault, Closed<D>)>, Printer<W>)
         ensures closed { IfOk result.0 (λ closed. (closed ≡ self.closed) ×
             (fault_at_end (has_stopped self.closed.store) self.served

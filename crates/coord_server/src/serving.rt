@@ -22,15 +22,15 @@ use std::sync::Wait;
 use std::thread::Threads;
 use std::time::Clock;
 
-/// After how many steps an instance of the server ends. With 100 to 150 bytes for each step, an engine then
-/// keeps some 40 MB, or twice that behind a connection that stays; an instance with fewer would spend more
-/// of its time with its end, which takes some tenths of a second.
+/// The number of steps after which an instance of the server ends. With 100 to 150 bytes for each
+/// step, an engine then keeps some 40 MB, or twice that if a connection stays; an instance with
+/// fewer would spend more of its time with its end, which takes some tenths of a second.
 pub const INSTANCE_STEPS: usize = 262_144;
 
-/// Serves a store to the connections of a listener, one after the other, until a line closes it, and
-/// returns what is left of the engine of its last instance. It is `serve_callers` over these
-/// connections, with the usual timeouts. The history is new, and `O` names it. If there is no memory to
-/// begin, the store and the printer are returned as they were.
+/// Serves a store to the connections of a listener, one after the other, until a line closes it,
+/// and returns the parts of its last instance's engine. It is `serve_callers` over these
+/// connections, with the usual timeouts. The history is new, and `O` names it. If memory to begin
+/// runs out, the store and the printer are returned unchanged.
 ///
 /// A server that never returns has no postcondition. But whatever it does and wherever it stops, it writes
 /// the disk only by commits of its store, and the output only by its printer's calls: its type says so,
@@ -98,9 +98,9 @@ fn serve_accepted<
     serve_callers(rt, alloc, store, callers, printer, written)
 }
 
-/// Serves a store to those who call, one after the other, until a line closes it, and returns what is left of
-/// the engine of its last instance. It is `serve_instances` with `INSTANCE_STEPS`. If there is no memory to
-/// begin, the store and the printer are returned as they were.
+/// Serves a store to the callers, one after the other, until a line closes it, and returns the
+/// parts of its last instance's engine. It is `serve_instances` with `INSTANCE_STEPS`. If memory to
+/// begin runs out, the store and the printer are returned unchanged.
 pub fn serve_callers<
     D: Disk + Send,
     C: Callers + Drop,

@@ -97,7 +97,7 @@ impl<O: SignalSource> Signal<O> {
         self.epoch
     }
 
-    /// What has read its step.
+    /// The token that has read its step.
     pub fn into_reader(self) -> LogPrefix
         ensures { MaySignal O.history O.gives result self.step self.node self.epoch }
     {

@@ -46,8 +46,8 @@ pub struct Begun<L: Origin> {
     pub ghost eight: { length packets.items ≡ 8 },
 }
 
-/// What they leave once all have ended: all shares, the desk's first, what the desk has seen, and what
-/// has read the steps by which it has answered.
+/// The results of all threads: all shares, the desk's first, the desk's seen count, and the token
+/// that has read the steps by which it has answered.
 #[derive(Drop)]
 pub struct JoinedThreads<L: Count, C> {
     pub shares: Vec<Share<L>>,
@@ -67,9 +67,9 @@ struct Crew<L: Count> {
 }
 
 /// Starts a flusher, and a worker on each channel. Once all of them run, it opens the output, sends
-/// again what may have been lost, and serves those who call until the instance is old. An error says
-/// that a thread could not be started: then nothing was printed and nobody was served, so callers and
-/// opening come back as they were.
+/// again the packets that may have been lost, and serves the callers until the instance is old. An
+/// error says that a thread could not be started: then nothing was printed and nobody was served,
+/// so callers and opening are returned unchanged.
 pub fn run<
     D: Disk + Send,
     L: Origin + Send + Sync,
@@ -168,7 +168,7 @@ fn run_in<
     })
 }
 
-/// Starts a flusher, and a worker on each channel. None where one of them can't be had.
+/// Starts a flusher, and a worker on each channel. Returns None if one of them can't be started.
 fn start<
     's,
     'r: 's,
@@ -193,8 +193,8 @@ fn start<
     Some(Crew { flushing, workers })
 }
 
-/// Starts a flusher that submits the packets of its flights itself, with this share, unless no thread can
-/// be had.
+/// Starts a flusher that submits the packets of its flights itself, with this share, unless there
+/// is no thread.
 fn start_flusher<
     's,
     'r: 's,
@@ -226,8 +226,8 @@ fn start_flusher<
         .ok()
 }
 
-/// Starts a worker on each channel. None where one of them can't be had: the others then end with
-/// the scope.
+/// Starts a worker on each channel. Returns None if one of them can't be started: the others then
+/// end with the scope.
 fn start_workers<
     's,
     'r: 's,
@@ -255,7 +255,7 @@ fn start_workers<
     Some(running)
 }
 
-/// Starts a worker with a share of its own, unless no thread or no share can be had.
+/// Starts a worker with its own share, unless there is no thread or no share.
 fn start_worker<
     's,
     'r: 's,
@@ -278,8 +278,8 @@ fn start_worker<
         .ok()
 }
 
-/// Opens the output, and serves those who call by a desk with this share, while a crew is at work.
-/// The share, what the desk has seen, its reader, and what ended that.
+/// Opens the output, and serves the callers by a desk with this share, while a crew is at work.
+/// Returns the share, the desk's seen count, its token, and what ended that.
 fn serve_over<D: Disk, L: Origin, C: Callers, O: SignalSource, R: Wait>(
     setting: &Setting<'_, R, O>,
     engine: &Engine<D, L>,
@@ -304,7 +304,8 @@ fn serve_over<D: Disk, L: Origin, C: Callers, O: SignalSource, R: Wait>(
     (own, seen, reader, left)
 }
 
-/// Opens the output, where that was not done before; or says how the instance ends where it can't be opened.
+/// Opens the output, unless that was done before; or returns how the instance ends if it can't be
+/// opened.
 fn open<C: Callers, R: Wait>(
     rt: &R,
     callers: &C,
@@ -319,8 +320,9 @@ fn open<C: Callers, R: Wait>(
     }
 }
 
-/// Once the output is open, sends again what may have been lost, and serves those who call until
-/// the instance is old. What ended it: where the output could not be opened, that.
+/// Once the output is open, sends again the packets that may have been lost, and serves the callers
+/// until the instance is old. Returns the reason of the end, also if the output could not be
+/// opened.
 fn serve_clients<D: Disk, L: Origin, C: Callers, P: Port, O: SignalSource, R: Wait>(
     setting: &Setting<'_, R, O>,
     opened: Result<(), InstanceEnd>,
@@ -348,8 +350,8 @@ fn serve_clients<D: Disk, L: Origin, C: Callers, P: Port, O: SignalSource, R: Wa
     serve_until_old(setting, callers, desk)
 }
 
-/// Serves those who call by a desk that has noted nothing, until a line closes it or the instance is old.
-/// What ended it.
+/// Serves the callers by a desk without notes, until a line closes it or the instance is old.
+/// Returns the reason of the end.
 fn serve_until_old<D: Disk, L: Origin, C: Callers, P: Port, O: SignalSource, R: Wait>(
     setting: &Setting<'_, R, O>,
     callers: &mut C,

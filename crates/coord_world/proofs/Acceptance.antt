@@ -1,4 +1,4 @@
--- What is known of a step that a world takes.
+-- Facts about a step that a world accepts.
 use Rattle.std.proofs.Common.{◌≡◌, true, false, [], ◌∷◌, Ok, Err, cond, refl, ℕ, ◌+◌, ◌^◌, ◌≤◌, ◌&&◌, List, Option, Some, None, Result, arith, eqb, ◌≢◌, Bool, ◌||◌, not, is_some, ap, ◌∙◌}
 use Rattle.std.proofs.lemmas.Bool.Decides.{nat_tests}
 use Rattle.coord_types.specs.declared.refusals.Refusal.{Refusal}
@@ -49,7 +49,7 @@ abbrev pub NoneHolds : Tests → Type 0
 NoneHolds [] = Unit {0}
 NoneHolds (t ∷ ts) = (t.0 ≡ false) × NoneHolds ts
 
--- where no test refuses, none holds
+-- if no test refuses, none holds
 pub none_holds : (v r : Verdict) (ts : Tests) → refused_or v ts ≡ Ok r → NoneHolds ts
 none_holds v r [] h = tt
 none_holds v r (t ∷ ts) h = by_test t.0 (λ b. cond b (Err t.1) (refused_or v ts) ≡ Ok r → (b ≡ false) × NoneHolds ts) (λ _ e. cc) (λ _ e. (refl, none_holds v r ts e)) h
@@ -172,7 +172,7 @@ Passes w (Confirm u e) = Confirmable w u e
 absent : (o : Option NodeState) → is_some o ≡ false → o ≡ None
 absent o h1 = grind (arith, nat_tests, h1)
 
--- what is not false is true
+-- a test that is not false is true
 positive : (b : Bool) → not b ≡ false → b ≡ true
 positive b h1 = grind (arith, nat_tests, h1)
 
@@ -214,7 +214,7 @@ module _ (w settled : World) (c n : ℕ) (x : Command) (fresh : IsFresh w settle
 
 -- ---- fresh over some settled world, a step is fresh over the world itself
 
--- a lane that passes the tests against what is settled has the packet itself
+-- a lane that passes the tests against the settled world has the packet itself
 data_itself : (o settled : Option Lane) (p : DataPacket) (v r : Verdict) → refused_or v (against_data o settled p) ≡ Ok r → refused_or v (against_data o o p) ≡ Ok r
 data_itself o settled p v r h1 = grind (arith, nat_tests, h1)
 
@@ -226,7 +226,7 @@ receipt_itself o settled p v r h1 = grind (arith, nat_tests, h1)
 guarded : (b : Bool) (e : Refusal) (x y : Result Verdict Refusal) (v : Verdict) → cond b (Err e) x ≡ Ok v → (x ≡ Ok v → y ≡ Ok v) → cond b (Err e) y ≡ Ok v
 guarded b e x y v h1 h2 = grind (arith, nat_tests, h1, h2)
 
--- packets are judged by what is settled, and orders are not
+-- packets are judged by the settled world, and orders are not
 pub itself : FreshOverItself
 itself w settled (Order c n x) h = h
 itself w settled (Take p) h = guarded (is_exhausted w) Exhausted _ _ (Fresh Taken) h (data_itself (lane w p.from p.to p.inc) _ p (Fresh Taken) (Fresh Taken))

@@ -73,7 +73,7 @@ module _ (w : World) where
       ways : (x y : ℕ) → transit_or_none (cond (is_link a b x y) (Some (new_lane (w.count + 1))) (lane_at w.links x y)) ≡ (linked_up (view w) a b).in_transit x y
       ways x y = grind (arith, nat_tests)
 
--- where the numbers fit the queues
+-- if the numbers fit the queues
 module _ (w : World) (counts : AllCount w) where
   -- a transition over the numbers is the transition over the view
   pub view_done : (u : ℕ) (d : Transition) → view (with_transition w u d) ≡ ideal_applied (view w) u d

@@ -1,4 +1,4 @@
--- What is on the way on a lane, and what a lane keeps through a step.
+-- The messages in transit on a lane, and the invariants of a lane through a step.
 pub mod LaneNumbers
 pub mod EveryLane
 pub mod Transit

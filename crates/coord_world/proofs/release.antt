@@ -1,4 +1,4 @@
--- What is released, that it stays so, what is sent again, and which reply is kept.
+-- Releases, that they stay, resent packets, and kept replies.
 pub mod ResendList
 pub mod Between
 pub mod Trails

@@ -47,8 +47,8 @@ pub fn no_parent_cycle()
     ensures { NoParentCycle }
 {}
 
-/// In a world of version 1 within its ranges the predicates ask nothing of distances: H holds of
-/// each link, and N of each node of which the rest of N does.
+/// In a world of version 1 within its ranges the predicates demand nothing of distances: H holds
+/// for each link, and N for each node for which the rest of N does.
 #[tactic(auto, using(crate::proofs::legal::Versions::version_1_asks_no_distance))]
 pub fn version_1_asks_no_distance()
     ensures { Version1AsksNoDistance }
@@ -178,20 +178,20 @@ pub fn fold_counts()
     ensures { FoldCounts }
 {}
 
-/// The release law: a packet that nothing else refuses is not refused as not released exactly
-/// where a settled step gave it out or the base sends it again.
+/// The release law: a packet that nothing else refuses is not refused as not released exactly if a
+/// settled step sent it or the base sends it again.
 pub fn release_law()
     ensures { ReleaseLaw }
 {}
 
-/// A step that the front world takes over itself, it takes over the settled one exactly where the
+/// A step that the front world accepts over itself is accepted over the settled one exactly if the
 /// packet that the step names is released.
 pub fn fresh_where_released()
     ensures { FreshWhereReleased }
 {}
 
-/// A release stays: what is not refused as not released is judged the same once more steps are
-/// settled.
+/// A release stays: a packet that is not refused as not released is judged the same once more steps
+/// are settled.
 pub fn release_stays()
     ensures { ReleaseStays }
 {}

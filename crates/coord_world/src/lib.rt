@@ -8,8 +8,8 @@
 //!
 //! The main theorems are the contracts of [`laws`], over the definitions alone: a fresh step keeps
 //! a world legal and is the ideal step of the view; a wave signals each node that it reaches once;
-//! what is released stays so, and exactly the released packets are taken. Their statements stand in
-//! `specs/laws`, and `specs/code` has what only the bodies here need.
+//! a release stays, and exactly the released packets are accepted. Their statements are in
+//! `specs/laws`, and `specs/code` has the definitions that only the bodies here need.
 #![tactic(auto)]
 
 pub mod laws;

@@ -182,8 +182,8 @@ impl World {
         self.tables.sessions.get(client).copied()
     }
 
-    /// Whether this world, of which `settled` is what is settled, takes a step; the reply to a
-    /// client's last order that comes again; or else the first refusal that applies.
+    /// Whether this world, whose settled world is `settled`, accepts a step; the kept reply if the
+    /// step is a client's last order, sent again; or else the first refusal that applies.
     pub fn judge(&self, settled: &World, step: &Step) -> Result<Verdict, Refusal>
         ensures value { result ≡ accepts self.now settled.now step.now }
 
@@ -214,8 +214,8 @@ impl World {
         Ok(outcome)
     }
 
-    /// What may have been lost and is sent again: for each lane in ascending order the data packet
-    /// of its front, and then its receipt where the front was taken.
+    /// Returns the packets that may have been lost and are sent again: for each lane in ascending
+    /// order the data packet of its front, and then its receipt if the front was taken.
     pub fn resend(&self) -> Result<Vec<Output>, AllocError>
         ensures { IfOk result (λ outputs. outputs.items ≡ again self.now) }
     {

@@ -1,15 +1,15 @@
 /* The members' rule and the order book of resetd, for a program in any language that calls C.
  *
- * docs/SERVICES.md says what a member does; these functions say what is due, and spell each text. They
- * read and write no file and no socket, and keep nothing between two calls. What they give is proved.
+ * docs/SERVICES.md describes a member; these functions return its due action, and spell each text. They
+ * read and write no file and no socket, and keep no state between two calls. Their results are proved.
  *
- * A text is its bytes and their count, and may hold any bytes. A pointer to it is never NULL, also where
- * the count is 0. No two texts of a call may overlap where one of them is written. A call takes memory
- * from malloc, and has given all of it back when it returns. Calls from several threads at once are
- * safe, as long as none writes what another one reads.
+ * A text is its bytes and their count, and may hold any bytes. A pointer to it is never NULL, even if the
+ * count is 0. A text that a call writes may overlap no other text of the call. A call allocates with
+ * malloc, and has freed everything when it returns. Calls from several threads at once are safe, as long
+ * as none writes a text that another one reads.
  *
- * Each function that returns a number returns RESETD_OK or one of the numbers below it. Where it is not
- * RESETD_OK, what the call wrote does not count, and the orders that it was given stay as they were.
+ * Each function that returns a number returns RESETD_OK or one of the numbers below it. If it is not
+ * RESETD_OK, ignore the written bytes; the orders that were passed in are unchanged.
  */
 #ifndef RESETD_MEMBER_H
 #define RESETD_MEMBER_H
@@ -25,8 +25,8 @@ extern "C" {
 enum {
   RESETD_OK = 0,
   RESETD_OUT_OF_MEMORY = 1,
-  RESETD_NO_ROOM = 2,     /* the text has more bytes than there is room for */
-  RESETD_BAD_LINE = 3,    /* the line is not the answer that it has to be */
+  RESETD_NO_ROOM = 2,     /* the text has more bytes than the buffer */
+  RESETD_BAD_LINE = 3,    /* the line is not the required answer */
   RESETD_NO_NODE = 4,     /* the node is not shown: talk in no run, and look again */
   RESETD_BAD_START = 5,   /* the file of the start does not read: remove it, and a reset is asked for */
   RESETD_BAD_HISTORY = 6, /* that of the history does not: remove it with the member's other files */
@@ -59,26 +59,25 @@ struct resetd_work {
 struct resetd_judged {
   uint32_t due;        /* RESETD_TALK, .. */
   uint64_t epoch;      /* that is shown */
-  size_t start_length; /* what the file of the start has to hold has so many bytes; 0: it stays */
-  size_t line_length;  /* the line that the history gets before that has so many; 0: it gets none */
-  size_t history_size; /* where in the history the line goes, in the place of all that is behind it */
+  size_t start_length; /* the bytes of the required text of the file of the start; 0: unchanged */
+  size_t line_length;  /* the bytes of the line to add to the history before that; 0: none */
+  size_t history_size; /* the offset of the line in the history; it replaces everything after it */
 };
 
 /* The two files of a member, and in which order they are read, written and synced:
  *
- * - At the start of a process, before the first look, sync what is there: both files and their folder.
- *   The process before may have been killed in front of its sync; a power cut would then bring back
- *   what was there earlier, and a start could talk in two runs. Then read them, and pass the text of the
+ * - At the start of a process, before the first look, sync the files that exist: both files and their
+ *   folder. The previous process may have been killed before its own sync; a power cut would then bring
+ *   back an earlier text, and a start could talk in two runs. Then read them, and pass the text of the
  *   start through resetd_carried.
- * - The line of the history is on the disk (fdatasync; fsync and the folder, where the file is new)
- *   before the file of the start is written, and before the first message.
+ * - The line of the history is on the disk (fdatasync; fsync and the folder, if the file is new) before
+ *   the file of the start is written, and before the first message.
  * - The file of the start is written before the first message. It need not be synced: a power cut may
  *   leave an earlier text of it, or a part of one, which says that nothing is begun; then a reset is
- *   asked for. That of resetd_loaded counts in one boot alone, and needs no sync. Where the file has the
- *   text of resetd_begun, which counts in any boot (earlier versions wrote it, and synced it), sync the
- *   next one before the first message. Write a text over the old one in one call where both have 512
- *   bytes at most (with blanks in front of its line feed, if it is shorter), or put another file in its
- *   place.
+ *   asked for. The text of resetd_loaded is valid in one boot only, and needs no sync. If the file has
+ *   the text of resetd_begun, which is valid in any boot (earlier versions wrote it, and synced it), sync
+ *   the next one before the first message. Write a text over the old one in one call if both have at
+ *   most 512 bytes (padded with blanks before its line feed, if it is shorter), or replace the file.
  * - At RESETD_BEGIN the text "nothing begun" is synced before the work is dropped, unless the work is
  *   replaced as a whole, with its epoch, and its epoch is above all that the file ever said. */
 

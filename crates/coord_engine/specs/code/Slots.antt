@@ -1,4 +1,4 @@
--- How packets that wait stand in a map, each under its lane and kind.
+-- The waiting packets in a map, each under its lane and kind.
 use Rattle.std.specs.Prelude.{◌≡◌, List, [], ◌∷◌, Bool, true, false, ◌&&◌, ◌==◌}
 use Rattle.std.proofs.Math.Bool.{beq}
 use Rattle.coord_types.specs.declared.packets.Packet.{Packet}

@@ -50,7 +50,7 @@ pub fn steps_from(trail: &[Step], start: usize) -> &[Step]
     &trail[start..]
 }
 
-/// What is left of a ledger whose store is at home. It takes no memory.
+/// The parts of a ledger whose store is at home. It allocates nothing.
 fn left_of<D: Disk>(ledger: Ledger<D>) -> Closed<D>
     requires home { is_none ledger.disk ≡ false }
     ensures store { (ledger.disk ≡ Some result.store.disk) ×
@@ -88,10 +88,10 @@ impl<D: Disk, L: Origin> Guarded<D, L> {
         all_noted(shares, others, steps, kinds)
     }
 
-    /// Takes the ledger apart, where no flight is out, all shares are there, what callers have seen is
-    /// settled, and what the shares noted is what was accepted since the start, with the kinds of the
-    /// replies. It returns what writes the history too, which has written the settled steps. It takes
-    /// no memory.
+    /// Takes the ledger apart, if no flight is out, all shares are there, everything that callers
+    /// have seen is settled, and the shares noted exactly the steps accepted since the start, with
+    /// the kinds of the replies. It returns the authority of the history too, which has written the
+    /// settled steps. It allocates nothing.
     pub fn close(
         self,
         shares: Vec<Share<L>>,

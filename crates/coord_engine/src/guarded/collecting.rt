@@ -1,4 +1,4 @@
-//! What is said to tickets, and what readers read under the lock.
+//! Answers to tickets, and the reading of the history under the lock.
 
 ghost use Rattle.std.specs.Prelude.{◌≡◌};
 ghost use Rattle.coord_engine.specs.Calls.{CollectsAs};
@@ -30,7 +30,8 @@ impl<D: Disk, L: Origin> Guarded<D, L> {
         }
     }
 
-    /// Has a reader read on, so that it has read all settled steps. They begin with what it had read.
+    /// Makes a token read on, so that it has read all settled steps. They begin with its earlier
+    /// ones.
     pub fn read_on(&mut self, history: &MonotoneLog, reader: &mut LogPrefix)
         requires here { history.now ≡ L.history }
         requires own { reader.old.history ≡ L.history }

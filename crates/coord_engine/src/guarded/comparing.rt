@@ -51,7 +51,7 @@ fn has(notes: &[Note], note: &Note) -> bool
     }
 }
 
-/// Whether the note stands in some share.
+/// Whether some share has the note.
 fn some_has<L: Count>(shares: &[Share<L>], note: &Note) -> bool
     requires { All IsAscending shares.now }
     ensures { IsTrue result ↔ Contains (all_notes shares.now) note.now }

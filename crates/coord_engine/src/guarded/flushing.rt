@@ -18,7 +18,7 @@ use coord_types::{Refusal, Step};
 use std::alloc::AllocError;
 use std::marker::PhantomData;
 
-/// The first of these steps, so many.
+/// The first steps of these, this many.
 fn first_steps(steps: &[Step], count: usize) -> &[Step]
     requires { count ≤ length steps.now }
     ensures { result.now ≡ take count steps.now }
@@ -78,8 +78,9 @@ impl<D: Disk, L: Origin> Guarded<D, L> {
         }
     }
 
-    /// Takes the flight that is out back, as the ledger does. What it releases has read the settled
-    /// steps, its own among them. Whoever waits has to be woken: for a reply, or since the ledger has stopped.
+    /// Takes the flight that is out back, like the ledger. The token of its releases has read the
+    /// settled steps, its own among them. Waiting threads must be woken: for a reply, or since the
+    /// ledger has stopped.
     pub fn end(
         &mut self,
         history: &MonotoneLog,

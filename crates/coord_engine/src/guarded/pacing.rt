@@ -44,14 +44,14 @@ fn next_steps(steps: &[Step]) -> &[Step]
 }
 
 impl<D: Disk, L: Origin> Guarded<D, L> {
-    /// Counts so many packets more as handed over.
+    /// Counts this many more packets as handed over.
     pub fn raise_in_hand(&mut self, count: u64)
         ensures { self.new ≡ with_in_hand self.old (min (self.old.in_hand + count) (2 ^ 64 - 1)) }
     {
         self.in_hand = self.in_hand.saturating_add(count);
     }
 
-    /// Counts so many packets as in no hand any more.
+    /// Counts this many packets as put down.
     pub fn lower_in_hand(&mut self, count: u64)
         ensures { self.new ≡ with_in_hand self.old (self.old.in_hand - count) }
     {
@@ -132,7 +132,7 @@ impl<D: Disk, L: Origin> Guarded<D, L> {
         self.is_gathered() || self.pending() >= MAX_BATCH_STEPS || self.finishing
     }
 
-    /// Whether a flusher that waits is to be woken, where nothing could be flushed before or something.
+    /// Whether a waiting flusher must be woken, if something or nothing could be flushed before.
     pub fn wakes_flusher(&self, was_idle: bool) -> bool
         ensures { result ≡ wakes_flusher was_idle self.now }
     {

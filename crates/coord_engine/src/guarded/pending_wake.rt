@@ -1,4 +1,4 @@
-//! What is owed to the threads that wait on an engine.
+//! The wake-up that is owed to the threads that wait on an engine.
 
 use std::sync::Condvar;
 

@@ -10,11 +10,11 @@ use Rattle.coord_world.specs.Facade.{World, is_lane, lane_at, next, on_lane, pre
 use Rattle.coord_tables.proofs.Cases.{by_test}
 use Rattle.coord_world.proofs.lists.GetAfter.{lane_done, lane_on, lane_left, lane_made, each_changed, each_left, each_made}
 
--- what holds of every lane, with its ends
+-- a predicate on every lane, with its ends
 abbrev pub AllLanes : (ℕ → ℕ → Lane → Type 0) → World → Type 0
 AllLanes P w = (x y : ℕ) (l : Lane) → lane_at w.links x y ≡ Some l → P x y l
 
--- where P holds of a lane before a step that sends such messages, Q holds of what the step makes of the lane
+-- if P holds for a lane before a step that sends such messages, Q holds for the lane after it
 pub record LaneCarries (M : List Msg → Type 0) (P Q : ℕ → ℕ → Lane → Type 0) : Type 0 where
   pub weaken : (x y : ℕ) (l : Lane) → P x y l → Q x y l
   pub take : (x y : ℕ) (l : Lane) → P x y l → Q x y (took l)

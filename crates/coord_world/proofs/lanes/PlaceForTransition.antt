@@ -1,4 +1,4 @@
--- Room in the queues: where a transition of a fresh step sends, a place is free.
+-- Room in the queues: each lane on which a transition of a fresh step sends has a free place.
 use Rattle.std.proofs.Common.{◌≡◌, ℕ, ◌+◌, ◌<◌, ◌≤◌, true, List, [], ◌∷◌, ◌++◌, Option, Some, cond, eqb, length, refl, ◌∙◌, ap, arith}
 use Rattle.std.proofs.lemmas.Bool.Decides.{nat_tests}
 use Rattle.std.proofs.lemmas.List.{length-append}
@@ -52,7 +52,7 @@ all_do-append : (w : World) (ds es : List (ℕ × Transition)) → with_transiti
 all_do-append w [] es = refl
 all_do-append w (d ∷ ds) es = all_do-append (with_transition w d.0 d.1) ds es
 
--- a step's transitions are what it does to the lanes that are prepared
+-- a step's transitions act on the prepared lanes
 lanes_done : (w : World) (s : Step) → (next w s).links ≡ (with_transitions (prepared w s) (transitions w.version (state w) s)).links
 lanes_done w s = grind (arith, nat_tests)
 

@@ -1,4 +1,4 @@
--- What is on the way on one lane, as the lane changes and as messages join it.
+-- The messages in transit on one lane, as the lane changes and as messages join it.
 use Rattle.std.proofs.Common.{◌≡◌, ◌≢◌, ◌+◌, Bool, true, false, ◌&&◌, ◌||◌, not, List, [], ◌∷◌, ◌++◌, refl, ap, ◌⊎◌, inl, inr, arith, ◌==◌, ℕ, ◌≤◌}
 use Rattle.std.proofs.lemmas.Bool.Decides.{nat_tests}
 use Rattle.coord_types.specs.Messages.{behind_front, is_nil}
@@ -65,7 +65,7 @@ transit-cleared l taken = grind (arith, nat_tests)
 
 -- ---- a message joins
 
--- how many of a kind stand in two lists together
+-- the number of messages of a kind in two lists together
 pub aborts-append : (xs ys : List Msg) → aborts (xs ++ ys) ≡ aborts xs + aborts ys
 aborts-append [] ys = omega arith
 aborts-append (Abort k ∷ xs) ys = omega (arith, aborts-append xs ys)

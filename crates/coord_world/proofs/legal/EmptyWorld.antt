@@ -1,4 +1,4 @@
--- The world before any step is legal and in its ranges: what stands where no node can be is Ready.
+-- The world before any step is legal and in its ranges: at numbers that no node can have, the default is Ready.
 use Rattle.std.proofs.Common.{◌≡◌, ℕ, ◌<◌, Option, Some, None, refl, ap, arith, ◌≤◌, false, sym, ◌∙◌, is_some}
 use Rattle.std.specs.Cmp.{nat_cmp_total}
 use Rattle.std.specs.Option.{option_map}
@@ -11,7 +11,7 @@ use Rattle.coord_types.proofs.Tables.{get-empty, len-empty}
 use Rattle.coord_tables.specs.Links.{Lanes, ends, lane_at, toward}
 use Rattle.coord_tables.proofs.LinkLanes.{turned-empty}
 
--- ---- where no node can be
+-- ---- at numbers that no node can have
 
 module _ (w : World) (range : InRange w) (v : ℕ) where
   of_option : (o : Option NodeState) → get w.nodes v ≡ o → ((r : NodeState) → o ≡ Some r → ⊥) → (state w v).mode ≡ Ready

@@ -37,7 +37,7 @@ module _ (w : Ideal) (a b : ℕ) (apart : a ≢ b) (free : w.linked a b ≡ fals
   same_end : (x y : ℕ) → end_of w.version ((linked_up w a b).state x) y ≡ end_of w.version (w.state x) y
   same_end x y = grind (arith, nat_tests)
 
-  -- a node neither awaits one that it is not linked to, nor has it as its parent
+  -- the awaited nodes and the parent of a node are linked to it
   strangers : (x y : ℕ) → w.linked x y ≡ false → (contains (w.state x).pend y ≡ false) × (is_parent (w.state x).parent y ≡ false)
   strangers x y h1 = grind (arith, nat_tests, h1)
 
@@ -97,7 +97,7 @@ parent_stays : (p : Option ℕ) (b : ℕ) → is_parent p b ≡ false → withou
 parent_stays p b h1 = grind (arith, nat_tests, h1)
 
 module _ (version : ℕ) (r : NodeState) (b : ℕ) (node : SoundNode r) where
-  -- the state without the link, and what it keeps
+  -- the state without the link, and its invariant
   abbrev s : NodeState
   s = cut_from r b
 
@@ -174,7 +174,7 @@ module _ (w : Ideal) (a b : ℕ) (with_b : w.linked a b ≡ true) (sound : Sound
   first : Keeps w.version (w.state a) b da
   first = loses w.version (w.state a) b (sound.nodes a)
 
-  -- the second node keeps what is legal as it loses its neighbour
+  -- the second node keeps legality as it loses its neighbour
   second : Keeps w.version (w.state b) a db
   second = loses w.version (w.state b) a (sound.nodes b)
 

@@ -1,4 +1,4 @@
--- Each rule keeps a world sound: a state that changes by itself, a message that is taken, a reset that is asked for.
+-- Each rule keeps a world sound: a state that changes alone, a message that is taken, a reset that is requested.
 use Rattle.std.proofs.Common.{◌≡◌, ℕ, true, ◌++◌, refl, sym, subst, arith, ◌≢◌, List, ◌∷◌, ◌∙◌, inl, inr, false, Option, Some, None, ap, eqb}
 use Rattle.std.proofs.lemmas.Bool.Decides.{nat_tests}
 use Rattle.std.proofs.lemmas.List.{append-nil}
@@ -17,7 +17,7 @@ use Rattle.coord_world.proofs.transitions.RuleCases.{abort_cases, ack_cases, ack
 use Rattle.coord_types.specs.NodeSet as set
 use Rattle.coord_types.specs.declared.messages.Msg.TheVariants as msg
 
--- ---- a node's state that changes by itself keeps a world sound
+-- ---- a change of a node's state alone keeps a world sound
 
 -- a node's law looks at four fields
 pub same_node : (r s : NodeState) → r.mode ≡ s.mode → r.parent ≡ s.parent → r.pend ≡ s.pend → r.neighbours ≡ s.neighbours → SoundNode r → SoundNode s
@@ -31,7 +31,7 @@ module _ (w : Ideal) (u : ℕ) (r : NodeState) (sound : Sound w) where
       same : (x y : ℕ) → w.in_transit x y ≡ (ideal_applied w u (idle r)).in_transit x y
       same x y = grind (arith, nat_tests, contains-empty y, append-nil (w.in_transit x y))
 
-  -- a changed state keeps a world sound where the neighbours and the ends of the links stay
+  -- a changed state keeps a world sound if the neighbours and the ends of the links stay
   pub row_kept : r.neighbours ≡ (w.state u).neighbours → SoundNode r → ((y : ℕ) → w.linked u y ≡ true → end_of w.version r y ≡ end_of w.version (w.state u) y) → Sound (set_state w u r)
   row_kept neighbours node ends = subst Sound (sym set_acts) (transition_kept w u (idle r) (but_of w u sound)
       (λ y with_y. subst LegalBoth (λ i. record { here = sym (ends y with_y) i; there = end_of w.version (w.state y) u; out = sym (nothing y) i; back = w.in_transit y u }) ((links_of w sound).links u y with_y))
@@ -40,7 +40,7 @@ module _ (w : Ideal) (u : ℕ) (r : NodeState) (sound : Sound w) where
       nothing : (y : ℕ) → w.in_transit u y ++ added (idle r) y ≡ w.in_transit u y
       nothing y = grind (arith, contains-empty y, append-nil (w.in_transit u y))
 
--- a node as it is added
+-- a new node
 pub new_legal : (g : ℕ) → SoundNode (new_node g)
 new_legal g = record {
   awaits = λ e. cc;
@@ -57,12 +57,12 @@ module _ (w : Ideal) (u : ℕ) (sound : Sound w) where
   pub confirm_kept : (e : ℕ) → Sound (set_state w u (record (w.state u) { confirmed = e }))
   confirm_kept e = grind (arith, nat_tests)
 
-  -- a node without neighbours begins anew
+  -- a node without neighbours begins again
   pub new_kept : (g : ℕ) → is_empty (w.state u).neighbours ≡ true → Sound (set_state w u (new_node g))
   new_kept g alone = row_kept w u (new_node g) sound (sym (empty_of_len (w.state u).neighbours (grind (arith, nat_tests)))) (new_legal g)
       (λ y with_y. absurd (grind (arith, sound.linked u y, empty_has (w.state u).neighbours y alone)))
 
--- ---- a transition at the node that takes a message keeps the world sound, where it keeps the node's links legal
+-- ---- a transition at the node that takes a message keeps the world sound, if it keeps the node's links legal
 
 -- u takes the front message from v, and does a transition
 abbrev pub after_take : Ideal → ℕ → ℕ → Transition → Ideal

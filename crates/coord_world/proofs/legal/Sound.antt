@@ -11,9 +11,9 @@ use Rattle.coord_types.specs.NodeSet as set
 
 -- ---- nodes
 
--- N by itself: what the rules keep of a node
+-- N alone: the invariant of a node under the rules
 pub record SoundNode (r : NodeState) : Type 0 where
-  -- a node is Abort exactly where it awaits somebody
+  -- a node is Abort exactly if it awaits somebody
   pub awaits : is_abort r.mode ≡ true → is_empty r.pend ≡ false
   pub quiet : is_abort r.mode ≡ false → is_empty r.pend ≡ true
   -- a Ready node has no parent, and a Converge node has one
@@ -25,7 +25,7 @@ pub record SoundNode (r : NodeState) : Type 0 where
   -- a node awaits neighbours alone
   pub within : (v : ℕ) → set.contains r.pend v ≡ true → set.contains r.neighbours v ≡ true
 
--- what is kept of a node's epochs and its distance, in a world of so many steps
+-- the invariant of a node's epochs and its distance, in a world of this many steps
 pub record EpochsFit (count : ℕ) (r : NodeState) : Type 0 where
   pub confirmed : r.confirmed ≤ r.epoch
   pub entered : r.epoch ≤ count

@@ -6,7 +6,7 @@ use Rattle.coord_world.specs.Facade.{InRange, Legal, World, link, state, state_o
 use Rattle.coord_world.proofs.legal.Sound.{sound_link, SoundNode, sound_node, Sound}
 use Rattle.coord_world.proofs.legal.RulesKept.{new_legal}
 
--- what holds of a new node and of each node that is there holds at every number
+-- a predicate on a new node and on each present node holds at every number
 pub at_each : (w : World) (P : NodeState → Type 0) → P (state_or_none None) → ((u : ℕ) (r : NodeState) → get w.nodes u ≡ Some r → P r) → (u : ℕ) → P (state w u)
 at_each w P none some u = of_option (get w.nodes u) refl
   where

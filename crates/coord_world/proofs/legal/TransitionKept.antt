@@ -1,4 +1,5 @@
--- A transition at one node of a world keeps it sound, where it keeps the node's own links legal: the others stay.
+-- A transition at one node of a world keeps it sound, if it keeps the node's own links legal: the others are
+-- unchanged.
 use Rattle.std.proofs.Common.{◌≡◌, ◌≢◌, ℕ, true, false, ◌++◌, refl, sym, ap, ◌∙◌, subst, arith}
 use Rattle.std.proofs.lemmas.Bool.Decides.{nat_tests}
 use Rattle.coord_types.specs.Facade.{Ideal, NodeState, contains}

@@ -1,4 +1,5 @@
--- Worlds of version 1 in their ranges: every distance is 0, so H holds, and N where the rest of it does; a quiet one stays legal as one of version 2.
+-- Worlds of version 1 in their ranges: every distance is 0, so H holds, and N if the rest of it does; a quiet one
+-- stays legal as one of version 2.
 use Rattle.std.proofs.Common.{◌≡◌, ℕ, ◌+◌, ◌≤◌, Bool, true, false, ◌&&◌, List, [], ◌∷◌, Option, Some, None, refl, sym, ap, ◌∙◌, subst, arith, is_some, length}
 use Rattle.std.specs.List.{list_all}
 use Rattle.std.proofs.lemmas.Bool.Decides.{nat_tests}
@@ -78,7 +79,7 @@ module _ (w : World) (range : InRange w) (first : w.version ≡ 1) where
       let strays_none = no_strays_on_way (lane_at w.links u v) (λ l is. range.carried u v l is) in
       grind (arith, nat_tests, strays_none, carries_none u, at_none v)
 
-  -- a node with a neighbour stands in a world of some steps
+  -- a world with a neighbour of a node has some steps
   some_steps : (u v : ℕ) → set.contains (state w u).neighbours v ≡ true → 1 ≤ w.count
   some_steps u v near = of_option (lane_at w.links u v) refl (range.linked u v ∙ near)
     where

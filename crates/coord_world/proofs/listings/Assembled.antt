@@ -32,7 +32,7 @@ module _ (rows : Rows) (fit : RowsFit rows) where
   pub clients_sorted : is_sorted nat_cmp (map client_entry rows.clients) ≡ true
   clients_sorted = sorted-keys nat_cmp client_entry (λ r. (r.client, r)) (λ _. refl) rows.clients ∙ fit.clients_rise
 
-  -- what is listed
+  -- the listed rows
   abbrev row_at : ℕ → Option NodeRow
   row_at u = find nat_cmp u (by_id rows.nodes)
 
@@ -65,14 +65,14 @@ module _ (rows : Rows) (fit : RowsFit rows) where
   link_fits : (q : ℕ × ℕ) (r : LinkRow) → link_row_at q ≡ Some r → LinkRowFits rows.count rows.nodes r × (q ≡ (r.a, r.b))
   link_fits q r there = found pair_cmp (λ r. (r.a, r.b)) same_pair (LinkRowFits rows.count rows.nodes) q rows.links r fit.links there
 
-  -- what holds of the lanes of each row holds of each lane
+  -- a predicate on the lanes of each row holds for each lane
   lane_of_row : (P : Lane → Type 0) → ((q : ℕ × ℕ) (r : LinkRow) → link_row_at q ≡ Some r → P r.forth × P r.back) → (x y : ℕ) (l : Lane) → lane_at (assembled rows).links x y ≡ Some l → P l
   lane_of_row P each x y l is = each_lane P (assembled rows).links (λ k z there. each_value lanes_in (λ z. P z.forth × P z.back) (link_row_at k) (each k) z (sym (get-link k) ∙ there)) x y l is
 
   client_fits : (c : ℕ) (s : ClientRow) → find nat_cmp c (by_client rows.clients) ≡ Some s → SessionInRange rows.count s.client s.session × (c ≡ s.client)
   client_fits c s there = found nat_cmp (λ r. r.client) same_number (λ r. SessionInRange rows.count r.client r.session) c rows.clients s fit.clients there
 
-  -- what holds of the node of each row holds of each node
+  -- a predicate on the node of each row holds for each node
   each_node : (P : NodeState → Type 0) → P (state_or_none None) → ((s : NodeRow) → NodeRowFits rows.count s → P (state_of rows.links s)) → (u : ℕ) → P (state (assembled rows) u)
   each_node P none some = at_each (assembled rows) P none (λ u r is. each_value (state_of rows.links) P (row_at u) (λ s there. some s (node_fits u s there).0) r (sym (get-node u) ∙ is))
 

@@ -18,7 +18,7 @@ use Rattle.coord_tables.specs.Links.{ends}
 use Rattle.coord_tables.proofs.LinkLanes.{same_ends}
 use Rattle.coord_types.specs.NodeSet as set
 
--- ---- how many links stand in order at a node that has so many neighbours
+-- ---- the number of links in order at a node with this many neighbours
 
 -- a link stands with its lesser end first
 abbrev pub IsTurned : LinkRow → Type 0

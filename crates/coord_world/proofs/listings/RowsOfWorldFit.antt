@@ -124,7 +124,7 @@ module _ (w : World) (range : InRange w) where
   clients_fit = all_mapped client_row (λ r. SessionInRange w.count r.client r.session) (entries w.sessions)
       (each_entry nat_cmp_total same_number (λ e. SessionInRange w.count e.0 e.1) (entries w.sessions) (is_true _ w.sessions.sorted) (λ c s found. range.sessions c s (get-entries w.sessions c ∙ found)))
 
-  -- what holds of the row of each link holds of all rows
+  -- a predicate on the row of each link holds for all rows
   each_link : (P : LinkRow → Type 0) → ((a b : ℕ) (l : Lanes) → get w.links (a, b) ≡ Some l → P (link_row ((a, b), l))) → AllByRecursion P (link_rows w.links)
   each_link P each = all_mapped link_row P (entries w.links) (each_entry pair_cmp_total same_pair (λ e. P (link_row e)) (entries w.links) (is_true _ w.links.sorted) (λ q l found. each q.0 q.1 l (get-entries w.links q ∙ found)))
 
@@ -201,7 +201,7 @@ rows_of_world_fit w range = record {
   clients = clients_fit w range;
 }
 
--- few Aborts stand in the queues of a legal world's rows
+-- the queues of a legal world's rows have few Aborts
 pub rows_have_few_aborts : RowsHaveFewAborts
 rows_have_few_aborts w range legal = each_link w range HasFewAborts (λ a b l there.
     let lanes = both_lanes w range a b l there in

@@ -1,4 +1,4 @@
--- What is found in a world's tables after each change of the world.
+-- Look-ups in a world's tables after each change of the world.
 use Rattle.std.proofs.Common.{arith, ◌≡◌, ℕ, ◌+◌, Bool, true, false, Option, Some, None, refl, subst, cond, eqb}
 use Rattle.std.proofs.lemmas.Bool.Decides.{nat_tests}
 use Rattle.coord_types.proofs.Tables.{option_map}
@@ -26,7 +26,7 @@ module _ (w : World) where
   lane_made a b x y = lane-joined w.links a b (new_lane (w.count + 1)) x y
 
 module _ {X : Type 0} (o : Option X) where
-  -- what is found among changed ones was changed
+  -- an entry found among changed ones was changed
   pub each_changed : (f : X → X) (P : X → Type 0) → ((x : X) → o ≡ Some x → P (f x)) → (y : X) → option_map f o ≡ Some y → P y
   each_changed f P changed y e = of_option o refl e
     where
@@ -34,11 +34,11 @@ module _ {X : Type 0} (o : Option X) where
       of_option None is h = cc
       of_option (Some x) is h = let same : f x ≡ y = cc in subst P same (changed x is)
 
-  -- what is found where one is gone was there
+  -- an entry found after a removal was there before
   pub each_left : (b : Bool) (y : X) → cond b None o ≡ Some y → o ≡ Some y
   each_left b y h1 = grind (arith, nat_tests, h1)
 
-  -- what is found where one was put is that one, or was there
+  -- an entry found after an insertion is the new one, or was there before
   pub each_made : (b : Bool) (new : X) (P : X → Type 0) → (b ≡ true → P new) → (b ≡ false → (x : X) → o ≡ Some x → P x) → (y : X) → cond b (Some new) o ≡ Some y → P y
   each_made true new P here there y e = let same : new ≡ y = cc in subst P same (here refl)
   each_made false new P here there y e = there refl y e

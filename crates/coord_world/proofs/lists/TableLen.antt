@@ -7,12 +7,12 @@ use Rattle.coord_types.specs.NodeSet.{NodeSet}
 use Rattle.coord_types.specs.Table.{Table, change, changed_by, get, has, insert, len, remove}
 
 module _ {K X : Type 0} {R : K → K → Ordering} {o : IsTotalOrder R} where
-  -- one more where the key is new
+  -- one more if the key is new
   pub len-insert : (m : Table o X) (k : K) (x : X) → len (insert m k x) ≡ cond (has m k) (len m) (len m + 1)
   unfolding len insert get
   len-insert m k x = length-put R o k x m.list m.sorted
 
-  -- one fewer where the key was there
+  -- one fewer if the key was there
   pub len-remove : (m : Table o X) (k : K) → cond (has m k) 1 0 + len (remove m k) ≡ len m
   unfolding len remove get
   len-remove m k = length_without R o k m.list m.sorted
@@ -32,7 +32,7 @@ pub len-remove_le : (s : NodeSet) (k : ℕ) → set.len (set.remove s k) ≤ set
 unfolding set.len set.remove
 len-remove_le s k = omega (arith, len-remove s k)
 
--- a set without a node has one fewer where the node was there
+-- a set without a node has one fewer if the node was there
 pub len-remove_one : (s : NodeSet) (k : ℕ) → set.contains s k ≡ true → set.len (set.remove s k) + 1 ≡ set.len s
 unfolding set.len set.remove set.contains
 len-remove_one s k there = omega (arith, len-remove s k, ap (λ t. cond t 1 0 + len (remove s k)) there)

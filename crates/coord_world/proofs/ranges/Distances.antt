@@ -82,7 +82,7 @@ within_behind : (n : ℕ) (xs : List Msg) → CarryWithin n xs → CarryWithin n
 within_behind n [] within = tt
 within_behind n (m ∷ xs) within = within.1
 
--- each change of a lane keeps what it carries within the ranges
+-- each change of a lane keeps its messages within the ranges
 carries_carried : (version count : ℕ) → LaneCarries (CarryWithin (farthest version (count + 1))) (λ x y l. CarryWithin (farthest version count) l.queue) (λ x y l. CarryWithin (farthest version (count + 1)) l.queue)
 carries_carried version count = record {
   weaken = λ x y l within. within_more _ _ l.queue (farthest_grows version count) within;

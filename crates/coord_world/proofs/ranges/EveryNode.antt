@@ -24,14 +24,14 @@ carried_by (Order c n x) = 0
 carried_by (Take p) = carried p.msg
 carried_by (Clear p) = 0
 
--- where P holds of a node before a step that carries this distance to it, Q holds of what the step makes of the node
+-- if P holds for a node before a step that carries this distance to it, Q holds for the node after it
 pub record Carries (n : ℕ) (P Q : ℕ → NodeState → Type 0) : Type 0 where
   pub weaken : (x : ℕ) (r : NodeState) → P x r → Q x r
   pub goes : (x : ℕ) (r s : NodeState) (near : NodeSet) → P x r → set.len near ≤ set.len r.neighbours → Goes r near n s → Q x s
   pub confirm : (x : ℕ) (r : NodeState) (e : ℕ) → P x r → e ≤ r.epoch → Q x (record r { confirmed = e })
   pub widen : (x : ℕ) (r : NodeState) (v : ℕ) → P x r → set.len r.neighbours ≤ 15 → Q x (with_neighbour r v)
 
--- what holds of every node, with its number
+-- a predicate on every node, with its number
 abbrev pub AllRows : (ℕ → NodeState → Type 0) → Table nat_cmp_total NodeState → Type 0
 AllRows P rows = (x : ℕ) (r : NodeState) → get rows x ≡ Some r → P x r
 

@@ -25,7 +25,7 @@ use Rattle.coord_world.proofs.lists.TableLen.{len-change, len-insert, len-remove
 use Rattle.coord_world.proofs.legal.Sound.{Sound}
 use Rattle.coord_world.proofs.legal.SoundView.{sound_view}
 
--- where the lanes are as the nodes name them, each has a node to go from
+-- if the lanes are those that the nodes name, each has a source node
 pub ends_known : (w : World) → Sound (view w) → (u v : ℕ) → is_linked w u v ≡ true → has w.nodes u ≡ true
 ends_known w sound u v linked = of_option (get w.nodes u) (sym (sound.linked u v) ∙ linked)
   where
@@ -49,7 +49,7 @@ len-all_do : (w : World) (ds : List (ℕ × Transition)) → len (with_transitio
 len-all_do w [] = refl
 len-all_do w (d ∷ ds) = len-all_do (with_transition w d.0 d.1) ds ∙ len-change _ w.links
 
--- a step makes one link at most, where there are fewer than 128
+-- a step makes at most one link, and only if there are fewer than 128
 pub links_next : (w settled : World) (s : Step) → InRange w → IsFresh w settled s → len (next w s).links ≤ 128
 links_next w settled (Order c n (Add u g)) range fresh = range.links
 links_next w settled (Order c n (Remove u)) range fresh = range.links

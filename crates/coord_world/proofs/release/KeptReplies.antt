@@ -13,7 +13,7 @@ use Rattle.coord_tables.proofs.Cases.{same_or_apart}
 use Rattle.coord_tables.proofs.Found.{get-set}
 use Rattle.coord_world.proofs.ranges.InRange.{sessions_noted}
 
--- what is kept for client c after these steps
+-- the kept reply of client c after these steps
 abbrev Keeps : World → List Step → ℕ → Type 0
 Keeps base trail c =
     ((o : Session) × ((get (fold base trail).sessions c ≡ Some o) × IsLastOrder base trail c o))
@@ -23,14 +23,14 @@ Keeps base trail c =
 later : (base : World) (s : Step) (ss : List Step) (c : ℕ) (o : Session) → IsLastOrder (next base s) ss c o → IsLastOrder base (s ∷ ss) c o
 later base s ss c o last = record { before = s ∷ last.before; rest = last.rest; order = ap (λ l. s ∷ l) last.order; last = last.last; given = last.given; replied = last.replied; step = let old = last.step in omega (arith, old) }
 
--- a step that isn't the client's leaves what is kept
+-- a step that isn't the client's leaves its kept reply
 leaves : (base : World) (s : Step) (ss : List Step) (c : ℕ) → IsNotBy c s → get (next base s).sessions c ≡ get base.sessions c → Keeps (next base s) ss c → Keeps base (s ∷ ss) c
 leaves base s ss c apart same keeps = elim keeps [
   | inl by ↦ inl (by.0, (by.1.0, later base s ss c by.0 by.1.1))
   | inr none ↦ inr (none.0 ∙ same, All-cons (IsNotBy c) s ss apart none.1)
 ]
 
--- an order of the client is the last one, where no later one is
+-- an order of the client is the last one, if there is no later one
 replaces : (base : World) (d n : ℕ) (x : Command) (ss : List Step) (c : ℕ) → d ≡ c → get (next base (Order d n x)).sessions c ≡ Some (record { number = n; command = x; reply = reply base (Order d n x) }) →
     Keeps (next base (Order d n x)) ss c → Keeps base (Order d n x ∷ ss) c
 replaces base d n x ss c own kept keeps = elim keeps [

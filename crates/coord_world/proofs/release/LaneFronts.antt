@@ -26,7 +26,7 @@ pub data LaneStep (w : World) (s : Step) (x y : ℕ) (after : Option Lane) : Typ
   is_taken : (l : Lane) (ms : List Msg) (p : DataPacket) → s ≡ Take p → (p.from ≡ x) × (p.to ≡ y) → lane_at w.links x y ≡ Some l → after ≡ Some (sent ms (took l)) → LaneStep w s x y after
   is_cleared : (l : Lane) (p : ReceiptPacket) → s ≡ Clear p → (p.from ≡ x) × (p.to ≡ y) → lane_at w.links x y ≡ Some l → after ≡ Some (cleared l) → LaneStep w s x y after
 
--- where nothing is sent, the lane stays
+-- if nothing is sent, the lane stays
 pub sent_none : (l : Lane) → l ≡ sent [] l
 sent_none l = let same = sym (append-nil l.queue) in λ i. record l { queue = same i }
 
@@ -58,7 +58,7 @@ transitions_send (d ∷ ds) w x y =
     )
 
 module _ (w : World) (s : Step) (x y : ℕ) where
-  -- a lane that stays, but for what is sent on it
+  -- a lane that stays, except for new messages
   stays : (o after : Option Lane) → lane_at w.links x y ≡ o → Sends o after → LaneStep w s x y after
   stays None after is sends = LaneStep.is_none sends.1
   stays (Some l) after is sends = LaneStep.is_kept l sends.0 is sends.1
@@ -140,7 +140,7 @@ pub record IsPast (w : World) (x y i n : ℕ) : Type 0 where
 pub front_not_past : {A : Type 0} (w : World) (x y inc number : ℕ) → IsNumbered w x y inc number → IsPast w x y inc number → A
 front_not_past w x y inc number at gone = absurd (let less = gone.past at.lane at.there at.inc in omega (arith, at.number, less))
 
--- one lane stands at a pair of ends
+-- a pair of ends has one lane
 pub one_lane : (o : Option Lane) (k l : Lane) → o ≡ Some k → o ≡ Some l → k ≡ l
 one_lane o k l is also = cc
 
@@ -166,17 +166,17 @@ module _ (w : World) (s : Step) (sound : IsSound w) where
   inc_within_count : (x y inc number : ℕ) → IsNumbered w x y inc number → inc ≤ w.count
   inc_within_count x y inc number at = rw (sym at.inc) (sound.in_range.lanes x y at.lane at.there).inc
 
-  -- where a step removes the lane, its front's number is past
+  -- if a step removes the lane, its front's number is past
   past_none : (x y inc number : ℕ) → IsNumbered w x y inc number → lane_at (next w s).links x y ≡ None → IsPast (next w s) x y inc number
   past_none x y inc number at none = record { made = let old = inc_within_count x y inc number at in omega arith; past = λ l there is. cc }
 
-  -- where a step makes the lane anew, its front's number is past
+  -- if a step makes the lane again, its front's number is past
   past_made : (x y inc number : ℕ) → IsNumbered w x y inc number → lane_at (next w s).links x y ≡ Some (new_lane (w.count + 1)) → IsPast (next w s) x y inc number
   past_made x y inc number at made =
       let old = inc_within_count x y inc number at in
       record { made = omega arith; past = λ l there is. let same = one_lane _ (new_lane (w.count + 1)) l made there in absurd (let count = ap (λ k. k.inc) same in omega arith) }
 
-  -- where a step clears the front, its number is past
+  -- if a step clears the front, its number is past
   past_cleared : (x y inc number : ℕ) (at : IsNumbered w x y inc number) → lane_at (next w s).links x y ≡ Some (cleared at.lane) → IsPast (next w s) x y inc number
   past_cleared x y inc number at e =
       let old = inc_within_count x y inc number at in

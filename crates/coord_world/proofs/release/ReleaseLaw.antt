@@ -1,4 +1,4 @@
--- The release law and the resend law: what is released, over all settled steps.
+-- The release law and the resend law: the releases of all settled steps.
 use Rattle.std.proofs.Common.{◌≡◌, ◌⊎◌, ◌≤◌, true, false, List, [], ◌∷◌, Option, Some, None, take, drop, leb, refl, sym, ap, ◌∙◌, inl, inr, Contains, arith}
 use Rattle.std.proofs.lemmas.Bool.Decides.{nat_tests}
 use Rattle.std.proofs.lemmas.List.Elements.{All-contains_itself, All-weaker, Contains-append_cases, Contains-append_left, Contains-append_right}
@@ -23,7 +23,7 @@ use Rattle.coord_world.proofs.release.LaneFronts.{IsNumbered, IsFront, IsPast, I
 use Rattle.coord_world.proofs.release.Trails.{EachFresh, fold-take_drop, each_fresh-drop, each_fresh-take, sound_fold, sound_next, trail_each_fresh}
 use Rattle.coord_world.proofs.lanes.Transit.{counts_cases}
 
--- a front at the end was given out by the steps, or was one before them
+-- a front at the end was sent by the steps, or was one before them
 pub front_of_steps : (ss : List Step) (w : World) (p : DataPacket) → IsSound w → EachFresh w ss → IsFront (fold w ss) p → Contains (outputs_of w ss) (Sent p) ⊎ IsFront w p
 front_of_steps [] w p sound each front = inr front
 front_of_steps (s ∷ ss) w p sound each front = elim (front_of_steps ss (next w s) p (sound_next w s sound each.0) each.1 front) [
@@ -34,7 +34,7 @@ front_of_steps (s ∷ ss) w p sound each front = elim (front_of_steps ss (next w
   ]
 ]
 
--- the receipt of a front that was taken was given out by the steps, or was one before them
+-- the receipt of a taken front was sent by the steps, or was one before them
 pub receipt_of_steps : (ss : List Step) (w : World) (p : ReceiptPacket) → IsSound w → EachFresh w ss → IsFrontReceipt (fold w ss) p → Contains (outputs_of w ss) (Receipted p) ⊎ IsFrontReceipt w p
 receipt_of_steps [] w p sound each receipt = inr receipt
 receipt_of_steps (s ∷ ss) w p sound each receipt = elim (receipt_of_steps ss (next w s) p (sound_next w s sound each.0) each.1 receipt) [
@@ -141,7 +141,7 @@ module _ (settled : World) (ss : List Step) (sound : IsSound settled) (each : Ea
     pub receipt_has_receipted : IsFrontReceipt settled p → has_receipted (lane settled p.from p.to p.inc) p.number ≡ true
     receipt_has_receipted receipt = ap (λ o. has_receipted o p.number) (lane_numbered settled p.from p.to p.inc p.number receipt.at) ∙ grind (arith, nat_tests, receipt.at.number, receipt.got)
 
--- where the front world is the settled one after more steps, the settled one tells what is released
+-- if the front world is the settled one after more steps, the settled one determines the releases
 settled_says : (base : World) (first others : List Step) → IsSound base → EachFresh base first → EachFresh (fold base first) others → HoldsReleased (fold (fold base first) others) (fold base first) (IsReleased base first)
 settled_says base first others sound each on = record {
   packets = λ p is.

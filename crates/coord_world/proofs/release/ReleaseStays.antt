@@ -1,4 +1,4 @@
--- What is released stays so, whichever world of the trail is the base.
+-- A release stays, whichever world of the trail is the base.
 use Rattle.std.proofs.Common.{◌≡◌, ◌≢◌, ◌↔◌, ℕ, zero, suc, ◌≤◌, true, not, List, [], ◌∷◌, ◌++◌, Option, Some, None, Ok, Err, take, drop, refl, sym, ap, inl, inr, arith, ◌+◌, subst, Contains}
 use Rattle.std.proofs.lemmas.Bool.Decides.{nat_tests}
 use Rattle.std.proofs.lemmas.List.Elements.{Contains-append_cases, Contains-append_left, Contains-append_right}
@@ -63,7 +63,7 @@ take-take (suc d) zero ss le = absurd (omega (arith, le))
 take-take (suc d) (suc e) [] le = refl
 take-take (suc d) (suc e) (s ∷ ss) le = ap (λ l. s ∷ l) (take-take d e ss (omega (arith, le)))
 
--- the verdict stays where the release does
+-- the verdict stays if the release does
 verdict_stays : (front earlier later : World) (s : Step) → KeepsReleases front earlier later → accepts front earlier s ≢ Err NotReleased → accepts front later s ≡ accepts front earlier s
 verdict_stays front earlier later (Order c n x) stays h = refl
 verdict_stays front earlier later (Take p) stays h = of_lane (lane front p.from p.to p.inc) refl h
@@ -106,7 +106,7 @@ release_stays base trail d e s is le h = verdict_stays (fold base trail) (fold b
     all : KeepsReleases (fold base trail) (fold base (take d trail)) (fold base first)
     all = rw (sym (fold-take_drop e trail base)) (rw (sym (take-take d e trail le)) (rw (sym upto) over))
 
--- a fresh step is let through where the packet that it names is told as released
+-- a fresh step is accepted if the packet that it names is reported as released
 fresh_where_owed : (front settled : World) (HasGone : Output → Type 0) (s : Step) → HoldsReleased front settled HasGone → IsFresh front front s → IsFresh front settled s ↔ NamesReleased HasGone s
 fresh_where_owed front settled HasGone (Order c n x) says_so fresh = (λ _. tt, λ _. fresh)
 fresh_where_owed front settled HasGone (Take p) says_so fresh = of_lane (lane front p.from p.to p.inc) refl fresh
@@ -138,7 +138,7 @@ fresh_where_owed front settled HasGone (Clear p) says_so fresh = of_lane (lane f
           λ gone. none_holds_passes (Fresh Cleared) (tests (Some l) (lane settled p.from p.to p.inc)) (none.0, (none.1.0, (none.1.1.0, (ap not (says.1 gone), tt)))),
         )
 
--- over a trail, a packet is fresh where it was released
+-- over a trail, a packet is fresh if it was released
 pub fresh_where_released : FreshWhereReleased
 fresh_where_released base trail d s is fresh = fresh_where_owed (fold base trail) (fold base (take d trail)) (IsReleased base (take d trail)) s (release_law base trail d is) fresh
 

@@ -42,7 +42,7 @@ module _ {X : Type 0} where
   Contains-cons_cases x xs y h = elim (Contains-append_cases (x ∷ []) xs y h) [ inl here ↦ inl (Contains-one x y here) | inr later ↦ inr later ]
 
 module _ {K L X : Type 0} (R : K → K → Ordering) (same : (p q : K) → eq_by_cmp R p q ≡ true → p ≡ q) (f : K × L → List X) where
-  -- what is made of an entry that is found is in the list
+  -- each item made of a found entry is in the list
   pub Contains-flat_map_found : (es : List (K × L)) (k : K) (l : L) (x : X) → find R k es ≡ Some l → Contains (f (k, l)) x → Contains (flat_map f es) x
   Contains-flat_map_found [] k l x is h = cc
   Contains-flat_map_found (e ∷ es) k l x is h =
@@ -54,7 +54,7 @@ module _ {K L X : Type 0} (R : K → K → Ordering) (same : (p q : K) → eq_by
         | false ↦ λ apart found. Contains-append_right (f e) (flat_map f es) x (Contains-flat_map_found es k l x found h)
       ] refl is
 
-  -- what is in a list that is made of entries is made of one of them
+  -- each item of a list made of entries is made of one of them
   pub Contains-flat_map_entry : (P : K × L → Type 0) (es : List (K × L)) (x : X) → AllByRecursion P es → Contains (flat_map f es) x → (e : K × L) × (P e × Contains (f e) x)
   Contains-flat_map_entry P [] x all h = not_in_nil x h
   Contains-flat_map_entry P (e ∷ es) x all h = elim (Contains-append_cases (f e) (flat_map f es) x h) [
@@ -89,7 +89,7 @@ module _ (k : ℕ × ℕ) (l : Lane) where
   again_by_receipted : (q : List Msg) (p : ReceiptPacket) → Contains (again_by k l q) (Receipted p) → (is_front_taken l ≡ true) × ((m : Msg) × (receipt (front_packet k l m) ≡ p))
   again_by_receipted q p h1 = grind (arith, nat_tests, h1)
 
--- what is in the list comes from a lane
+-- each item of the list comes from a lane
 again_lane : (w : World) → Turned w.links → (o : Output) → Contains (again w) o → (e : (ℕ × ℕ) × Lane) × ((lane_at w.links e.0.0 e.0.1 ≡ Some e.1) × Contains (again_by e.0 e.1 e.1.queue) o)
 again_lane w turned o h = Contains-flat_map_entry pair_cmp same_pair (λ e. again_by e.0 e.1 e.1.queue) (λ e. lane_at w.links e.0.0 e.0.1 ≡ Some e.1) (lanes_in_order w.links) o (entries_found w turned) (rw (sym (all_again-flat_map (lanes_in_order w.links))) h)
 

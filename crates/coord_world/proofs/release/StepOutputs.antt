@@ -1,4 +1,5 @@
--- The packets that a step gives out are fronts of the world after it, and each front there was given out by the step or was one before.
+-- The packets that a step sends are fronts of the world after it, and each front there was sent by the step or was
+-- one before.
 use Rattle.std.proofs.Common.{◌≡◌, ◌⊎◌, ℕ, ◌+◌, true, false, List, [], ◌∷◌, ◌++◌, Option, Some, None, cond, refl, sym, ap, ◌∙◌, subst, inl, inr, Contains, arith}
 use Rattle.std.proofs.lemmas.Bool.Decides.{nat_tests}
 use Rattle.std.proofs.lemmas.List.Elements.{Contains-append_cases, Contains-append_left, Contains-append_right}
@@ -50,7 +51,7 @@ sent_by_front : (before : Option Lane) (k : ℕ × ℕ) (l : Lane) (q : List Msg
 sent_by_front before k l q o h1 = grind (arith, nat_tests, h1)
 
 module _ (w : World) (s : Step) (turned : Turned (next w s).links) where
-  -- what is sent comes from a lane of the next world
+  -- each sent packet comes from a lane of the next world
   all_sent_lane : (o : Output) → Contains (all_sent w.links (lanes_in_order (next w s).links)) o → (e : (ℕ × ℕ) × Lane) × ((lane_at (next w s).links e.0.0 e.0.1 ≡ Some e.1) × Contains (sent_by (lane_at w.links e.0.0 e.0.1) e.0 e.1 e.1.queue) o)
   all_sent_lane o h = Contains-flat_map_entry pair_cmp same_pair (λ e. sent_by (lane_at w.links e.0.0 e.0.1) e.0 e.1 e.1.queue) (λ e. lane_at (next w s).links e.0.0 e.0.1 ≡ Some e.1) (lanes_in_order (next w s).links) o (entries_found (next w s) turned)
       (rw (sym (all_sent-flat_map w.links (lanes_in_order (next w s).links))) h)
@@ -67,7 +68,7 @@ module _ (w : World) (s : Step) (turned : Turned (next w s).links) where
     | inr sends ↦ third sends
   ]
 
-  -- a data packet that is given out is a front
+  -- a sent data packet is a front
   pub outputs_front : (p : DataPacket) → Contains (outputs w s) (Sent p) → IsFront (next w s) p
   outputs_front p h = outputs_cases (Sent p) (receipts_no_data s p) (signals_no_packet (transitions w.version (state w) s) (Sent p) tt)
       (λ last.
@@ -77,7 +78,7 @@ module _ (w : World) (s : Step) (turned : Turned (next w s).links) where
       subst (IsFront (next w s)) is (record { at = record { lane = on.0.1; there = on.1.0; inc = refl; number = refl }; rest = by.1.0; queue = by.1.1.0 }))
       h
 
-  -- a receipt that is given out is of the packet that is taken
+  -- a sent receipt is of the packet that is taken
   outputs_receipt_taken : (p : ReceiptPacket) → Contains (outputs w s) (Receipted p) → (q : DataPacket) × ((s ≡ Take q) × (receipt q ≡ p))
   outputs_receipt_taken p h = outputs_cases (Receipted p) (receipts_taken s p) (signals_no_packet (transitions w.version (state w) s) (Receipted p) tt)
       (λ last.
@@ -86,7 +87,7 @@ module _ (w : World) (s : Step) (turned : Turned (next w s).links) where
       absurd (let e = by.1.1.1 in cc e))
       h
 
-  -- a front that wasn't one before is given out
+  -- a new front is sent
   new_front_output : (p : DataPacket) (front : IsFront (next w s) p) → had_front (lane_at w.links p.from p.to) front.at.lane ≡ false → Contains (outputs w s) (Sent p)
   new_front_output p front new =
       let l = front.at.lane in
@@ -97,7 +98,7 @@ module _ (w : World) (s : Step) (turned : Turned (next w s).links) where
       (subst (λ z. Contains (Sent (front_packet (p.from, p.to) l p.msg) ∷ []) (Sent z)) (front_packet_is (next w s) p front) (Contains-head (Sent (front_packet (p.from, p.to) l p.msg)) []))) in
       Contains-append_right (receipts s ++ signals (transitions w.version (state w) s)) (all_sent w.links (lanes_in_order (next w s).links)) (Sent p) (lane_sent (Sent p) (p.from, p.to) l front.at.there sends)
 
--- a receipt that is given out is of a front that was taken
+-- a sent receipt is of a taken front
 pub outputs_receipt : (w : World) (s : Step) (p : ReceiptPacket) → Turned (next w s).links → IsFresh w w s → Contains (outputs w s) (Receipted p) → IsFrontReceipt (next w s) p
 outputs_receipt w s p turned fresh h = let by = outputs_receipt_taken w s turned p h in subst (λ z. IsFrontReceipt (next w z) p) (sym by.1.0) (subst (IsFrontReceipt (next w (Take by.0))) by.1.1 (taken by.0 (subst (IsFresh w w) by.1.0 fresh)))
   where
@@ -124,7 +125,7 @@ had_front_lane (Some o) l h = record { lane = o; there = refl; more = grind (ari
 same_front : (q ms : List Msg) (m : Msg) (rest : List Msg) → is_nil q ≡ false → q ++ ms ≡ m ∷ rest → (old : List Msg) × (q ≡ m ∷ old)
 same_front q ms m rest h1 h2 = grind (arith, nat_tests, h1, h2)
 
--- a front was given out by the step, or was one before
+-- a front was sent by the step, or was one before
 pub front_from_step : (w : World) (s : Step) → Turned (next w s).links → (p : DataPacket) → IsFront (next w s) p → Contains (outputs w s) (Sent p) ⊎ IsFront w p
 front_from_step w s turned p front = by_test (had_front (lane_at w.links p.from p.to) front.at.lane) (λ b. had_front (lane_at w.links p.from p.to) front.at.lane ≡ b → Contains (outputs w s) (Sent p) ⊎ IsFront w p)
     (λ had _. inr (by_step (had_front_lane (lane_at w.links p.from p.to) front.at.lane had) (lane_step w s p.from p.to))) (λ new _. inl (new_front_output w s turned p front new)) refl

@@ -1,4 +1,4 @@
--- What is known of a packet that is refused for nothing but its release.
+-- Facts about a packet that is refused only because it is not released.
 use Rattle.std.proofs.Common.{◌≡◌, ℕ, ◌+◌, ◌≤◌, true, false, [], ◌∷◌, Option, Some, None, Ok, Err, Result, cond, refl, arith}
 use Rattle.std.proofs.lemmas.Bool.Decides.{nat_tests}
 use Rattle.coord_types.specs.Facade.{begins_with}
@@ -13,12 +13,12 @@ use Rattle.coord_tables.proofs.Cases.{by_test}
 use Rattle.coord_world.proofs.Acceptance.{NoneHolds, begins_is, tests_passed, with_incarnation}
 use Rattle.coord_world.proofs.release.LaneFronts.{IsNumbered, IsFront}
 
--- where no test refuses, none holds
+-- if no test refuses, none holds
 pub refused_or_none_holds : {V : Type 0} (v r : V) (ts : Tests) → refused_or v ts ≡ Ok r → NoneHolds ts
 refused_or_none_holds v r [] h = tt
 refused_or_none_holds {V} v r (t ∷ ts) h = by_test t.0 (λ b. cond {A = Result V Refusal} b (Err t.1) (refused_or v ts) ≡ Ok r → (b ≡ false) × NoneHolds ts) (λ _ e. cc) (λ _ e. (refl, refused_or_none_holds v r ts e)) h
 
--- where no test holds, none refuses
+-- if no test holds, none refuses
 pub none_holds_passes : {V : Type 0} (v : V) (ts : Tests) → NoneHolds ts → refused_or v ts ≡ Ok v
 none_holds_passes v [] h = refl
 none_holds_passes {V} v (t ∷ ts) h = let rest = none_holds_passes v ts h.1 in grind (arith, nat_tests, h.0, rest)

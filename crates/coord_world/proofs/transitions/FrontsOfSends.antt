@@ -22,7 +22,7 @@ use Rattle.coord_world.specs.code.Fronts.{front_sent, fronts_sent}
 use Rattle.coord_world.proofs.release.LaneFronts.{sent_none}
 use Rattle.coord_types.specs.NodeSet as set
 
--- ---- the new fronts of lanes are those at some keys in ascending order, where the lanes at all other keys have none
+-- ---- the new fronts of lanes are those at some keys in ascending order, if the lanes at all other keys have none
 
 -- keys in ascending order
 abbrev pub Rising : List (ℕ × ℕ) → Type 0

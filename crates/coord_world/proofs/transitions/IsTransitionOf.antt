@@ -1,4 +1,5 @@
--- A node step of the program is the transition that it stands for: its messages, sent one after the other, join the lanes.
+-- A node step of the program is the transition that it represents: its messages, sent one after the other, join the
+-- lanes.
 use Rattle.std.proofs.Common.{◌≡◌, ℕ, Bool, true, false, ◌&&◌, List, [], ◌∷◌, ◌++◌, map, length, ◌<◌, Option, Some, None, refl, sym, ap, ◌∙◌, arith, cond, eqb, nat_eq, nat_cmp, Less}
 use Rattle.std.specs.List.{AllByRecursion, list_any}
 use Rattle.std.specs.List.Sorted.{IsStrictlySortedBy}
@@ -52,7 +53,7 @@ not_among x (y ∷ ys) above =
     let apart : nat_eq y x ≡ false = let less = above.0 in grind (arith, nat_tests) in
     grind (arith, nat_tests, apart, not_among x ys above.1)
 
--- where no node comes twice, one message goes to each
+-- if no node occurs twice, one message goes to each
 each_once : (m : Msg) (xs : List ℕ) (y : ℕ) → IsStrictlySortedBy nat_cmp xs → all_to (map (λ x. (x, m)) xs) y ≡ cond (list_any (λ x. nat_eq x y) xs) (m ∷ []) []
 unfolding IsStrictlySortedBy
 each_once m [] y sorted = refl

@@ -88,11 +88,11 @@ pub has_without : (s : NodeSet) (p : Option ℕ) (y : ℕ) → contains (without
 has_without s None y = refl
 has_without s (Some p) y = grind (arith, nat_tests, contains-remove s p y)
 
--- what is still a parent
+-- a remaining parent
 child_left : (p : Option ℕ) (b y : ℕ) → is_parent (without p b) y ≡ (not (eqb y b) && is_parent p y)
 child_left p b y = grind (arith, nat_tests)
 
--- a state s that is r but for what it says of v, and whose sets fit each other
+-- a state s that is r except at v, and whose sets fit each other
 pub record Aside (r s : NodeState) (v : ℕ) : Type 0 where
   pub mode : s.mode ≡ r.mode
   pub distance : s.distance ≡ r.distance
@@ -150,7 +150,7 @@ quiet version r v d node ends none = record {
     nothing l y far = grind (arith, none y far, append-nil l.out)
 
 module _ (version : ℕ) (r s : NodeState) (v : ℕ) (aside : Aside r s v) where
-  -- the node carries to others what it carried before
+  -- the node carries to others the same as before
   same_carries : carries version s ≡ carries version r
   same_carries i = cond (eqb version 1) 0 (aside.distance i + 1)
 

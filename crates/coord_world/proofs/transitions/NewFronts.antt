@@ -1,4 +1,4 @@
--- The new fronts of a step stand on the lanes that it touches: those that it sends on, and the one that it clears.
+-- The new fronts of a step are on the lanes that it touches: those on which it sends, and the one that it clears.
 use Rattle.std.proofs.Common.{◌≡◌, ◌≢◌, ℕ, ◌+◌, Bool, true, false, List, [], ◌∷◌, ◌++◌, Option, Some, None, cond, eqb, refl, sym, ap, ◌∙◌, arith, append-nil, nat_lt, is_some}
 use Rattle.std.proofs.lemmas.Bool.Decides.{nat_tests}
 use Rattle.coord_types.specs.NodeSet as set

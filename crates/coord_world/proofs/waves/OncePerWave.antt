@@ -91,7 +91,7 @@ explained base u (s ∷ ss) w run like inside known =
 
 -- ---- exactly once
 
--- a node where a reset is started has a neighbour
+-- a node at which a reset is started has a neighbour
 started_some : (steps : List Step) (w : World) → AllGo w steps → (u : ℕ) → among (started w steps) u ≡ true → is_empty (state w u).neighbours ≡ false
 started_some [] w run u h = cc
 started_some (s ∷ ss) w run u h = elim (among-append (started_by (kind (state w) s) s) (started (next w s) ss) u h) [

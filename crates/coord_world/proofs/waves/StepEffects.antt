@@ -1,4 +1,5 @@
--- What a fresh step that keeps all nodes and links does to a wave: an order, and what is taken of an Abort, an Ack and a Ready.
+-- The effect on a wave of a fresh step that keeps all nodes and links: an order, and the taking of an Abort, an Ack
+-- and a Ready.
 use Rattle.std.proofs.Common.{◌≡◌, ◌≢◌, ℕ, ◌≤◌, true, false, List, [], ◌∷◌, ◌++◌, Some, refl, sym, ap, ◌∙◌, arith, count_by, None, inl, Option, inr, is_some}
 use Rattle.std.proofs.lemmas.Bool.Decides.{nat_tests}
 use Rattle.coord_types.proofs.Sets.{contains-remove, contains-empty}
@@ -61,7 +62,7 @@ module _ (z : Ideal) (v t n : ℕ) (rest : List Msg) (front : z.in_transit v t �
     apart = λ x y p q. grind (arith, nat_tests, p, q);
   }
     where
-      -- what it sends is after what was on the way
+      -- its messages come after those in transit
       sends_out : (x : ℕ) → x ≢ t → z.linked t x ≡ true → (after_take z v t d).in_transit t x ≡ z.in_transit t x ++ added d x
       sends_out x far linked = grind (arith, nat_tests)
 

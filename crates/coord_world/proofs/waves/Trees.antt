@@ -36,7 +36,7 @@ under z u (y ∷ xs) reached x h = elim (eqb_tells x y) [
     more : IsUnder z u xs x → IsUnder z u (y ∷ xs) x
     more known = elim known [ inl is_u ↦ inl is_u | inr from ↦ inr (from.0, from.1, grind (arith, from.2)) ]
 
--- the list stays as it is if the parents of its nodes do
+-- the list is unchanged if the parents of its nodes are
 reached_same : (z y : Ideal) (u : ℕ) (xs : List ℕ) → ((x : ℕ) → among xs x ≡ true → x ≢ u → (y.state x).parent ≡ (z.state x).parent) → Reached z u xs → Reached y u xs
 reached_same z y u [] same reached = tt
 reached_same z y u (x ∷ xs) same reached = (again, reached_same z y u xs (λ q h far. same q (grind (arith, h)) far) reached.1)

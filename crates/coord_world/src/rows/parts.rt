@@ -14,7 +14,7 @@ pub struct NodeRow {
     pub pend: NodeSet,
     pub epoch: u64,
     pub confirmed: u64,
-    /// How many links lie between the node and the one that began its reset; 0 where it is Ready, and
+    /// The number of links between the node and the one that began its reset; 0 if it is Ready, and
     /// in version 1.
     pub distance: u64,
 }

@@ -81,8 +81,8 @@ impl Tables {
         }
     }
 
-    /// Carries an order out, and makes it its client's last one. The order comes in parts, since the
-    /// toolchain gets no proof for a `Command` that goes by value to a generic call.
+    /// Carries an order out, and makes it its client's last one. The order is passed in parts,
+    /// since the toolchain finds no proof for a `Command` passed by value to a generic call.
     fn order(
         &mut self,
         alloc: Global,

@@ -6,7 +6,7 @@ use Rattle.coord_commands.specs.Serving.{IsOfServing, ServesAt}
 use Rattle.coord_commands.specs.Arguments.{serve}
 use Rattle.coord_commands.proofs.commands.carry_out.Goals as goal
 
--- what is to be served is served, around the same folder and streams
+-- `serve` runs with the same folder and streams
 pub returns-in-Err : goal.returns-in-Err
 returns-in-Err g c =
     let file = c.in-Err.left.file.now in

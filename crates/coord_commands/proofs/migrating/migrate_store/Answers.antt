@@ -2,7 +2,7 @@ use Rattle.std.proofs.Common.{Result, Ok, Err, IfErr, inl}
 use Rattle.coord_disk.proofs.MomentLemmas.{weaker}
 use Rattle.coord_commands.proofs.migrating.migrate_store.Goals as goal
 
--- where there is no memory for the line, nothing is done
+-- without memory for the line, nothing is done
 pub returns-in_err-line-clause-any_moment : goal.returns-in_err-line-clause-any_moment
 returns-in_err-line-clause-any_moment g c k none =
     let s = c.args.store.now in

@@ -8,7 +8,7 @@ use Rattle.coord_commands.specs.declared.fault.Fault.TheVariants.{Store}
 use Rattle.coord_store.specs.declared.faults.StoreFault.TheVariants.{Device}
 use Rattle.coord_commands.proofs.serving.opened.Goals as goal
 
--- the disk is not to be had
+-- the disk is not available
 pub returns-in_err-disk-clause-fault : goal.returns-in_err-disk-clause-fault
 returns-in_err-disk-clause-fault g c =
     let before = g.F.Folder.holds c.args.folder.now c.args.file.now in
