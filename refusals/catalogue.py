@@ -11,8 +11,8 @@ A catalogue is made of blocks, with an empty line between two:
     ! units drill::lines::one_of_each
 
 `@` names the file of the blocks after it, up to the next `@`; a block that changes several files names each in its
-midst. `#` gives the block its name, and ` killed` behind that says that no clause refuses it; ` type CODE` that it does
-not compile, with an error of this code: a type refuses it. The lines behind `-`
+midst. `#` gives the block its name, and ` killed` behind that says that no clause refuses it; ` type CODE NAMED` that
+it does not compile, with an error of this code that names NAMED: a type refuses it. The lines behind `-`
 stand once in the file, the lines behind `+` take their place; a `-` behind a `+` begins the next exchange. In a proof
 file (`proofs/..`) the texts are names, and each place of an old one is changed. `%` names a clause that the mutant breaks,
 one a line, as a row of docs/PROMISES.md does: `World::judge (value)`, with the crate in front where it is another one, and
@@ -53,7 +53,7 @@ class Mutant:
     clauses: list[str] = field(default_factory=list)
     test: str = ""
     is_killed: bool = False
-    # the code of the compiler's error, if a type refuses it
+    # the code of the compiler's error and what it names, if a type refuses it
     error: str = ""
 
     @property

@@ -1,4 +1,4 @@
-"""What stands after a close: it is discarded, so that the client can read the answer, and holds up no end."""
+"""The input after a close: it is discarded, so that the client can read the answer, and delays no end."""
 
 import contextlib
 import socket
@@ -18,7 +18,7 @@ class BehindAClose(Case):
     takes = 6
 
     def serving(self, name: str = "store") -> Serving:
-        """By a clock that stands still: what has come is discarded to its end, however long the server takes for it."""
+        """By a clock that stands still: all received input is discarded, however long the server takes for it."""
         self.needs("a C compiler", preloaded.has_compiler())
         return Serving(self.made(topology([(1, 1)]), name), env=preloaded.environment(self.folder, STILL=1))
 
@@ -55,7 +55,7 @@ class BehindAClose(Case):
         self.assertEqual(server.ended().status, 0)
 
     def test_a_client_is_told_that_no_more_comes(self) -> None:
-        """After the answer, and before what it still sends is discarded: so it need not wait for the end of that."""
+        """After the answer, and before its remaining input is discarded: so it need not wait for the end of that."""
         self.needs("a C compiler", preloaded.has_compiler())
         environment = preloaded.environment(self.folder, CALLS=self.path("calls"), WAITS=1)
         with Serving(self.made(topology([(1, 1)])), env=environment) as server, server.connect() as connection:

@@ -38,7 +38,7 @@ class Connections(Case):
             self.assertEqual(server.close().status, 0)
 
     def test_fifteen_hundred_that_say_nothing(self) -> None:
-        """Clients come and go. There is no end to those who may come."""
+        """Clients come and go. Any number may come."""
         with self.serving() as server:
             host, port = server.address.split(":")
             for _ in range(1_500):
@@ -47,7 +47,7 @@ class Connections(Case):
             self.assertEqual(server.close().status, 0)
 
     def test_an_answer_goes_out_at_once(self) -> None:
-        """The system is told so of each connection: otherwise it may wait for the client to take what was sent before."""
+        """The system is set up for that on each connection: otherwise it may wait for the client to read earlier bytes."""
         self.needs("a C compiler", preloaded.has_compiler())
         environment = preloaded.environment(self.folder, CALLS=self.path("calls"), WAITS=1)
         with Serving(self.made(topology([(1, 1)])), env=environment) as server:

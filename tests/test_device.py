@@ -1,8 +1,8 @@
 """What the device has at each moment: an answer and a signal go out only once their step is there for good.
 
-The test notes the calls of the program as it serves. From them it makes what a power cut may leave at each moment: all
-that was synced, and any first part of what was written since. Each such file has to be a legal store with every step
-that was answered, or whose signal was printed, before that moment.
+The test notes the calls of the program as it serves. From them it makes the files that a power cut may leave at each moment: all
+synced bytes, and any prefix of the later writes. Each such file must be a legal store with every step that was answered, or whose
+signal was printed, before that moment.
 """
 
 import os
@@ -21,7 +21,7 @@ SIGNAL = re.compile(rb"^signal 1 (\d+)\n")
 ANY_SIGNAL = re.compile(rb"^signal (\d+) 1\n")
 BEGUN = re.compile(r"^node (\d+) 1 \w+ \d+ 1 ", re.MULTILINE)
 Order = dict[str, str | int]
-# A call as it was written down: its name, its file, its place and its bytes.
+# A recorded call: its name, its file, its offset and its bytes.
 Call = tuple[str, int, int, bytes]
 # What `init` prints of a ring of three, and what `check` says of what a cut of it leaves.
 WHOLE, LEGAL = Ended(0, "created 6\n", ""), Ended(0, "legal 6\n", "")
@@ -33,7 +33,7 @@ EACH_KIND: list[Order] = [RESET, {"op": "add", "node": 2, "group": 1}, {"op": "j
 
 
 class Device:
-    """A file as the calls have it: what is synced, and the writes since."""
+    """A file as the calls have it: the synced bytes, and the writes since."""
 
     def __init__(self, content: bytes) -> None:
         self.synced, self.since = bytearray(content), list[tuple[int, bytes]]()
@@ -132,7 +132,7 @@ class Moments(Case):
         return before, list(calls_of(calls))
 
     def order(self, store: str, orders: Sequence[Order], first: int = 1, env: Mapping[str, str] | None = None) -> None:
-        """One order at a time, so that each takes a flight of its own and as much of the journal."""
+        """One order at a time, so that each needs its own flight and as much of the journal."""
         with Serving(store, env=env) as server:
             with server.connect() as connection:
                 for number, order in enumerate(orders, first):

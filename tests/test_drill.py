@@ -7,7 +7,7 @@ from support.case import Case
 from support.program import TIMEOUT, PROGRAM, Ended, ran
 from support.runs import worked_runs
 
-# Lines that ask for nothing: an unknown word, too few or too many words, other spaces, what is no number or one out of range.
+# Lines without a request: an unknown word, too few or too many words, other spaces, no number or one out of range.
 BAD_LINES = (
     "fly 1", "Add 1 1", "add", "add 1", "add 1 1 1", "add 1 1 ", " add 1 1", "add  1 1", "add 1 1\r", "add\t1 1",
     "add 0 1", "add 65 1", "add 1 0", "add 1 17", "add +1 1", "add -1 1", "add 1x 1", "add 1 \u00e9", "add 257 1",
@@ -24,7 +24,7 @@ def drill_text(text: str) -> Ended:
 
 
 class WorkedRuns(Case):
-    """Each run of the folder drill: what is read, and what is printed for it."""
+    """Each run of the folder drill: its input and its output."""
 
     def test_each_is_printed(self) -> None:
         runs = worked_runs()
@@ -119,7 +119,7 @@ class LongRuns(Case):
         self.assertEqual(drill_text(("#".ljust(511, "a") + "\n") * 2_400 + "add 1 1\n"), Ended(0, "done 1\n", ""))
 
     def test_as_many_are_held_again(self) -> None:
-        """No more than 1,024 steps are held, and as many again once these are settled."""
+        """At most 1,024 steps are held, and as many again once these are settled."""
         text = "add 1 1\nhold\n" + "reset 1\n" * 1_025 + "flush\n" * 4 + "reset 1\n" * 1_024
         wanted = "done 1\n" + "".join(f"pending {step}\n" for step in range(2, 1_026)) + "no 20 PendingFull\n"
         for last in (257, 513, 769, 1_025):

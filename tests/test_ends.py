@@ -22,7 +22,7 @@ class Ends(Case):
     takes = 5
 
     def test_a_signal_ends_it_as_a_crash_does(self) -> None:
-        """In the midst of a reset too: the next start goes on, and no node is signalled twice."""
+        """Also during a reset: the next start continues it, and no node is signalled twice."""
         store = self.made(ring(8))
         for number, each in enumerate((signal.SIGTERM, signal.SIGKILL, signal.SIGTERM, signal.SIGINT), 1):
             with Serving(store) as server:
@@ -71,7 +71,7 @@ class Ends(Case):
         self.assertEqual(ran("serve", store, "192.0.2.1:4170"), faulted(3, "Socket"))
 
     def test_the_address_that_is_named(self) -> None:
-        """The address can be had again at once by the next start."""
+        """The address is free again at once for the next start."""
         store = self.made(topology([(1, 1)]))
         address = held_address()
         with Serving(store, address=address) as server:

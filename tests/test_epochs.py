@@ -10,7 +10,7 @@ from support.serving import Serving
 from support.stores import ring, topology
 
 
-CLOSING = 60  # processor seconds within which an instance of so many steps is closed: some 1, and 500 where each is looked for one by one
+CLOSING = 60  # processor seconds within which an instance of this many steps is closed: some 1, and 500 if each is searched one by one
 
 
 class Epochs(Served):

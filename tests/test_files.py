@@ -36,7 +36,7 @@ class Made(Case):
                 self.assertEqual(stat.S_IMODE(os.stat(self.path(command)).st_mode), 0o600)
 
     def test_one_that_another_process_makes_meanwhile(self) -> None:
-        """The file stays as it is."""
+        """The file is unchanged."""
         self.needs("a C compiler", preloaded.has_compiler())
         other = self.made(ONE, "other")
         before = self.read("other")
@@ -59,7 +59,7 @@ class ReadOnly(Case):
         return Ended(done.returncode, done.stdout.decode(), done.stderr.decode())
 
     def test_a_store(self) -> None:
-        """The store is checked and shown, and neither served nor raised."""
+        """The store is checked and shown, but not served or migrated."""
         path = self.made(ONE)
         before = self.read("store")
         os.chmod(path, 0o400)
@@ -70,7 +70,7 @@ class ReadOnly(Case):
         self.assertEqual(self.read("store"), before)
 
     def test_a_folder(self) -> None:
-        """A store that stands there is served. None is made there, and no other file."""
+        """An existing store is served. None is made there, and no other file."""
         topology_path, folder = self.write("topology", ONE), self.path("folder")
         os.mkdir(folder)
         self.assertEqual(ran("init", f"{folder}/store", topology_path).status, 0)
@@ -83,7 +83,7 @@ class ReadOnly(Case):
         self.assertEqual(os.listdir(folder), ["store"])
 
     def test_a_folder_that_is_not_read(self) -> None:
-        """Its entries can't be synced: so nothing that stands there is written to."""
+        """Its entries can't be synced: so no existing file is written to."""
         topology_path, folder = self.write("topology", ONE), self.path("folder")
         os.mkdir(folder)
         self.assertEqual(ran("init", f"{folder}/store", topology_path).status, 0)
@@ -141,7 +141,7 @@ class Called(Case):
         return {**os.environ, **preloaded.environment(self.folder, **settings)}
 
     def synced_at_first(self) -> tuple[set[str], bool]:
-        """What was synced before anything was said, by the paths; and whether something was written that was not."""
+        """The files that were synced before any output, by their paths; and whether something was written that was not synced."""
         synced, is_written = [], False
         with open(self.path("calls"), encoding="ascii") as calls:
             for name, _, _, text in (line.rstrip("\n").split(" ") for line in calls):
@@ -168,7 +168,7 @@ class Called(Case):
         self.assertEqual(self.synced_at_first(), ({folder, store}, False))
 
     def test_a_sync_that_fails_where_a_store_is_made(self) -> None:
-        """Device is told, whichever it is."""
+        """Device is reported, whichever it is."""
         words = ["init", self.path("store"), self.write("topology", ONE)]
         log = self.path("calls")
         self.assertEqual(ran(*words, env=self.environment(CALLS=log)), Ended(0, "created 1\n", ""))
@@ -210,7 +210,7 @@ class Called(Case):
         self.assertEqual(ran("check", self.made(ONE), env=environment), Ended(0, "legal 1\n", ""))
 
     def expect_refused(self, commands: list[str], errors: list[int] = ERRORS, **call: int) -> None:
-        """Where this call fails alone, with any error, the commands tell Device, and leave a store as it was."""
+        """If this call fails alone, with any error, the commands report Device, and leave the store unchanged."""
         more = {"init": [self.write("topology", ONE)], "serve": ["127.0.0.1:0"]}
         content = stores.store(bodies=[stores.batch(1, stores.add(1))])
         for command in commands:
@@ -266,7 +266,7 @@ class Called(Case):
             self.assertGreaterEqual(int(ran("check", store).printed.split()[1]), 1 + done)
 
     def test_a_sync_that_fails_while_a_store_is_raised(self) -> None:
-        """One that fails alone: it is told, and the store is of one version or the other."""
+        """One that fails alone: it is reported, and the store is of one version or the other."""
         content, log = stores.store(bodies=[stores.batch(1, stores.add(1))]), self.path("calls")
         path = self.write("store", content)
         self.assertEqual(ran("migrate", path, env=self.environment(CALLS=log)), Ended(0, "migrated 1\n", ""))
@@ -296,7 +296,7 @@ class Called(Case):
             self.assertEqual(ran("serve", store, "127.0.0.1:0", env=self.environment(SYNC_FAILS=number)), FAILED)
 
     def test_read_and_written_in_pieces(self) -> None:
-        """The system may do a part of what it is asked for, of a file, of the output and of a connection."""
+        """The system may do only a part of a call, for a file, the output or a connection."""
         pieces = self.environment(PIECE=5)
         topology_path = self.write("topology", stores.ring(8, stores.HALF))
         whole, parts = self.path("whole"), self.path("parts")

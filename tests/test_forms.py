@@ -1,4 +1,4 @@
-"""The two rules of form of tools/forms: what each refuses, and what it passes."""
+"""The two rules of form of tools/forms: what each refuses, and what it accepts."""
 
 import importlib.machinery
 import importlib.util

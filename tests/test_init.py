@@ -1,4 +1,4 @@
-"""`init`: the store that it makes, each fault of it, and what stands then."""
+"""`init`: the store that it makes, each of its faults, and the file after each."""
 
 import os
 
@@ -109,7 +109,7 @@ class Init(Case):
                 self.assertEqual(ran("check", self.path(f"store{number}")), Ended(0, "legal 0\n", ""))
 
     def test_more_entries_than_there_may_be(self) -> None:
-        """Too many entries are no fault of the text, be they all alike: the first order that is refused is told."""
+        """Too many entries are not a fault of the text, even if they are all equal: the first refused order is reported."""
         pair = "node = [{id = 1, group = 1}, {id = 2, group = 1}]\n"
         for name, text in (("7 NodeExists", "node = [" + "{id=1,group=1}," * 300 + "]"),
                            ("11 LinkExists", pair + "link = [" + "{a=1,b=2}," * 300 + "]"),

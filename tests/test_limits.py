@@ -93,7 +93,7 @@ class Threads(Case):
 
 
     def test_one_that_is_refused(self) -> None:
-        """Any one of them, with all others there: it says so, prints nothing and leaves the store as it was."""
+        """Any one of them, with all others present: it reports the fault, prints nothing and leaves the store unchanged."""
         self.needs("a C compiler", preloaded.has_compiler())
         store = self.made(topology([(1, 1)]))
         before = self.read("store")

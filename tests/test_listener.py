@@ -60,8 +60,8 @@ class Listener(Failing):
                     self.assertEqual(ended.printed, f"listening {server.address}\n{signals}")
 
     def test_what_lasts(self) -> None:
-        """The listener fails 60 times in turn, and as often again before the next client: more than it may in turn. The server rests
-        before each further try; behind a client that has left it does not."""
+        """The listener fails 60 times in a row, and as often again before the next client: more than it may in a row. The server
+        pauses before each further try; after a client that has left it does not."""
         for name, rests in (("ENFILE", 60), ("EPROTO", 0)):
             with self.subTest(error=name), self.serving(name, 60) as server:
                 for clients in (1, 2):
@@ -88,7 +88,7 @@ class Listener(Failing):
 
 
     def test_a_client_whose_waits_can_not_be_bounded(self) -> None:
-        """A client that left is not waited for: its connection ends before a line, in the midst of one, or before an answer."""
+        """A client that left is not waited for: its connection ends before a line, in a line, or before an answer."""
         resend = b'{"op":"resend"}\n'
         for call, number, said in (("READ_TIME_FAILS", 1, b""), ("READ_TIME_FAILS", 2, b'{"op":'), ("WRITE_TIME_FAILS", 1, resend)):
             store = self.made(topology([(1, 1)]), f"store-{call}-{number}")
@@ -125,8 +125,8 @@ class Idle(Case):
     takes = 3
 
     def test_a_server_that_nobody_asks(self) -> None:
-        """A server waits, and takes no processor for that: before the first client, after an order of one that stays,
-        and behind the first part of a line."""
+        """A server waits without using a processor: before the first client, after an order of one that stays, and after the
+        first part of a line."""
         with Serving(self.made(topology([(1, 1)]))) as server:
             self.expect_rest(server)
             with server.connect() as connection:

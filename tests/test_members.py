@@ -15,23 +15,26 @@ import threading
 from collections.abc import Iterable, Iterator
 from typing import Self
 
+from support import traced
 from support.case import Case, tool
 from support.library_case import OfLibrary
 from support.memberlib import PATH, Library, Order, Orders, Refused
 from support.program import PROGRAM, ROOT
 
-sys.path.insert(0, f"{ROOT}/client")
+sys.path[:0] = [f"{ROOT}/tools", f"{ROOT}/client"]
 from resetd_client import Due, Link, Node, View  # noqa: E402
 from resetd_client.gateway import Desk  # noqa: E402
 from resetd_client.party import Party, are_parted, digest_of, is_same_run, tag_of  # noqa: E402
 from resetd_client.rule import Kept, judge, shown_to  # noqa: E402
 from resetd_client.starts import Shelf, Starts  # noqa: E402
+from served import faults, services  # noqa: E402
+from served.services import Trial, Words  # noqa: E402
 
 STATES = 25_000  # at random, of each of four seeds
 EXAMPLES = f"{ROOT}/examples/members"
 COMPILERS = {"cc": "a C compiler", "rustc": "Rust", "go": "Go"}
 HEADER = f"{ROOT}/crates/resetd_member/include"
-# What is shown, the member's node, what it keeps, the digests of its history, and the epoch that stands with its work.
+# The view, the member's node, its stored values, the digests of its history, and the epoch stored with its work.
 State = tuple[View, int, Kept, list[str], int | None]
 
 
@@ -106,7 +109,7 @@ class Random:
         return View(99, 99, rows, tuple(Link(a, b, draw.randrange(1, epochs + 99)) for a, b in chosen))
 
     def party(self, view: View, row: Node) -> Party | None:
-        """None, what is shown, or some more or fewer than that."""
+        """None, the shown parties, or some more or fewer."""
         draw, shown = self.random, view.party(row.node)
         more = frozenset(f"{draw.randint(1, 64)} {draw.randrange(99)}" for _ in range(draw.randrange(3)))
         fewer = frozenset(line for line in shown if draw.random() < 0.8)
@@ -166,7 +169,7 @@ class Members(OfLibrary):
         self.library = Library()
 
     def judged_alike(self, state: State, torn: str = "") -> str:
-        """Both libraries, of one state: what is due, what is kept, the line of the history, and the tag."""
+        """Both libraries, for one state: the due action, the stored values, the line of the history, and the tag."""
         view, node, kept, history, work = state
         row = row_of(view, node)
         begun = kept.begun if kept.begun == work else None
@@ -291,7 +294,7 @@ class Members(OfLibrary):
             self.assertEqual(self.library.loaded(node, epoch, b"boot-1"), loaded_text(node, epoch, "boot-1"))
 
     def test_what_a_file_says_in_a_boot(self) -> None:
-        """What was loaded counts in its boot alone, files of earlier versions are carried over, and a torn one says nothing."""
+        """A loaded start is valid only in its boot, files of earlier versions are carried over, and a torn one says nothing."""
         party = frozenset({"1 2", "2 2", "1 2 3"})
         loaded, nothing = loaded_text(2, 7, "boot-1"), start_text(2, Kept())
         for text, boot, wanted in (
@@ -382,7 +385,7 @@ class Searches(OfLibrary):
         return done.stdout.splitlines()[-1]
 
     def test_the_search_with_the_proved_judge(self) -> None:
-        """The search comes to as many states as the one with the Python judge, and finds the mix where a part is left out."""
+        """The search reaches as many states as the one with the Python judge, and finds the mix if a part is left out."""
         for about, depth in (("all", 5), ("lose", 5), ("restore", 6), ("readd", 8), ("links", 9)):
             words = ["--about", about, "--depth", str(depth)]
             self.assertEqual(self.last_line(*words, "--library", PATH), self.last_line(*words))
@@ -390,17 +393,10 @@ class Searches(OfLibrary):
         self.assertIn("mixed after 10 events", self.last_line(*weaker, "--library", PATH))
 
 
-class InOtherLanguages(Case):
-    """Whole members, each before a front, which tools/try_member leads through the table of docs/SERVICES.md."""
+class Made(Case):
+    """A test of a member that is compiled."""
 
-    takes = 100
     programs = ("RESETD", "RESETD_MEMBER")
-
-    def keeps_the_rule(self, *command: str) -> None:
-        """tools/try_member finds nothing wrong with a member."""
-        tried = subprocess.run([tool("try_member"), "--seconds", "180", *command], capture_output=True, text=True,
-                               env={**os.environ, "RESETD": PROGRAM, "TMPDIR": self.folder})
-        self.assertEqual(tried.returncode, 0, tried.stdout + tried.stderr)
 
     def make(self, compiler: str, *words: str, env: dict[str, str] | None = None) -> str:
         """Makes a member without a warning: its program."""
@@ -419,6 +415,22 @@ class InOtherLanguages(Case):
         self.needs("a C compiler: for the members' library", os.path.exists(PATH))
         return PATH.replace(".so", ".a")
 
+    def make_in_c(self) -> str:
+        return self.make("cc", "-std=c11", "-Wall", "-Wextra", "-Wconversion", "-O1", "-I", HEADER, "-o", self.path("member"), "member.c",
+                         self.library())
+
+
+class InOtherLanguages(Made):
+    """Whole members, each before a front, which tools/try_member leads through the table of docs/SERVICES.md."""
+
+    takes = 100
+
+    def keeps_the_rule(self, *command: str) -> None:
+        """tools/try_member finds nothing wrong with a member."""
+        tried = subprocess.run([tool("try_member"), "--seconds", "180", *command], capture_output=True, text=True,
+                               env={**os.environ, "RESETD": PROGRAM, "TMPDIR": self.folder})
+        self.assertEqual(tried.returncode, 0, tried.stdout + tried.stderr)
+
     def test_python(self) -> None:
         self.keeps_the_rule(f"{EXAMPLES}/member.py", "{node}", "{front}", "{folder}", "parts")
 
@@ -429,9 +441,7 @@ class InOtherLanguages(Case):
         self.keeps_the_rule(f"{ROOT}/examples/plain_member", "{node}", "{host}", "{port}", "{folder}")
 
     def test_c(self) -> None:
-        member = self.make("cc", "-std=c11", "-Wall", "-Wextra", "-Wconversion", "-O1", "-I", HEADER, "-o", self.path("member"), "member.c",
-                           self.library())
-        self.keeps_the_rule(member, "{node}", "{front}", "{folder}")
+        self.keeps_the_rule(self.make_in_c(), "{node}", "{front}", "{folder}")
 
     def test_rust(self) -> None:
         member = self.make("rustc", "--edition", "2024", "-O", "-o", self.path("member"), "member.rs", "-L", os.path.dirname(self.library()),
@@ -444,6 +454,67 @@ class InOtherLanguages(Case):
 
     def test_go_without_the_library(self) -> None:
         self.keeps_the_rule(self.make_in_go("plain_member.go", env={"CGO_ENABLED": "0"}), "{node}", "{front}", "{folder}")
+
+
+class Durable(Made):
+    """The member in C, by its calls: the files that are on the disk before it drops its work, confirms and talks, so that no power cut
+    brings an earlier start back. Member 2 of the group is this test."""
+
+    takes = 20
+
+    def setUp(self) -> None:
+        super().setUp()
+        self.needs("strace: one that may trace", faults.can_inject(), is_optional=True)
+        self.member, self.disk = self.make_in_c(), traced.Disk()
+        self.trial = Trial(Words(program=PROGRAM, seconds=300.0, without=set()), self.folder, 2)
+        self.addCleanup(self.trial.end)
+
+    def run_until_it_talks(self, resets: int) -> list[traced.Call]:
+        """Runs the member until it talks, and through this number of resets. Its calls."""
+        process = subprocess.Popen([*traced.words(self.path("trace")), self.member, "1", self.trial.address, self.path("files")],
+                                   stdout=subprocess.DEVNULL, start_new_session=True)
+        try:
+            self.trial.expect("it talks", self.is_talking)
+            for _ in range(resets):
+                self.trial.reset(2)
+                self.trial.expect("it talks after a reset", self.is_talking)
+        finally:
+            os.killpg(process.pid, signal.SIGKILL)
+            process.wait()
+        os.remove(self.path("files/run"))
+        return list(traced.calls(self.path("trace"), self.path("files")))
+
+    def is_talking(self) -> bool:
+        other = row_of(self.trial.shown(), 2)
+        if other.epoch > other.confirmed:
+            self.trial.order("confirm", node=2, epoch=other.epoch)
+        return bool(other.epoch) and services.read(self.path("files/run")).startswith(f"{other.epoch} ")
+
+    def expect_synced_before(self, call: traced.Call) -> None:
+        """Checks the files that must be on the disk before this call."""
+        if call.name == "rename" and call.text == b"work":
+            starts = [json.loads(text or b"{}").get("1", {"begun": None}) for text in self.disk.possible("start-1.json")]
+            self.assertEqual([start["begun"] for start in starts], [None])
+        elif call.name == "rename" and call.text == b"run":
+            tag = self.disk.text("run.new").split()[1]
+            self.assertIn(tag[:32], [line[:32] for line in self.disk.synced("start-1.history").splitlines()])
+            self.assertIsNotNone(json.loads(self.disk.text("start-1.json"))["1"]["party"])
+        elif call.name == "sendto" and b"confirm" in call.text:
+            self.assertEqual(int(self.disk.synced("work")), json.loads(call.text)["epoch"])
+
+    def test_syncs_of_the_member_in_c(self) -> None:
+        began = 0
+        for resets in (2, 0, 1):
+            calls = self.run_until_it_talks(resets)
+            first = next(place for place, call in enumerate(calls) if call.name == "sendto")
+            if began:
+                synced = {call.file for call in calls[:first] if call.name == "fsync"}
+                self.assertLessEqual({"work", "start-1.json", "start-1.history", "."}, synced)
+            for call in calls:
+                self.expect_synced_before(call)
+                self.disk.take(call)
+            began += sum(call.name == "rename" and call.text == b"work" for call in calls)
+        self.assertGreaterEqual(began, 4)
 
 
 class Vectors(OfLibrary):

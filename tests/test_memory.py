@@ -1,4 +1,5 @@
-"""Each allocation of a command is refused in turn: it ends as with ample memory, or says so and leaves all as it was."""
+"""Each allocation of a command is refused in turn: it ends as with ample memory, or reports OutOfMemory and leaves everything
+unchanged."""
 
 import os
 import pathlib
@@ -32,7 +33,7 @@ VIOLATED = world(4, [node(64, ABORT)])
 
 
 def unchanged(count: Callable[[], int]) -> int:
-    """What is counted once it has stayed the same for half a second."""
+    """A count once it has stayed the same for half a second."""
     now, same = count(), 0
     while same < 10:
         time.sleep(0.05)
@@ -65,7 +66,7 @@ class Memory(Case):
                 yield f"{words[0]}, {many} from {first} of {count}", ample, ended
 
     def expect_unchanged(self, wanted: Ended, *words: str, content: bytes) -> None:
-        """The command ends as wanted, or for lack of memory, and its file stays as it was."""
+        """The command ends as expected, or out of memory, and its file is unchanged."""
         path, told = self.path("store"), 0
         for where, ample, ended in self.each_refusal([words[0], path, *words[1:]], lambda: self.write("store", content)):
             self.assertEqual(ample, wanted)
@@ -89,7 +90,7 @@ class Memory(Case):
         self.expect_unchanged(faulted(1, "Violated"), "migrate", content=stores.store(VIOLATED))
 
     def test_a_migration(self) -> None:
-        """The store has version 1, and is as it was, or version 2: then it may be that the line was not printed."""
+        """The store has version 1, and is unchanged, or version 2: then the line may be missing."""
         content, path = stores.store(bodies=[batch(1, stores.add(1))]), self.path("store")
         for where, ample, ended in self.each_refusal(["migrate", path], lambda: self.write("store", content)):
             self.assertEqual(ample, Ended(0, "migrated 1\n", ""))
@@ -109,7 +110,7 @@ class Memory(Case):
                 self.assertIn(ran("check", store), CHECKED[2 * (ended == ample):], where)
 
     def expect_first_part(self, run: str) -> None:
-        """A drill prints a first part of what it prints with ample memory, in whole answers; or an answer tells what it lacks."""
+        """A drill prints a prefix of its output with ample memory, in whole answers; or an answer says that memory ran out."""
         given = worked_runs()[run].given
         for where, ample, ended in self.each_refusal(["drill"], lambda: None, given):
             self.assertEqual(ample.status, 0)
@@ -243,7 +244,7 @@ class Wave(Case):
         self.expect_end(FLUSHER, self.read(self.made(PAIR)), is_begun=False, least=20)
 
     def test_one_whose_workers_lack_memory(self) -> None:
-        """They take what is sent again at the start: the packet that the node in a reset has sent."""
+        """They receive the packets that are resent at the start: the packet that the node in a reset has sent."""
         self.expect_end(WORKERS, stores.store(IN_A_RESET), is_begun=True, least=1)
 
     def expect_end(self, threads: range, content: bytes, *, is_begun: bool, least: int) -> None:
@@ -404,7 +405,7 @@ class Kept(Case):
 
     @staticmethod
     def count_kept(server: Serving, count: Callable[[], int]) -> int:
-        """What is kept once a server waits for the next client."""
+        """The memory in use once a server waits for the next client."""
         server.ask({"op": "resend"})
         return unchanged(count)
 
@@ -441,7 +442,7 @@ class Kept(Case):
         self.expect_no_more(PROGRAM, self.write("store", stores.store(stores.longest_world(), version=2)), show)
 
     def test_of_a_connection_that_was_torn_off(self) -> None:
-        """By its client: in the midst of a line, before a reply, or before it was served."""
+        """By its client: in a line, before a reply, or before it was served."""
         lines = (b'{"op":', b'{"op":"show"}\n' * 20, b'{"op":"reset","client":1,"number":9,"node":1}\n' * 20)
 
         def leave(server: Serving, number: int) -> None:
@@ -495,7 +496,7 @@ class Kept(Case):
         self.assertLessEqual(descriptors[-1], descriptors[0] + 2, descriptors)
 
     def test_of_instances(self) -> None:
-        """Each connection has one of its own."""
+        """Each connection has its own."""
         def reset(server: Serving, number: int) -> None:
             with server.connect() as connection:
                 numbers = range(number * SHORT_STEPS + 1, (number + 1) * SHORT_STEPS + 1)

@@ -11,7 +11,7 @@ from support.stores import ring, topology
 
 
 class Orders(Served):
-    """Each kind of order, sent as it is, sent again, and refused."""
+    """Each kind of order, sent, sent again, and refused."""
 
     def test_an_order_of_each_kind_is_repeated(self) -> None:
         orders = [("add", {"node": 1, "group": 1}, DONE), ("add", {"node": 2, "group": 1}, DONE),
@@ -31,7 +31,7 @@ class Orders(Served):
             self.assertEqual(server.signals(), [(1, 1)])
 
     def test_each_kind_by_each_client(self) -> None:
-        """All in one packet; each client has nodes of its own, up to the greatest, and its own numbers."""
+        """All in one packet; each client has its own nodes, up to the greatest, and its own numbers."""
         with Serving(self.made("")) as server, server.connect() as connection:
             step = 0
             for client in range(1, 17):
@@ -154,7 +154,7 @@ class Orders(Served):
             self.assertEqual(connection.line(), b'{"count":0,"kind":"resent"}\n')
 
     def test_the_limit_of_a_line(self) -> None:
-        """A line of at most 512 bytes is read, be it an order, what is no order, or no JSON; a carriage return counts."""
+        """A line of at most 512 bytes is read, whether it is an order, another request, or no JSON; a carriage return counts."""
         order, unknown = b'{"op":"reset","client":1,"number":1,"node":1}', refused(6, "UnknownNode")
         with Serving(self.made("")) as server, server.connect() as connection:
             for behind in (b"\n", b"\r\n"):
@@ -221,7 +221,7 @@ class Stores(Served):
                      for place, (a, b) in enumerate(pairs)]
             content = stores.store(stores.world(1_000, rows, links), version)
             with self.subTest(version=version), Serving(self.write(f"store{version}", content)) as server:
-                # each is taken, where it was not, and its receipt clears it; nobody asks for it again meanwhile
+                # each is taken, unless it was before, and its receipt clears it; nobody asks for it again meanwhile
                 until("each packet", lambda: bool(server.show()["settled"] == 1_000 + 128 + 256))
                 self.assertEqual(server.ask({"op": "resend"}), {"count": 0, "kind": "resent"})
                 self.expect_closed(server, 0)

@@ -1,4 +1,4 @@
-"""Where output can't be written: `resetd: Write`, and what was done is done."""
+"""Unwritable output: `resetd: Write`, and the work is done all the same."""
 
 import contextlib
 import fcntl
@@ -116,7 +116,7 @@ class Unprinted(Case):
             self.assertEqual((waiting.wait(TIMEOUT), os.read(reader, 100)[-2:]), (0, b"3\n"))
 
     def is_free(self, name: str) -> bool:
-        """Whether a store of version 2 stands there that nobody has locked."""
+        """Whether the file is a store of version 2 that nobody has locked."""
         if ran("check", self.path(name)).printed != "legal 3\n" or stores.version_of(self.path(name)) != 2:
             return False
         with open(self.path(name), "rb") as file, contextlib.suppress(BlockingIOError):
@@ -133,7 +133,7 @@ class Unprinted(Case):
         self.assertEqual(by_shell(">/dev/full", "check", path), LOST)
 
     def test_a_store_does_not_take_the_place_of_a_stream(self) -> None:
-        """With some of them closed, what is printed goes nowhere, and not into the file of the store."""
+        """With some of them closed, output is discarded, and does not reach the file of the store."""
         content, topology_path = stores.store(), self.write("topology", PAIR)
         words: dict[str, list[str]] = {"init": [topology_path], "check": [], "show": [], "serve": ["127.0.0.1:0"]}
         for closed in ("<&- >&- 2>&-", ">&- 2>&-", "<&- >&-"):

@@ -61,7 +61,7 @@ class Overlaps(Served):
     takes = 5
 
     def ask(self, server: Serving, packets: list[list[int]], numbers: collections.Counter[int]) -> list[Asked]:
-        """Asks for a reset of each of these nodes, the nodes of a packet at once, each as a client of its own number."""
+        """Asks for a reset of each of these nodes, the nodes of a packet at once, each as a client with the node's number."""
         asked = []
         with server.connect() as connection:
             for nodes in packets:
@@ -191,7 +191,7 @@ class Searches(Case):
         self.assertEqual(found.returncode, 0, found.stdout)
 
     def test_wrong_rules(self) -> None:
-        for rule in ("pass_on_signals", "silent_child", "start_alone", "joined_when_ready"):
+        for rule in ("pass_on_signals", "silent_child", "start_alone", "joined_when_ready", "drop_starts"):
             found = self.search("overlap_search", "--rule", rule)
             self.assertEqual(found.returncode, 0, found.stdout)
 

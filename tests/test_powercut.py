@@ -48,7 +48,7 @@ class Cuts(Case):
         self.assertIn(sectors_of(0, A)[0], [self.left("stale", 512, seed).get(0) for seed in range(20)])
 
     def test_moments(self) -> None:
-        """A flush makes durable what was written before it; markers say what was answered."""
+        """A flush makes earlier writes durable; markers record answers."""
         log: list[Entry] = [("marker", "start"), ("write", 0, A), ("marker", "signal 3 7\nleast 12"), ("flush",), ("write", 0, B)]
         found = [(len(at.volatile), at.newly_durable, at.answered, dict(at.signalled), at.phase) for at in moments(log)]
         self.assertEqual(found[1:], [(1, {}, 0, {}, "start"), (1, {}, 12, {3: 7}, "start"), (0, sectors_of(0, A), 12, {3: 7}, "start"),
@@ -56,7 +56,7 @@ class Cuts(Case):
         self.assertEqual([len(at.volatile) for at in moments(log, has_flushes=False)], [0, 1, 1, 1, 2])
 
     def test_places(self) -> None:
-        """Where a run is cut."""
+        """The moments at which a run is cut."""
         log: list[Entry] = [("write", 0, A), ("marker", "start"), ("write", 0, B), ("marker", "killed"), ("flush",), ("marker", "least 9"),
                             ("write", 0, A), ("marker", "served")]
         self.assertEqual(Places().of(log, True), [1, 2, 3, 4, 5, 6, 7])
@@ -74,7 +74,7 @@ class Disks(Case):
     programs = ()
 
     def test_what_is_shown(self) -> None:
-        """An image is what is durable with some sectors over it; the base stays as it is."""
+        """An image is the durable bytes with some sectors over them; the base is unchanged."""
         disk = Disk(self.write("base", bytes(3 * SECTOR)))
         disk.settle({1: b"d" * SECTOR})
         disk.show({2: b"v" * SECTOR})

@@ -1,4 +1,4 @@
-"""The list of what is promised, what breaks it, and that one name means one thing."""
+"""The list of promises, the mutants that break them, and the rule that one name means one thing."""
 
 import os
 import pathlib
@@ -146,7 +146,7 @@ class Weakened(Copied):
 
 
 class Broken(Copied):
-    """From a row to the mutants that break what it cites, and back."""
+    """From a row to the mutants that break its clauses, and back."""
 
     EDITS = "refusals/coord_check.edits"
 
@@ -224,7 +224,7 @@ class Names(Copied):
         self.assertIn("next_size is defined in coord_commands.specs.Arguments and coord_ledger.specs.machine.Answers", said)
 
     def test_a_name_of_a_crate_aside(self) -> None:
-        """Two crates of which neither stands on the other may each have it."""
+        """Two crates that don't depend on each other may each have it."""
         copy = self.copy()
         self.define(copy, "crates/coord_member/specs/Rule.antt", "next_size")
         status, said = self.compare(copy, "names")

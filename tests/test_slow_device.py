@@ -1,4 +1,4 @@
-"""A device whose syncs take long: what is accepted and not yet settled shows in a count alone."""
+"""A device whose syncs take long: steps that are accepted but not settled show only in a count."""
 
 import sys
 import time
@@ -15,7 +15,7 @@ WAITED = 2  # seconds for callers, at most
 
 class Rests(Case):
     def test_orders_one_after_the_other(self) -> None:
-        """Where nothing fails, no thread rests for a time."""
+        """If nothing fails, no thread sleeps."""
         self.needs("a C compiler", preloaded.has_compiler())
         environment = preloaded.environment(self.folder, CALLS=self.path("calls"), WAITS=1)
         with Serving(self.made(ring(3)), env=environment) as server:
@@ -62,7 +62,7 @@ class SlowDevice(Case):
         self.assertEqual(resent, {"count": 1, "kind": "resent"})
 
     def in_a_flight(self, seconds: float) -> tuple[Answer, Answer] | None:
-        """What is shown and sent again while the second step of a reset waits: None where the machine was too busy."""
+        """The views and the resent packets while the second step of a reset waits: None if the machine was too busy."""
         with self.serving(topology([(1, 1), (2, 1)], [(1, 2)]), seconds) as server:
             self.assertEqual(server.order(1, "reset", node=1), {"kind": "started", "step": 4})
             with server.connect() as connection:
@@ -90,7 +90,7 @@ class SlowDevice(Case):
             self.assertEqual(server.close().status, 0)
 
     def test_callers_that_do_not_come_again(self) -> None:
-        """Callers are waited for as long as a sixteenth of their flight took, by a clock that is put forward in its midst."""
+        """Callers are waited for as long as a sixteenth of their flight took, by a clock that is advanced during it."""
         self.needs("a C compiler", preloaded.has_compiler())
         calls, clock = self.path("calls"), self.write("clock", bytes(8))
         settings = preloaded.environment(self.folder, SYNC_MILLIS=500, CALLS=calls, CLOCK=clock)
@@ -118,8 +118,8 @@ class SlowDevice(Case):
             self.assertEqual(sorted(signals + rest), [(node, 1) for node in range(1, 5)])
 
     def closed_in_a_wave(self, seconds: float) -> tuple[str, int, list[tuple[int, int]]]:
-        """A close after the order that begins a wave: the store, what was shown as accepted before it, and the signals. A wave
-        takes more flights than the one or two that a close settles; a machine that is too busy may be through with it before."""
+        """A close after the order that begins a wave: the store, the count of accepted steps shown before it, and the signals. A
+        wave takes more flights than the one or two that a close settles; on a machine that is too busy it may be over before."""
         with self.serving(ring(4), seconds) as server:
             self.assertEqual(server.order(1, "reset", node=1)["kind"], "started")
             accepted = server.show()["accepted"]

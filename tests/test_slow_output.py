@@ -1,4 +1,4 @@
-"""An output that is slow, that is left, and that is full in the midst: the server goes on."""
+"""An output that is slow, that is abandoned, and that fills up during the run: the server continues."""
 
 import os
 import subprocess

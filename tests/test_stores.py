@@ -1,4 +1,4 @@
-"""`check`, `show`, `migrate` and `serve` over stores of all kinds: what each prints, and what it leaves."""
+"""`check`, `show`, `migrate` and `serve` over stores of all kinds: the output of each, and the file after it."""
 
 import os
 import socket
@@ -87,7 +87,7 @@ ASKED = [node(1, ABORT, awaits=[2], version=2), node(2, version=2)]
 TOLD_OF_DISTANCES = [
     # a miscount comes before an Abort that carries 2 from distance 0, though it is of the other lane
     ("violated 2 1 A", world(4, ASKED, [link(1, 2, 3, (0, 0, [abort(2, 2)]), (0, 1, []))])),
-    # without it that Abort is told; 1 is right
+    # without it that Abort is reported; 1 is right
     ("violated 1 2 H", world(4, ASKED, [link(1, 2, 3, (0, 0, [abort(2, 2)]))])),
     ("legal 4", world(4, ASKED, [link(1, 2, 3, (0, 0, [abort(1, 2)]))])),
     # a child of node 1 at distance 2, which has acknowledged
@@ -228,7 +228,7 @@ class Checked(Case):
                     self.assertEqual(self.check(snapshot, version), Ended(int(line[0] == "v"), f"{line}\n", ""))
 
     def test_a_distance_that_differs(self) -> None:
-        """A distance is told after a fault of an earlier letter, though that is of the other end."""
+        """A distance is reported after a fault of an earlier letter, even at the other end."""
         rows = [node(2, ABORT, awaits=[64], version=2), node(64, version=2)]
         queue = (0, 0, [abort(3, 2)])
         self.assertEqual(self.check(world(4, rows, [link(2, 64, 3, queue)]), 2), Ended(1, "violated 2 64 H\n", ""))
@@ -300,7 +300,7 @@ class Migrated(Case):
         self.assertEqual((ran("migrate", path), self.read("store")), (Ended(0, "migrated 8\n", ""), raised))
 
     def store_of(self, steps: Sequence[bytes], snapshot: bytes = stores.EMPTY_WORLD, count: int = 0) -> str:
-        """A store of version 1 whose snapshot, after so many steps, is followed by these."""
+        """A store of version 1 whose snapshot, after this many steps, is followed by these."""
         bodies = [batch(number, step) for number, step in enumerate(steps, count + 1)]
         return self.write("store", stores.store(snapshot, bodies=bodies))
 
@@ -325,7 +325,7 @@ class Migrated(Case):
             self.assertEqual(self.read("store"), content)
 
     def test_a_node_in_a_reset(self) -> None:
-        """The least one is told, and nothing is written."""
+        """The lowest one is reported, and nothing is written."""
         for at, other in ((1, 2), (2, 1), (1, 64), (64, 1), (63, 64), (64, 63)):
             content = stores.store(in_reset(at, other))
             path = self.write("store", content)

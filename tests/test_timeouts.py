@@ -21,7 +21,7 @@ RESENT = b'{"count":0,"kind":"resent"}\n'
 
 
 def await_end(connection: Connection) -> bytes:
-    """Waits until the server has ended a connection: what it said meanwhile."""
+    """Waits until the server has ended a connection: its output meanwhile."""
     connection.socket.settimeout(SILENCE + LATE + 2)
     said = b""
     with contextlib.suppress(ConnectionResetError):
@@ -36,8 +36,8 @@ def ends_of(connection: Connection) -> tuple[int, int]:
 
 
 def kept(client: int, server: int) -> tuple[int, int] | None:
-    """How many bytes the system keeps of a connection, by its ports: of what the server has sent to a client that does not
-    read, and of what the client has sent and the server has not read. None where the connection is over."""
+    """How many bytes the system keeps for a connection, by its ports: those that the server has sent to a client that does not
+    read, and those that the client has sent and the server has not read. None if the connection is over."""
     with open("/proc/net/tcp", encoding="ascii") as rows:
         for row in rows:
             words = row.split()
@@ -48,7 +48,7 @@ def kept(client: int, server: int) -> tuple[int, int] | None:
 
 
 def backlog(client: int, server: int) -> int | None:
-    """The bytes that a client does not read; None where the connection is over."""
+    """The bytes that a client does not read; None if the connection is over."""
     sizes = kept(client, server)
     return sizes[0] if sizes else None
 
@@ -143,8 +143,8 @@ class Timeouts(Case):
             self.expect_within(LINE, begun, server)
 
     def test_each_part_of_a_reply_has_what_is_left(self) -> None:
-        """Before each write the system is told anew how long it may wait, so all that goes out byte by byte has no more time
-        than what goes out at once."""
+        """Before each write the system is told again how long it may wait, so output that goes byte by byte has as much time as
+        output that goes at once."""
         self.needs("a C compiler", preloaded.has_compiler())
         log = self.path("calls")
         environment = preloaded.environment(self.folder, CALLS=log, WAITS=1, PIECE=1)
@@ -159,8 +159,8 @@ class Timeouts(Case):
         self.assertEqual(told, ["write-within", "out"] * written)
 
     def test_the_times_that_the_system_is_told(self) -> None:
-        """Where a read or a write waits otherwise than the last one: of a line that has begun what is left of its time, and
-        not of a silence. The clock stands still, and is put forward by a second between two parts of what is sent."""
+        """If a read or a write has another timeout than the last one: the rest of the time of a line that has begun, not that of
+        a silence. The clock stands still, and is advanced by a second between two parts of the input."""
         self.needs("a C compiler", preloaded.has_compiler())
         log = self.path("calls")
         environment = preloaded.environment(self.folder, CALLS=log, WAITS=1, STILL=1, CLOCK=self.clock(0))
@@ -180,7 +180,7 @@ class Timeouts(Case):
             self.assertEqual(server.ended().status, 0)
 
     def expect_times(self, log: str, wanted: list[int]) -> None:
-        """Just these are told next, in seconds, a write's as a negative number."""
+        """Exactly these are set next, in seconds, a write's as a negative number."""
         def find_times() -> tuple[list[tuple[str, float]], int] | None:
             with open(log, encoding="ascii") as calls:
                 rows = [line.split(" ") for line in calls.readlines()[self.told:]]
@@ -286,8 +286,8 @@ class Timeouts(Case):
                 self.assertEqual(connection.line(), RESENT)
 
     def test_a_line_that_begins_before_the_reply_to_another(self) -> None:
-        """What the server does between two lines is not the client's time: a line whose beginning it read before it replied to
-        the one ahead has its time from that reply on. Each read takes six seconds here: one behind the reply leaves it time."""
+        """The server's work between two lines is not the client's time: a line whose beginning it read before it replied to the
+        one ahead has its time from that reply on. Each read takes six seconds here: one after the reply leaves it time."""
         self.needs("a C compiler", preloaded.has_compiler())
         order, half = b'{"op":"reset","client":1,"number":1,"node":1}\n', b'{"op":'
         with self.serving(env=preloaded.environment(self.folder, STILL=1, READ_SECONDS=6)) as server, \
@@ -301,8 +301,8 @@ class Timeouts(Case):
             self.assertEqual(connection.line(), RESENT)
 
     def test_lines_that_are_read_slowly(self) -> None:
-        """Each line has its own time, also where a server reads on for long before it replies: 250 orders, sent at once, are
-        answered by one to which each read takes a second."""
+        """Each line has its own time, even if the server reads for long before it replies: 250 orders, sent at once, are answered
+        by one whose reads take a second each."""
         self.needs("a C compiler", preloaded.has_compiler())
         orders: list[Answer] = [{"op": "reset", "client": 1, "number": number, "node": 1} for number in range(1, 251)]
         with self.serving(env=preloaded.environment(self.folder, STILL=1, READ_SECONDS=1)) as server, \
@@ -331,13 +331,13 @@ class Timeouts(Case):
             self.assertLessEqual(len(os.listdir(f"/proc/{server.process.pid}/fd")), len(descriptors) + 1)
 
     def expect_nothing(self, connection: Connection) -> None:
-        """For some time the server neither says anything nor ends the connection."""
+        """For some time the server prints nothing and keeps the connection."""
         connection.socket.settimeout(0.5)
         with self.assertRaises(TimeoutError):
             connection.socket.recv(1)
 
     def clock(self, ahead: int) -> str:
-        """Puts the server's clock ahead by so many seconds, and answers its file."""
+        """Advances the server's clock by this many seconds, and returns its file."""
         with open(self.path("clock"), "r+b" if os.path.exists(self.path("clock")) else "wb") as file:
             file.write(ahead.to_bytes(8, sys.byteorder))
         return self.path("clock")

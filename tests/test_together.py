@@ -38,8 +38,8 @@ class Together(Served):
         return Serving(self.made(topology), env=preloaded.environment(self.folder, CALLS=self.calls, WAITS=1))
 
     def expect_at_once(self) -> None:
-        """Nothing has waited for a time to pass, whatever time the machine has taken for all: by the times that threads
-        asked for. (A flusher waits for callers that it answered before, for a part of what their flight took.)"""
+        """Nothing has waited for a time to pass, however long the machine took: by the times that threads asked for. (A flusher
+        waits for callers that it answered before, for a part of their flight's duration.)"""
         waits = [line.split() for line in self.read("calls").splitlines() if line.startswith((b"rest ", b"waited "))]
         self.assertLess(sum(int(micros) for _, _, micros, *_ in waits) / 1e6, AT_ONCE, waits[:20])
 
@@ -62,8 +62,8 @@ class Together(Served):
                 self.assertEqual(connection.reply(), answered(FINISHED, 16 + number))
 
     def test_ten_orders_in_one_packet(self) -> None:
-        """They share a flight. A flusher that has not come to rest may take up the first ones by themselves: on a busy
-        machine that happens, but not with each of three packets."""
+        """They share a flight. A flusher that has not come to rest may commit the first ones alone: on a busy machine that
+        happens, but not with each of three packets."""
         with self.serving(ALONE) as server:
             self.resets(server, range(1, 2))
             packets = [range(first, first + 10) for first in (2, 12, 22)]
@@ -166,7 +166,7 @@ class Together(Served):
 
 
 class Refused(Served):
-    """Orders that come together, where the server is refused one allocation."""
+    """Orders that arrive together, while the server is refused one allocation."""
 
     takes = 30
 
@@ -256,7 +256,7 @@ class Refused(Served):
         self.assertGreater(lacked, 10)
 
     def answers(self, store: str, refusing: Refusing, asked: list[Answer], first: int) -> tuple[list[Answer], int, int]:
-        """What is answered over one connection, whose server's first thread is refused one allocation."""
+        """The answers over one connection, whose server's first thread is refused one allocation."""
         with self.started(store, refusing.environment(first, threads=FIRST_THREAD)) as server, server.connect() as connection:
             before = refusing.count()
             with contextlib.suppress(OSError):
@@ -268,8 +268,8 @@ class Refused(Served):
             return answers, before, behind
 
     def rests(self, store: str, refusing: Refusing, first: int) -> list[int] | None:
-        """Three orders, where 300 allocations are refused from this one on: for how many microseconds each rest was to last
-        until all of them were carried out. None if they were not, or before so many allocations were asked for."""
+        """Three orders, with 300 allocations refused from this one on: for how many microseconds each rest was to last until all
+        of them were carried out. None if they were not, or before that many allocations were asked for."""
         calls = self.write("calls", "")
         environment = preloaded.both(preloaded.environment(self.folder, CALLS=calls, WAITS=1), refusing.environment(first, 300))
         with Serving(store, env=environment) as server, server.connect() as connection:

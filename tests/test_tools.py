@@ -1,4 +1,4 @@
-"""The trials of tools/, the client library's tests, the demo and the documents, each as it is run by hand."""
+"""The trials of tools/, the client library's tests, the demo and the documents, each as a person runs it."""
 
 import contextlib
 import json
@@ -119,7 +119,7 @@ class Tools(Run):
         self.expect(tool("test_services"), "--program", PROGRAM, "--seconds", "300", "second-hand", ends_with="services lose no reset")
 
     def test_the_search_of_the_members_rule(self) -> None:
-        """The search ends with nothing left to try, and finds the mix where a part of the rule is left out."""
+        """The search ends with nothing left to try, and finds the mix if a part of the rule is left out."""
         search = [tool("member_search"), "--seconds", "800", "--about"]
         self.expect(*search, "links", ends_with="links, 3 members: nothing is mixed after 20 events, 12580 states")
         weaker = subprocess.run([*search, "readd", "--without", "dropped"], stdin=subprocess.DEVNULL, capture_output=True, text=True,
@@ -144,7 +144,7 @@ class Tools(Run):
         self.expect(tool("links"))
 
     def test_mutants_fit_the_sources(self) -> None:
-        """Each text that a mutant exchanges stands in the sources, and each killing test is a test."""
+        """Each text that a mutant replaces is in the sources, and each killing test is a test."""
         self.expect(os.path.join(ROOT, "refusals", "gather"), "--check")
 
     def test_types_of_all_programs(self) -> None:
@@ -171,11 +171,11 @@ class Tools(Run):
         self.expect(sys.executable, "-m", "unittest", "discover", "-v", "-s", "client/tests", ends_with="OK")
 
 
-class ShortLives(Run):
+class ShortInstances(Run):
     programs = ("RESETD_SHORT",)
 
-    def test_what_a_life_leaves_unanswered_is_asked_again(self) -> None:
-        """A life that ends may end a connection without an answer: the tools and the tests then ask again."""
+    def test_what_an_instance_leaves_unanswered_is_asked_again(self) -> None:
+        """An instance that ends may end a connection without an answer: the tools and the tests then ask again."""
         process = subprocess.Popen(["sleep", "600"])
         self.addCleanup(process.wait)
         self.addCleanup(process.kill)
@@ -196,8 +196,8 @@ class ShortLives(Run):
                 if number % 2:
                     connection.sendall(b'{"settled":1}\n')
 
-    def test_kills_between_lives(self) -> None:
-        self.expect(tool("soak"), "--lives", "32", "--program", SHORT, "--rounds", "10", ends_with="nothing was lost")
+    def test_kills_between_instances(self) -> None:
+        self.expect(tool("soak"), "--instances", "32", "--program", SHORT, "--rounds", "10", ends_with="nothing was lost")
 
 
 class Services(Run):

@@ -1,4 +1,4 @@
-"""The tests of tests/units, each in a process of its own; they are one program, which is built without any proof."""
+"""The tests of tests/units, each in its own process; they are one program, which is built without any proof."""
 
 import os
 import re
@@ -10,7 +10,7 @@ from support.program import ROOT
 
 PROGRAM = os.environ.get("RESETD_UNITS", "")
 FOLDER = f"{ROOT}/tests/units"
-# Without the variable the program waits. It chooses a mutant where the build has some.
+# Without the variable the program waits. It chooses a mutant if the build has some.
 ENVIRONMENT = {**os.environ, "MUTANT": os.environ.get("MUTANT", "0")}
 TEST = re.compile(r"^#\[test\]\nfn (\w+)", re.MULTILINE)
 

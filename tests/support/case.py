@@ -28,8 +28,8 @@ def until(what: str, holds: Callable[[], T | Literal[False] | None], seconds: fl
 
 
 class Case(unittest.TestCase):
-    """`takes` is about how many seconds it takes: the longest test begins first. Within `most` seconds it has to end, even
-    on a busy machine. `program` is what it runs, and `programs` are the variables that name what has to be built for it."""
+    """`takes` is about how many seconds it takes: the longest test begins first. Within `most` seconds it must end, even on a
+    busy machine. `program` is what it runs, and `programs` are the variables that name the required builds."""
 
     maxDiff = 2_000
     takes = 1

@@ -31,8 +31,8 @@ class Orders(ctypes.Structure):
 
 
 class Told(NamedTuple):
-    """What a judgement says: what is due, at which epoch, the text for the file of the start, the line that the history
-    gets, and where in the history it goes."""
+    """A judgement: the due action, its epoch, the text for the file of the start, the line for the history, and the line's
+    offset."""
 
     due: str
     epoch: int

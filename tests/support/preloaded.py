@@ -243,7 +243,7 @@ def has_compiler() -> bool:
 
 
 def compile_library(folder: str) -> str:
-    """The library, in this folder, where it stands from the first time on."""
+    """The library, in this folder, where it is from the first time on."""
     if os.path.exists(f"{folder}/preloaded.so"):
         return f"{folder}/preloaded.so"
     with open(f"{folder}/preloaded.c", "w", encoding="ascii") as file:

@@ -13,7 +13,7 @@ SHORT_STEPS = 32
 TIMEOUT = 600  # seconds within which a command has to end, on a busy machine too
 
 class Ended(NamedTuple):
-    """How a command ended: its exit status, what it printed, and what it told as a fault."""
+    """How a command ended: its exit status, its output, and its fault."""
 
     status: int
     printed: str

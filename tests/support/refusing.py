@@ -116,7 +116,7 @@ __attribute__((constructor)) static void begin(void) {
 
 
 def places(program: str, names: list[str]) -> list[int]:
-    """Where these functions stand in a program, by the table of names in its file."""
+    """The addresses of these functions in a program, by the symbol table of its file."""
     with open(program, "rb") as file:
         text = file.read()
     at, size, count = struct.unpack_from("<Q", text, 40)[0], *struct.unpack_from("<HH", text, 58)
@@ -143,7 +143,7 @@ class Refusing:
         subprocess.run(["cc", "-O1", "-shared", "-fPIC", "-o", f"{folder}/refusing.so", f"{folder}/refusing.c"], check=True)
 
     def environment(self, first: int = 0, many: int = 1, threads: range = ALL_THREADS) -> dict[str, str]:
-        """What a program's environment is to have, so that so many allocations are refused from this number on, of those of
+        """The variables of a program's environment with which this many allocations are refused from this number on, of those of
         these threads."""
         settings = {"COUNTED_FROM": threads[0], "COUNTED_TO": threads[-1] + 1,
                     "ALLOC_AT": self.alloc, "REALLOC_AT": self.realloc, "DEALLOC_AT": self.dealloc,
@@ -169,13 +169,13 @@ class Refusing:
             return struct.unpack("=5q", file.read())
 
     def refuse(self, first: int, many: int) -> None:
-        """From now on refuses so many allocations from this number on to the program of that environment."""
+        """From now on refuses this many allocations from this number on to the program of that environment."""
         with open(f"{self.folder}/allocations", "r+b") as file:
             file.seek(16)
             file.write(struct.pack("=2q", first, many))
 
     def ran(self, *words: str, first: int = 0, many: int = 1, given: bytes = b"") -> tuple[Ended, int]:
-        """Runs the program, so many of whose allocations are refused from this number on: how it ended, and how many
-        allocations it asked for."""
+        """Runs the program and refuses this many of its allocations from this number on: how it ended, and how many allocations
+        it asked for."""
         environment = {**os.environ, **self.environment(first, many)}
         return ran(*words, program=self.program, env=environment, given=given), self.count()

@@ -19,7 +19,7 @@ FOLDER = os.path.join(os.path.dirname(os.path.dirname(os.path.abspath(__file__))
 
 
 class Run(NamedTuple):
-    """A worked run: what is read, and what is printed."""
+    """A worked run: its input and its output."""
 
     name: str
     given: bytes

@@ -1,4 +1,4 @@
-"""What is looked for in what a server has printed, and how its answers look."""
+"""Checks of a server's output, and of the form of its answers."""
 
 from .case import Case
 from .program import ran
@@ -30,7 +30,7 @@ class Served(Case):
             self.assertEqual([epoch for node, epoch in signals if node == row[0]], list(range(1, row[4] + 1)))
 
     def expect_closed(self, server: Serving, signals: int) -> None:
-        """The server ends in order, having printed its first line and so many signals, and leaves a store that opens."""
+        """The server ends in order, having printed its first line and this many signals, and leaves a store that opens."""
         ended = server.close()
         self.assertEqual((ended.status, ended.told, len(ended.printed.splitlines())), (0, "", 1 + signals))
         checked = ran("check", server.store)

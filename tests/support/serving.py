@@ -12,7 +12,7 @@ from .case import until
 from .program import TIMEOUT, PROGRAM, SHORT, Ended
 
 
-# What goes over a connection: a line that is read as JSON, and one that is written so, or as it is.
+# A value sent over a connection: a line that is read as JSON, and one that is written as JSON, or unchanged.
 Answer = dict[str, Any]
 Request = Answer | bytes
 
@@ -33,7 +33,7 @@ class Connection:
         self.socket.sendall(b"".join(map(spelled, requests)))
 
     def line(self) -> bytes:
-        """The next line, as it came: nothing where the server has ended the connection."""
+        """The next line, unchanged: nothing if the server has ended the connection."""
         while b"\n" not in self.came:
             if not (more := self.socket.recv(65_536)):
                 return b""
@@ -82,9 +82,9 @@ def sleeps(process: int) -> bool:
 
 
 class Serving:
-    """`resetd serve` over a store, whose output goes to a file. It is killed at the end, unless it has ended. One whose
-    instances are short may end a connection before a line is answered, since workers make an instance old too: what is asked over a
-    connection of its own is then asked again."""
+    """`resetd serve` over a store, whose output goes to a file. It is killed at the end, unless it has ended. One whose instances
+    are short may end a connection before a line is answered, since workers make an instance old too: a request over its own
+    connection is then sent again."""
 
     def __init__(self, store: str, program: str | None = None, address: str = "127.0.0.1:0",
                  env: Mapping[str, str] | None = None, before: Sequence[str] = (), output: str | None = None,
@@ -139,7 +139,7 @@ class Serving:
         return Connection(self.address, buffer)
 
     def ask(self, request: Request) -> Answer:
-        """The answer to one request, over a connection of its own."""
+        """The answer to one request, over a new connection."""
         return until("an answer", lambda: self.answer_in_instance(request)) if self.has_short_instances else self.answer(request)
 
     def answer(self, request: Request) -> Answer:
@@ -167,7 +167,7 @@ class Serving:
         return self.ask({"op": "show"})
 
     def await_quiet(self, epoch: int | None = None) -> None:
-        """Waits until each node is ready, in this epoch where one is given, with nothing on its way."""
+        """Waits until each node is ready, in this epoch if one is given, with nothing in transit."""
         def quiet() -> bool:
             rows = self.show()["nodes"]
             return all(row[2] == "ready" and row[4] == (row[4] if epoch is None else epoch) for row in rows) and \
@@ -182,7 +182,7 @@ class Serving:
         return self.ended()
 
     def ended(self, seconds: float = TIMEOUT) -> Ended:
-        """Waits for its end: its status, what it printed, and its fault."""
+        """Waits for its end: its status, its output, and its fault."""
         status = self.process.wait(timeout=seconds)
         with open(self.errors, encoding="utf-8") as errors:
             return Ended(status, "".join(f"{line}\n" for line in self.lines()), errors.read())

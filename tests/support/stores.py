@@ -25,7 +25,7 @@ def topology(nodes: Iterable[tuple[int, int]], links: Iterable[tuple[int, int]] 
 
 
 def ring(nodes: int, half: int = HALF) -> str:
-    """The text of a ring of so many nodes of one group."""
+    """The text of a ring of this many nodes of one group."""
     return topology([(node, 1) for node in range(1, nodes + 1)],
                     [(node, node % nodes + 1) for node in range(1, nodes + 1)], half)
 
@@ -57,7 +57,7 @@ def client(number: int, last: int, command: bytes, step: int, kind: int = 0) -> 
 
 
 def world(count: int, nodes: Sequence[bytes], links: Sequence[bytes] = (), clients: Sequence[bytes] = ()) -> bytes:
-    """A world of so many steps."""
+    """A world of this many steps."""
     return wide(count) + b"".join(bytes([len(rows)]) + b"".join(rows) for rows in (nodes, links, clients))
 
 
@@ -90,8 +90,8 @@ def batch(first: int, *steps: bytes) -> bytes:
 
 
 def at_the_limits(version: int, nodes: Sequence[bytes], queue: Callable[[int, int], Sequence[bytes]]) -> bytes:
-    """A world of as many steps, nodes, links and clients as there can be: a ring of which each node is linked to the next and
-    the next but one. What was taken of each lane is one more than its base."""
+    """A world of as many steps, nodes, links and clients as possible: a ring of which each node is linked to the next and the
+    next but one. Of each lane one more message was taken than its base."""
     links = []
     for a in range(1, 65):
         for b in range(a, 65):

@@ -154,3 +154,5 @@ class World:
                 self.acknowledged(u)
             elif node.mode == CONVERGE and was_parent:
                 self.finish(u)
+            elif node.mode == READY and self.near(u) and self.rule == "drop_starts":
+                self.wave(u, -1, self.near(u), 0)

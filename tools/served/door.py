@@ -23,7 +23,7 @@ NODES = range(1, 65)
 HALF = 32_768
 # The other members are in Python. All leave the numbers of their orders to the front.
 OF_C, OF_GO = range(1, 8), range(8, 15)
-# Of a text what is replaced, and by what.
+# A replaced part of a text, and its replacement.
 Exchanges = Sequence[tuple[str, str]]
 # Adds to the state of the member in Go a count of its starts.
 COUNTS_STARTS: Exchanges = [
@@ -33,12 +33,12 @@ START_SECONDS = 120  # within which a process of the door starts, on a busy mach
 
 
 class Failed(Exception):
-    """The door did not do what it has to."""
+    """The door violated a requirement."""
 
 
 @dataclass(frozen=True)
 class Programs:
-    """What is run: the coordinator, and the members in C and in Go."""
+    """The programs: the coordinator, and the members in C and in Go."""
 
     coordinator: str
     of_c: str
@@ -110,7 +110,7 @@ class Front:
         self.process.wait()
 
     def ask(self, **request: Any) -> dict[str, Any]:
-        """The answer to a line of its own connection. Raises Away where none came."""
+        """The answer to a line over a new connection. Raises Away if none came."""
         try:
             with socket.socket(socket.AF_UNIX) as connection:
                 connection.settimeout(START_SECONDS)
@@ -134,7 +134,7 @@ def read_tail(path: str) -> str:
 
 
 class Members:
-    """A process for each node. One that ends by itself is a fault."""
+    """A process for each node. One that ends early is a fault."""
 
     def __init__(self, folder: str, programs: Programs, front: Front) -> None:
         self._folder, self._programs, self._front = folder, programs, front
@@ -203,7 +203,7 @@ class Door:
         self.start_server()
 
     def cut_power(self) -> None:
-        """The coordinator's power is cut: what it had answered is there."""
+        """The coordinator's power is cut: its earlier answers are there."""
         self.server.process.kill()
         self.server.process.wait()
         self.device.cut()

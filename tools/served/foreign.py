@@ -130,7 +130,7 @@ class Rule:
         """The member orders something. It may send the order that it had in hand when it died again, with its number."""
         line = tuple(sorted(order.items()))
         asked: Order = (order["op"], order.get("node"), order.get("epoch") if order["op"] == "confirm" else None)
-        is_again = line in self.asked and not any(asked in guess.fit(self.view) for guess in self.guesses)
+        is_again = "number" in order and line in self.asked and not any(asked in guess.fit(self.view) for guess in self.guesses)
         self.asked.add(line)
         if is_again or order.get("op") == "confirm" and order.get("epoch") == 0:
             return  # or it looks for its count

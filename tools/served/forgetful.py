@@ -1,4 +1,4 @@
-"""A device that forgets what was not synced when the power is cut, as the calls of a server tell of it."""
+"""A device that forgets unsynced bytes when the power is cut, by the calls of a server."""
 
 import os
 import random

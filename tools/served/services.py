@@ -25,7 +25,7 @@ OPERATOR, RESETCTL = 16, 14  # clients that no member has, and the front has not
 
 
 class Failed(Exception):
-    """A trial did not do what it has to."""
+    """A trial failed."""
 
 
 class Words(argparse.Namespace):
