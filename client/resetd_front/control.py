@@ -183,11 +183,12 @@ async def served(words: argparse.Namespace) -> None:
             stack.callback(Signals(words.signals, front.signalled).close)
         process = Process(words, front)
         stack.callback(process.listeners.close)
-        process.listen()
-        page = await process.show() if words.page else None
+        # before any line says that it listens: whoever has read it may signal this process
         for number in (signal.SIGTERM, signal.SIGINT):
             loop.add_signal_handler(number, ended.set)
         loop.add_signal_handler(signal.SIGHUP, process.reload)
+        process.listen()
+        page = await process.show() if words.page else None
         audit.note("starts")
         audit.write()
         tell_manager("READY=1")

@@ -126,14 +126,20 @@ class Front:
     def start(self) -> None:
         with open(self.errors, "ab") as errors:
             begin = errors.tell()
-            self.process = subprocess.Popen(self._words, stdin=subprocess.DEVNULL, stdout=subprocess.DEVNULL, stderr=errors)
+            self.spawn(errors.fileno())
 
         def began() -> bool:
-            assert self.process
-            if self.process.poll() is not None:
+            if self.has_ended():
                 raise AssertionError(f"the front ended: {self.said()}")
             return "listening unix:" in self.said(begin) and self.listens(begin)
         until("a front that listens", began)
+
+    def spawn(self, errors: int) -> None:
+        """Starts the process, with this file as its standard error, and does not wait until it listens."""
+        self.process = subprocess.Popen(self._words, stdin=subprocess.DEVNULL, stdout=subprocess.DEVNULL, stderr=errors)
+
+    def has_ended(self) -> bool:
+        return self.process is not None and self.process.poll() is not None
 
     def listens(self, begin: int) -> bool:
         """Whether it listens at each address that it was given."""

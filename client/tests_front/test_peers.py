@@ -6,6 +6,7 @@ import contextlib
 import functools
 import os
 import random
+import select
 import shutil
 import socket
 import ssl
@@ -18,6 +19,7 @@ import unittest
 from typing import Any
 
 from case import DEADLINE, USER, Case, Client, until
+from resetd_front.access_list import let_in
 
 POLICY = """
 [[allow]]
@@ -54,6 +56,14 @@ os.execv(sys.argv[3], sys.argv[3:])
 PYTHON = "/usr/bin/python3" if os.path.exists("/usr/bin/python3") else sys.executable  # which other users can run
 SHOW, WATCH, RESET_1, RESET_2 = '{"op":"show"}', '{"op":"watch"}', '{"op":"reset","node":1}', '{"op":"reset","node":2}'
 DENIED = '{"fault":"NotAllowed"}\n'
+
+
+def has_access_lists(folder: str) -> bool:
+    """Whether the file system of a folder keeps access lists."""
+    with tempfile.NamedTemporaryFile(dir=folder) as file, contextlib.suppress(OSError):
+        let_in(file.name, [0])
+        return True
+    return False
 
 
 class Ruled(Case):
@@ -114,7 +124,7 @@ class Users(Ruled):
         self.assertEqual(self.ask_as("mail", "mail", SHOW), "no connection")
         self.assertIn('"kind"', self.ask_as("root", "root", RESET_1))
 
-
+    @unittest.skipUnless(has_access_lists("/tmp"), "it needs access lists: of files in /tmp")
     def test_several_groups_may_connect(self) -> None:
         """The socket has one group, and an entry of its access list for each other one."""
         self.open_folder()
@@ -149,6 +159,27 @@ class Reloads(Ruled):
         self.front.await_audited("a line of it", lambda line: line["event"] == "policy" and line["why"] == "it was read")
         self.assertEqual(client.ask(op="reset", node=1)["kind"], "started")
         self.assertEqual(client.ask(op="show"), {"fault": "NotAllowed"})
+
+    def test_a_reload_as_soon_as_it_listens(self) -> None:
+        """The signal comes while its first line waits for room in a full pipe."""
+        self.front = self.started("--policy", self.policy)
+        self.front.kill()
+        os.remove(self.front.path)
+        reading, writing = os.pipe()
+        self.addCleanup(os.close, reading)
+        os.set_blocking(writing, False)
+        with contextlib.suppress(BlockingIOError):
+            while True:
+                os.write(writing, bytes(select.PIPE_BUF))
+        os.set_blocking(writing, True)
+        self.front.spawn(writing)
+        os.close(writing)
+        until("its socket", lambda: os.path.exists(self.front.path))
+        self.front.reload()
+        while (read := os.read(reading, select.PIPE_BUF)) and not read.strip(b"\0"):
+            pass
+        until("a reload", lambda: self.front.has_ended() or any(line["event"] == "policy" for line in self.front.audited()))
+        self.assertFalse(self.front.has_ended(), "the signal ended it")
 
     def test_it_does_not_begin_with_a_broken_policy(self) -> None:
         self.write("[[allow]]\n")
@@ -246,9 +277,9 @@ class Certificates(Ruled):
         return [line for line in self.front.audited() if line["event"] == "handshake"]
 
     def test_each_does_what_its_rules_allow(self) -> None:
-        client = self.connected("service2")
+        client, watcher = self.connected("service2"), self.connected("service2")
         self.assertIn("nodes", client.ask(op="show"))
-        self.assertIn("nodes", client.ask(op="watch"))
+        self.assertIn("nodes", watcher.ask(op="watch"))
         self.assertEqual(client.ask(op="reset", node=2), {"fault": "NotAllowed"})
         self.assertEqual(client.ask(op="confirm", node=1, epoch=1), {"fault": "NotAllowed"})
         self.assertEqual(client.ask(op="confirm", node=2, epoch=1), {"name": "BadEpoch", "refused": 15})
@@ -362,11 +393,12 @@ for _inherited in [name for name in dir(Certificates) if name.startswith("test_"
 
 
 def namespaces() -> bool:
-    """Whether this process may make network namespaces."""
+    """Whether this process may make network namespaces, run programs in one, and make a pair of devices there."""
     name = f"resetd-{os.getpid()}"
+    tries = (["netns", "add", name], ["netns", "exec", name, "true"], ["-n", name, "link", "add", "wire", "type", "veth", "peer", "name", "other"])
     with contextlib.suppress(FileNotFoundError):
-        if subprocess.run(["ip", "netns", "add", name], capture_output=True, check=False).returncode == 0:
-            return subprocess.run(["ip", "netns", "del", name], capture_output=True, check=False).returncode == 0
+        can = [subprocess.run(["ip", *words], capture_output=True, check=False).returncode == 0 for words in tries]
+        return subprocess.run(["ip", "netns", "del", name], capture_output=True, check=False).returncode == 0 and all(can)
     return False
 
 
@@ -380,7 +412,7 @@ connection.sendall(line.encode() + b"\\n"); print(connection.makefile("rb").read
 """
 
 
-@unittest.skipUnless(namespaces(), "optional: it needs network namespaces")
+@unittest.skipUnless(namespaces(), "optional: it needs network namespaces: with veth devices")
 class Hosts(Certificates):
     """Two hosts, as network namespaces: the server and the front on one, a service on the other."""
 
