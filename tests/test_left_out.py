@@ -1,4 +1,4 @@
-"""The lines of `tests/run` about missing things."""
+"""The lines that `tests/run` prints last: about missing things, and about failures."""
 
 import os
 import subprocess
@@ -51,3 +51,10 @@ class LeftOut(Case):
         self.note_skipped(ran.stderr)
         within, self.skipped_within = self.skipped_within, []
         self.assertEqual(sorted(lacking(within)), ["a thing", *["a thing's part"] * 2])
+
+    def test_each_failure_is_named(self) -> None:
+        """With those within it: here the tests of a front whose program is missing."""
+        lines = self.run_tests("test_front.Front.test_the_audit")
+        self.assertRegex(lines[1], r"^failed: test_front\.Front\.test_the_audit: test_audit\.Written\.test_a_file_that_is_moved, test_audit\.Written\.")
+        self.assertNotIn("test_audit.Files.", lines[1])
+        self.assertEqual(lines[3], "0 passed, 1 failed")

@@ -22,25 +22,37 @@ from resetd_client.party import digest_of, tag_of  # noqa: E402
 from served import faults  # noqa: E402
 from served.server import Server  # noqa: E402
 
+FIRST_FAILURE = f"\n{'=' * 70}\n"  # in the output of unittest
+
+
+def failures_in(printed: str) -> str:
+    """The failed tests in the output of unittest, with their tracebacks; the end of any other output."""
+    begin = printed.find(FIRST_FAILURE)
+    return printed[begin:begin + 8_000] if begin >= 0 else printed[-3_000:]
+
 
 class Run(Case):
     takes = 60
     most = 3_600
 
     def expect(self, *words: str, ends_with: str = "") -> str:
-        """The command ends well, and its last line begins so."""
+        """The command ends well in time, and its last line begins so."""
         run = subprocess.Popen(words, stdin=subprocess.DEVNULL, stdout=subprocess.PIPE, stderr=subprocess.STDOUT, text=True,
                                cwd=ROOT, env={**os.environ, "RESETD": PROGRAM, "TMPDIR": self.folder},
                                start_new_session=True)
+        is_late = False
         try:
             printed = run.communicate(timeout=self.most - 30)[0]
+        except subprocess.TimeoutExpired as late:
+            is_late, printed = True, (late.stdout or b"").decode(errors="replace")
         finally:
             # with all that it has started
             with contextlib.suppress(ProcessLookupError):
                 os.killpg(run.pid, signal.SIGKILL)
             run.wait()
         self.note_skipped(printed)
-        self.assertEqual(run.returncode, 0, printed[-3_000:])
+        self.assertFalse(is_late, f"it did not end within {self.most - 30} s: {failures_in(printed)}")
+        self.assertEqual(run.returncode, 0, failures_in(printed))
         self.assertTrue(printed.splitlines()[-1].startswith(ends_with), printed[-1_000:])
         return printed
 
