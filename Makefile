@@ -133,7 +133,7 @@ install: $(PROGRAM) $(if $(wildcard lib/libresetd_member.so),install-lib)
 	install -m 755 examples/account examples/hello examples/hello.sh examples/one_for_all $(SHARE)/examples/
 	install -m 644 examples/pair.toml $(SHARE)/examples/
 	install -d $(SHARE)/examples/members
-	install -m 644 examples/members/plain_member.go $(SHARE)/examples/members/
+	install -m 644 $(addprefix examples/members/,plain_member.go front.go files.go) $(SHARE)/examples/members/
 	for unit in resetd-member@.service resetd-front.service; do sed 's|/usr/local/|$(PREFIX)/|' examples/$$unit > $(SHARE)/examples/$$unit; done
 	ln -sfn ../share/resetd/client/resetctl $(DESTDIR)$(PREFIX)/bin/resetctl
 	ln -sfn ../share/resetd/client/resetd-front $(DESTDIR)$(PREFIX)/bin/resetd-front

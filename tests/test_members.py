@@ -420,6 +420,18 @@ class Made(Case):
                          self.library())
 
 
+    def make_in_rust(self) -> str:
+        return self.make("rustc", "--edition", "2024", "-O", "-o", self.path("member"), "member.rs", "-L", os.path.dirname(self.library()),
+                         "-l", "static=resetd_member")
+
+    def make_in_go_with_the_library(self) -> str:
+        return self.make_in_go("member.go", "resetd_member.go", "front.go", "files.go",
+                               env={"CGO_CFLAGS": f"-I{HEADER}", "CGO_LDFLAGS": self.library()})
+
+    def make_in_plain_go(self) -> str:
+        return self.make_in_go("plain_member.go", "front.go", "files.go", env={"CGO_ENABLED": "0"})
+
+
 class InOtherLanguages(Made):
     """Whole members, each before a front, which tools/try_member leads through the table of docs/SERVICES.md."""
 
@@ -444,16 +456,13 @@ class InOtherLanguages(Made):
         self.keeps_the_rule(self.make_in_c(), "{node}", "{front}", "{folder}")
 
     def test_rust(self) -> None:
-        member = self.make("rustc", "--edition", "2024", "-O", "-o", self.path("member"), "member.rs", "-L", os.path.dirname(self.library()),
-                           "-l", "static=resetd_member")
-        self.keeps_the_rule(member, "{node}", "{host}", "{port}", "{folder}")
+        self.keeps_the_rule(self.make_in_rust(), "{node}", "{front}", "{folder}")
 
     def test_go(self) -> None:
-        member = self.make_in_go("member.go", "resetd_member.go", env={"CGO_CFLAGS": f"-I{HEADER}", "CGO_LDFLAGS": self.library()})
-        self.keeps_the_rule(member, "{node}", "{host}", "{port}", "{folder}")
+        self.keeps_the_rule(self.make_in_go_with_the_library(), "{node}", "{front}", "{folder}")
 
     def test_go_without_the_library(self) -> None:
-        self.keeps_the_rule(self.make_in_go("plain_member.go", env={"CGO_ENABLED": "0"}), "{node}", "{front}", "{folder}")
+        self.keeps_the_rule(self.make_in_plain_go(), "{node}", "{front}", "{folder}")
 
 
 class Durable(Made):

@@ -132,8 +132,8 @@ class Shipped(Case):
             self.skipTest("it needs Go")
         folders = {name: f"{self.folder}/{name}" for name in ("GOCACHE", "GOPATH", "GOTMPDIR")}
         os.mkdir(folders["GOTMPDIR"])
-        subprocess.run(["go", "build", "-o", f"{self.folder}/member", f"{ROOT}/examples/members/plain_member.go"], check=True, capture_output=True,
-                       env={**os.environ, **folders, "CGO_ENABLED": "0"}, timeout=600)
+        subprocess.run(["go", "build", "-o", f"{self.folder}/member", "plain_member.go", "front.go", "files.go"], check=True, capture_output=True,
+                       cwd=f"{ROOT}/examples/members", env={**os.environ, **folders, "CGO_ENABLED": "0"}, timeout=600)
         self.expect_member(self.run_as_service3(f"{self.folder}/member", "3", self.address, f"{self.folder}/3"))
 
     def test_the_member_in_c(self) -> None:

@@ -1,153 +1,111 @@
-// A member in Go, by resetd_member.go and docs/SERVICES.md, at the server's port, with the files of member.c and `orders`.
+// A member in Go, through a front, by resetd_member.go and docs/SERVICES.md, with the files of member.c.
 //
-// usage: member NODE HOST PORT FOLDER    (made by CGO_LDFLAGS=-lresetd_member go build member.go resetd_member.go)
+// usage: member NODE unix:PATH|tls:HOST:PORT|HOST:PORT FOLDER
+//
+//	(made by CGO_LDFLAGS=-lresetd_member go build member.go resetd_member.go front.go files.go)
 package main
 
 import (
-	"bufio"
 	"bytes"
 	"fmt"
-	"log"
-	"net"
 	"os"
-	"time"
+	"strconv"
 )
 
-var node uint8
-var address, startFile, historyFile string
-
-func check(err error) {
-	if err != nil {
-		log.Fatal(err)
-	}
+// Member has what resetd_judge takes besides the view.
+type Member struct {
+	node                   uint8
+	boot                   []byte  // the name of this boot
+	work                   *uint64 // the epoch of the work, nil for none
+	start                  []byte  // the start as JudgeShow takes it
+	startFile, historyFile string
+	isStartRead            bool // this process has not written the start file yet
 }
 
-func must[T any](value T, err error) T { check(err); return value }
-
-func read(path string) []byte { // no bytes, where there is no file
-	text, err := os.ReadFile(path)
-	if !os.IsNotExist(err) {
-		check(err)
+// writeStart replaces the start file. The first write of a process is always synced: after a power cut the text of an earlier version,
+// which counts in any boot, must not come back.
+func (member *Member) writeStart(text []byte, isSynced bool) {
+	if isSynced || member.isStartRead {
+		keep(member.startFile, text)
+	} else {
+		put(member.startFile, text)
 	}
-	return text
+	member.isStartRead = false
 }
 
-func sync(file *os.File) { check(file.Sync()); check(file.Close()) }
-
-func writeAt(path string, at int64, text []byte) { // in the place of all behind it
-	file := must(os.OpenFile(path, os.O_WRONLY|os.O_CREATE, 0o666))
-	check(file.Truncate(at))
-	must(file.WriteAt(text, at))
+// appendHistory replaces all that comes after the first bytes of the history by a line, which is on the disk when it returns.
+func (member *Member) appendHistory(size int64, line []byte) {
+	file := must(os.OpenFile(member.historyFile, os.O_WRONLY|os.O_CREATE, 0o666))
+	check(file.Truncate(size))
+	must(file.WriteAt(line, size))
 	sync(file)
-	sync(must(os.Open(".")))
-}
-
-func keep(path string, text []byte) { // as a whole, and on the disk
-	writeAt(path+".new", 0, text)
-	check(os.Rename(path+".new", path))
-	sync(must(os.Open(".")))
-}
-
-func ask(line string) (answer []byte) { // over a connection of its own; the library refuses a torn answer, and none
-	if port, err := net.DialTimeout("tcp", address, 20*time.Second); err == nil {
-		defer port.Close()
-		port.SetDeadline(time.Now().Add(20 * time.Second))
-		port.Write([]byte(line))
-		answer, _ = bufio.NewReader(port).ReadBytes('\n')
-	}
-	return answer
-}
-
-func settle(orders *Orders) { // the same line until there is an answer; where the count is lost, all numbers
-	for count := uint64(0); ; {
-		inHand := orders.InHand
-		keep("orders", []byte(fmt.Sprintln(orders.Last, inHand.Op, inHand.A, inHand.B, inHand.Epoch)))
-		if inHand.Op == 0 {
-			return
-		}
-		meaning, err := orders.Hear(ask(string(must(orders.Line(node)))))
-		if err != nil || meaning == SendAgain {
-			time.Sleep(500 * time.Millisecond)
-		} else if meaning == CountLost {
-			orders.Last, count = count, count+1
-		}
+	if size == 0 {
+		sync(must(os.Open(".")))
 	}
 }
 
-func order(op uint8, epoch uint64) {
-	var orders Orders
-	wanted, inHand := Order{Op: op, A: node, Epoch: epoch}, &orders.InHand
-	fmt.Sscan(string(read("orders")), &orders.Last, &inHand.Op, &inHand.A, &inHand.B, &inHand.Epoch)
-	isSame := *inHand == wanted
-	settle(&orders) // one that had no answer comes first; if it is the same, it counts as this one
-	if !isSame {
-		check(orders.WriteDown(wanted))
-		settle(&orders)
-	}
-}
-
-func begin(epoch uint64) { // "nothing begun" is on the disk
+// begin drops the work and begins an epoch. The start file says on the disk that nothing is begun.
+func (member *Member) begin(epoch uint64) {
 	keep("work", []byte(fmt.Sprintln(epoch))) // the common start itself would stand here
-	keep(startFile, must(Begun(node, epoch)))
-	fmt.Printf("member %d: starts anew, epoch %d\n", node, epoch)
-	order(Confirm, epoch)
+	member.work = &epoch
+	member.writeStart(must(Loaded(member.node, epoch, member.boot)), false)
+	member.start = must(Begun(member.node, epoch))
+	fmt.Printf("member %d: starts anew, epoch %d\n", member.node, epoch)
 }
 
-func talk(epoch uint64, show []byte) {
-	tag, refused := must(TagOf(show, node, read(startFile), nil)), bytes.TrimSpace(read("refused"))
-	if run := fmt.Sprintln(epoch, tag); string(read("run")) != run {
-		keep("run", []byte(run))
-	}
-	os.Remove("refused")
-	if AreParted(tag, refused) {
-		order(OrderReset, 0)
-	}
+// talk publishes the run, and returns whether a message was refused whose sender can't come to the same run.
+func (member *Member) talk(epoch uint64, view []byte) bool {
+	tag := must(TagOf(view, member.node, member.start, nil))
+	put("run", []byte(fmt.Sprintln(epoch, tag)))
+	return AreParted(tag, []byte(takeRefused()))
 }
 
-func look() {
-	work, show := new(uint64), ask("{\"op\":\"show\"}\n")
-	if _, err := fmt.Sscan(string(read("work")), work); err != nil {
-		work = nil
-	}
-	judged, err := JudgeShow(show, node, read(startFile), read(historyFile), work)
-	if err != BadLine && judged.Due != Talk {
+// judge does what a view asks for, and returns the order to send, if any.
+func (member *Member) judge(view []byte) string {
+	judged, err := JudgeShow(view, member.node, member.start, read(member.historyFile), member.work)
+	if err != nil || judged.Due != Talk {
 		os.Remove("run")
 	}
-	if err == BadLine || err == NoNode {
-		return // no answer or a torn one; or the node is not there
+	if err == NoNode {
+		return ""
 	}
 	check(err)
 	if len(judged.Line) > 0 {
-		writeAt(historyFile, judged.HistorySize, judged.Line)
+		member.appendHistory(judged.HistorySize, judged.Line)
 	}
 	if len(judged.Start) > 0 {
-		keep(startFile, judged.Start)
+		member.writeStart(judged.Start, judged.Due == Begin)
+		member.start = judged.Start
 	}
-	if judged.Due == Begin {
-		begin(judged.Epoch)
-	} else if judged.Due == Reset {
-		order(OrderReset, 0)
-	} else if judged.Due == Talk {
-		talk(judged.Epoch, show)
+	switch {
+	case judged.Due == Begin:
+		member.begin(judged.Epoch)
+		return fmt.Sprintf(`{"op":"confirm","node":%d,"epoch":%d}`, member.node, judged.Epoch)
+	case judged.Due == Reset, judged.Due == Talk && member.talk(judged.Epoch, view):
+		return fmt.Sprintf(`{"op":"reset","node":%d,"epoch":%d}`, member.node, judged.Epoch)
 	}
+	return ""
+}
+
+// load syncs the member's files, since the previous process may have been killed before its sync, and reads them.
+func (member *Member) load() {
+	for _, path := range []string{"work", member.startFile, member.historyFile, "."} {
+		if file, err := os.Open(path); err == nil {
+			sync(file)
+		}
+	}
+	member.boot = bytes.TrimSpace(read("/proc/sys/kernel/random/boot_id"))
+	if epoch, err := strconv.ParseUint(string(bytes.TrimSpace(read("work"))), 10, 64); err == nil {
+		member.work = &epoch
+	}
+	member.start = must(Carried(member.node, read(member.startFile), member.boot))
+	member.isStartRead = true
 }
 
 func main() {
-	if len(os.Args) != 5 {
-		log.Fatal("usage: member NODE HOST PORT FOLDER")
-	}
-	must(fmt.Sscan(os.Args[1], &node))
-	address = net.JoinHostPort(os.Args[2], os.Args[3])
-	startFile, historyFile = fmt.Sprintf("start-%d.json", node), fmt.Sprintf("start-%d.history", node)
-	check(os.MkdirAll(os.Args[4], 0o777))
-	check(os.Chdir(os.Args[4]))
-	for _, path := range []string{"work", startFile, historyFile, "orders", "."} {
-		if file, err := os.Open(path); err == nil {
-			sync(file) // what is there lasts: whoever wrote it may have been killed before its sync
-		}
-	}
-	os.Remove("run") // before the first look nothing is known
-	for ; ; time.Sleep(300 * time.Millisecond) {
-		look()
-	}
+	node, address := enter()
+	member := Member{startFile: fmt.Sprintf("start-%s.json", node), historyFile: fmt.Sprintf("start-%s.history", node)}
+	must(fmt.Sscan(string(node), &member.node))
+	member.load()
+	follow(address, member.judge)
 }

@@ -1,154 +1,231 @@
-// A member in Rust, by resetd_member.rs and docs/SERVICES.md, at the server's port, with the files of member.c and `orders`.
+// A member in Rust, through a front, by resetd_member.rs and docs/SERVICES.md, with the files of member.c.
 //
-// usage: member NODE HOST PORT FOLDER    (made by rustc -O member.rs -L FOLDER_OF_THE_LIBRARY -l static=resetd_member)
-use std::fs::{self, File, OpenOptions};
+// usage: member NODE unix:PATH|HOST:PORT FOLDER    (made by rustc -O member.rs -L FOLDER_OF_THE_LIBRARY -l static=resetd_member)
+use std::fs::{self, File, OpenOptions, TryLockError};
 use std::io::{BufRead, BufReader, ErrorKind, Read, Result, Write};
 use std::net::TcpStream;
-use std::os::unix::fs::FileExt;
+use std::os::unix::{fs::FileExt, net::UnixStream};
 use std::{env, process, thread, time::Duration};
 
 mod resetd_member;
 use resetd_member::*;
 
-struct Member { node: u8, address: String }
+const SECOND: Duration = Duration::from_secs(1);
+const SILENT_SECONDS: u32 = 45; // a front that is there sends a view every 15 seconds
+const WATCH: &str = "{\"op\":\"watch\"}\n";
+const SHOW: &str = "{\"op\":\"show\"}\n";
 
 /// What a call put into its room.
 fn text(call: impl FnOnce(*mut u8, usize, &mut usize) -> u32) -> Vec<u8> {
     let (mut out, mut length) = (vec![0; MOST_TEXT], 0);
     assert_eq!(call(out.as_mut_ptr(), out.len(), &mut length), OK);
-    out[..length].to_vec()
+    out.truncate(length);
+    out
 }
 
-/// The bytes of a file; none, where there is no file.
-fn read(path: &str) -> Result<Vec<u8>> { fs::read(path).or_else(|why| if why.kind() == ErrorKind::NotFound { Ok(Vec::new()) } else { Err(why) }) }
+/// A call's result; none if there is no such file.
+fn if_there<T>(result: Result<T>) -> Result<Option<T>> {
+    match result {
+        Err(why) if why.kind() == ErrorKind::NotFound => Ok(None),
+        result => result.map(Some),
+    }
+}
 
-/// Writes behind the first bytes of a file, in the place of all that is there; then it is on the disk.
+/// The bytes of a file; none if there is no file.
+fn read(path: &str) -> Result<Vec<u8>> { Ok(if_there(fs::read(path))?.unwrap_or_default()) }
+
+/// Syncs a file or a folder, if it is there.
+fn sync(path: &str) -> Result<()> { if_there(File::open(path))?.map_or(Ok(()), |file| file.sync_all()) }
+
+/// Replaces all that comes after the first bytes of a file.
 fn write_at(path: &str, size: usize, bytes: &[u8]) -> Result<()> {
     let file = OpenOptions::new().write(true).create(true).truncate(false).open(path)?;
     file.set_len(size as u64)?;
-    file.write_all_at(bytes, size as u64)?;
-    file.sync_all()?;
-    File::open(".")?.sync_all()
+    file.write_all_at(bytes, size as u64)
 }
 
-/// Replaces a file as a whole; then it is on the disk.
-fn keep(path: &str, bytes: &[u8]) -> Result<()> {
-    write_at(&format!("{path}.new"), 0, bytes)?;
-    fs::rename(format!("{path}.new"), path)?;
-    File::open(".")?.sync_all()
+/// Replaces a file as a whole, durably if it is to be synced.
+fn replace(path: &str, bytes: &[u8], is_synced: bool) -> Result<()> {
+    let new_path = format!("{path}.new");
+    fs::write(&new_path, bytes)?;
+    if is_synced { sync(&new_path)? }
+    fs::rename(&new_path, path)?;
+    if is_synced { sync(".") } else { Ok(()) }
 }
 
-fn numbers(bytes: &[u8]) -> Vec<u64> {
-    String::from_utf8_lossy(bytes).split_whitespace().filter_map(|word| word.parse().ok()).collect()
+/// Holds the folder while the file is open, so that no other process is this member.
+fn lock(folder: &str) -> Result<File> {
+    let lock = OpenOptions::new().write(true).create(true).truncate(false).open("lock")?;
+    match lock.try_lock() {
+        Err(TryLockError::WouldBlock) => {
+            eprintln!("process {} works with {folder}", String::from_utf8_lossy(&read("lock")?).trim());
+            process::exit(1);
+        }
+        result => result?,
+    }
+    write_at("lock", 0, format!("{}\n", process::id()).as_bytes())?;
+    Ok(lock)
+}
+
+/// The tag that was refused last. One that replaces it meanwhile is left for the next call.
+fn take_refused() -> Result<Vec<u8>> {
+    if_there(fs::rename("refused", "refused.taken"))?;
+    let tag = read("refused.taken")?;
+    if_there(fs::remove_file("refused.taken"))?;
+    Ok(tag.trim_ascii().to_vec())
+}
+
+trait Connection: Read + Write {}
+impl<T: Read + Write> Connection for T {}
+
+/// Connects. A read takes at most a second.
+fn connect(address: &str) -> Result<BufReader<Box<dyn Connection>>> {
+    let connection: Box<dyn Connection> = if let Some(path) = address.strip_prefix("unix:") {
+        let connection = UnixStream::connect(path)?;
+        connection.set_read_timeout(Some(SECOND))?;
+        Box::new(connection)
+    } else {
+        let connection = TcpStream::connect(address)?;
+        connection.set_read_timeout(Some(SECOND))?;
+        Box::new(connection)
+    };
+    Ok(BufReader::new(connection))
+}
+
+/// Sends a line. If the connection has ended, the next read reports it.
+fn send(front: &mut BufReader<Box<dyn Connection>>, line: &str) { let _ = front.get_mut().write_all(line.as_bytes()); }
+
+struct Member {
+    node: u8,
+    boot: Vec<u8>, // the name of this boot
+    work: Work,
+    start: Vec<u8>, // as resetd_judge takes it
+    start_file: String,
+    history_file: String,
+    is_start_read: bool, // this process has not written the start file yet
 }
 
 impl Member {
-    /// The answer to a line, over a connection of its own; no bytes, where there was none.
-    fn ask(&self, line: &[u8]) -> Vec<u8> {
-        let mut answer = Vec::new();
-        let _ = TcpStream::connect(&self.address).and_then(|mut port| {
-            port.set_read_timeout(Some(Duration::from_secs(20)))?;
-            port.write_all(line)?;
-            BufReader::new(port.take(1 << 16)).read_until(b'\n', &mut answer)
+    /// Syncs the member's files, since the previous process may have been killed before its sync, and reads them.
+    fn load(node: u8) -> Result<Member> {
+        let (start_file, history_file) = (format!("start-{node}.json"), format!("start-{node}.history"));
+        for path in ["work", &start_file, &history_file, "."] { sync(path)? }
+        let boot = fs::read("/proc/sys/kernel/random/boot_id")?.trim_ascii().to_vec();
+        let epoch = String::from_utf8_lossy(&read("work")?).trim().parse();
+        let kept = read(&start_file)?;
+        let start = text(|out, room, length| unsafe {
+            resetd_carried(node, kept.as_ptr(), kept.len(), boot.as_ptr(), boot.len(), out, room, length)
         });
-        if answer.ends_with(b"\n") { answer } else { Vec::new() }
+        let work = Work { is_there: epoch.is_ok(), epoch: epoch.unwrap_or(0) };
+        Ok(Member { node, boot, work, start, start_file, history_file, is_start_read: true })
     }
 
-    /// Sends the same line until there is an answer, and all numbers where the count is lost.
-    fn settle(&self, orders: &mut Orders) -> Result<()> {
-        let mut is_lost = false;
-        loop {
-            let Order { op, a, b, epoch } = orders.in_hand;
-            keep("orders", format!("{} {op} {a} {b} {epoch}\n", orders.last).as_bytes())?;
-            if op == 0 { return Ok(()) }
-            let line = text(|out, room, length| unsafe { resetd_order_line(orders, self.node, out, room, length) });
-            let (answer, mut meaning) = (self.ask(&line), 0);
-            match (unsafe { resetd_hear(orders, answer.as_ptr(), answer.len(), &mut meaning) }, meaning) {
-                (OK, DONE | NOT_DONE) => {}
-                (OK, COUNT_LOST) => (orders.last, is_lost) = (if is_lost { orders.last + 1 } else { 0 }, true),
-                _ => thread::sleep(Duration::from_millis(500)),
-            }
-        }
+    /// Replaces the start file. The first write of a process is always synced: after a power cut the text of an earlier version, which
+    /// counts in any boot, must not come back.
+    fn write_start(&mut self, bytes: &[u8], is_synced: bool) -> Result<()> {
+        replace(&self.start_file, bytes, is_synced || self.is_start_read)?;
+        self.is_start_read = false;
+        Ok(())
     }
 
-    /// One that had no answer comes first; if it is the same, it counts as this one.
-    fn order(&self, op: u8, epoch: u64) -> Result<()> {
-        let (mut orders, wanted) = (Orders::default(), Order { op, a: self.node, b: 0, epoch });
-        if let [last, op, a, b, epoch] = numbers(&read("orders")?)[..] {
-            orders = Orders { last, in_hand: Order { op: op as u8, a: a as u8, b: b as u8, epoch } };
-        }
-        let is_same = orders.in_hand == wanted;
-        self.settle(&mut orders)?;
-        if is_same || unsafe { resetd_write_down(&mut orders, &wanted) } != OK { Ok(()) } else { self.settle(&mut orders) }
-    }
-
-    /// "Nothing begun" is on the disk.
-    fn begin(&self, epoch: u64) -> Result<()> {
-        keep("work", format!("{epoch}\n").as_bytes())?; // the common start itself would stand here
-        let begun = text(|out, room, length| unsafe { resetd_begun(self.node, epoch, out, room, length) });
-        keep(&format!("start-{}.json", self.node), &begun)?;
+    /// Drops the work and begins an epoch. The start file says on the disk that nothing is begun.
+    fn begin(&mut self, epoch: u64) -> Result<()> {
+        replace("work", format!("{epoch}\n").as_bytes(), true)?; // the common start itself would stand here
+        self.work = Work { is_there: true, epoch };
+        let loaded = text(|out, room, length| unsafe {
+            resetd_loaded(self.node, epoch, self.boot.as_ptr(), self.boot.len(), out, room, length)
+        });
+        self.write_start(&loaded, false)?;
+        self.start = text(|out, room, length| unsafe { resetd_begun(self.node, epoch, out, room, length) });
         println!("member {}: starts anew, epoch {epoch}", self.node);
-        self.order(CONFIRM, epoch)
+        Ok(())
     }
 
-    fn talk(&self, epoch: u64, view: &[u8]) -> Result<()> {
-        let start = read(&format!("start-{}.json", self.node))?;
+    /// Publishes the run. Returns whether a message was refused whose sender can't come to the same run.
+    fn talk(&self, epoch: u64, view: &[u8]) -> Result<bool> {
         let tag = text(|out, room, length| unsafe {
-            resetd_tag(view.as_ptr(), view.len(), self.node, start.as_ptr(), start.len(), b"".as_ptr(), 0, out, room, length)
+            resetd_tag(view.as_ptr(), view.len(), self.node, self.start.as_ptr(), self.start.len(), b"".as_ptr(), 0, out, room, length)
         });
-        let run = format!("{epoch} {}\n", if tag.is_empty() { "-" } else { std::str::from_utf8(&tag).unwrap() });
-        if read("run")? != run.as_bytes() { keep("run", run.as_bytes())? }
-        let refused = read("refused")?.trim_ascii().to_vec();
-        let _ = fs::remove_file("refused");
-        let is_parted = unsafe { resetd_are_parted(tag.as_ptr(), tag.len(), refused.as_ptr(), refused.len()) };
-        if is_parted { self.order(ORDER_RESET, 0) } else { Ok(()) }
+        let name = if tag.is_empty() { "-".into() } else { String::from_utf8_lossy(&tag) };
+        replace("run", format!("{epoch} {name}\n").as_bytes(), false)?;
+        let refused = take_refused()?;
+        Ok(unsafe { resetd_are_parted(tag.as_ptr(), tag.len(), refused.as_ptr(), refused.len()) })
     }
 
-    fn look(&self) -> Result<()> {
-        let (start_file, history_file) = (format!("start-{}.json", self.node), format!("start-{}.history", self.node));
-        let (start, history, work) = (read(&start_file)?, read(&history_file)?, numbers(&read("work")?));
-        let work = Work { is_there: !work.is_empty(), epoch: work.first().copied().unwrap_or(0) };
-        let (view, mut out, mut judged) = (self.ask(b"{\"op\":\"show\"}\n"), vec![0; MOST_TEXT], Judged::default());
-        let (show, room) = ((view.as_ptr(), view.len()), (out.as_mut_ptr(), out.len()));
-        let files = (start.as_ptr(), start.len(), history.as_ptr(), history.len());
-        let status = unsafe { resetd_judge(show.0, show.1, self.node, files.0, files.1, files.2, files.3, &work, room.0, room.1, &mut judged) };
-        if status != BAD_LINE && (status != OK || judged.due != TALK) {
-            let _ = fs::remove_file("run");
-        }
-        if matches!(status, BAD_LINE | NO_NODE) {
-            return Ok(()); // no answer or a torn one; or the node is not there
-        }
-        assert_eq!(status, OK, "a file does not read");
+    /// Does what a view asks for. Returns the order to send.
+    fn judge(&mut self, view: &[u8]) -> Result<Option<String>> {
+        let (history, mut out, mut judged) = (read(&self.history_file)?, vec![0; MOST_TEXT], Judged::default());
+        let status = unsafe {
+            resetd_judge(view.as_ptr(), view.len(), self.node, self.start.as_ptr(), self.start.len(), history.as_ptr(), history.len(),
+                &self.work, out.as_mut_ptr(), out.len(), &mut judged)
+        };
+        if status != OK || judged.due != TALK { if_there(fs::remove_file("run"))?; }
+        if status == NO_NODE { return Ok(None) }
+        assert_eq!(status, OK, "a view or a file does not read");
         let (start, line) = out[..judged.start_length + judged.line_length].split_at(judged.start_length);
-        if !line.is_empty() { write_at(&history_file, judged.history_size, line)? }
-        if !start.is_empty() { keep(&start_file, start)? }
-        match judged.due {
-            TALK => self.talk(judged.epoch, &view),
-            BEGIN => self.begin(judged.epoch),
-            RESET => self.order(ORDER_RESET, 0),
-            _ => Ok(()),
+        if !line.is_empty() {
+            write_at(&self.history_file, judged.history_size, line)?;
+            sync(&self.history_file)?;
+            if judged.history_size == 0 { sync(".")? }
         }
+        if !start.is_empty() {
+            self.write_start(start, judged.due == BEGIN)?;
+            self.start = start.to_vec();
+        }
+        if judged.due == BEGIN { self.begin(judged.epoch)? }
+        let op = match judged.due {
+            BEGIN => "confirm",
+            RESET => "reset",
+            TALK if self.talk(judged.epoch, view)? => "reset",
+            _ => return Ok(None),
+        };
+        Ok(Some(format!("{{\"op\":\"{op}\",\"node\":{},\"epoch\":{}}}\n", self.node, judged.epoch)))
+    }
+
+    /// Watches, and judges each view, until the connection ends.
+    fn follow(&mut self, mut front: BufReader<Box<dyn Connection>>) -> Result<()> {
+        let (mut line, mut silence, mut is_ordered) = (Vec::new(), 0, false);
+        send(&mut front, WATCH);
+        while silence < SILENT_SECONDS {
+            match front.read_until(b'\n', &mut line) {
+                Err(why) if why.kind() == ErrorKind::WouldBlock => {
+                    silence += 1;
+                    if fs::exists("refused")? { send(&mut front, SHOW) }
+                    continue;
+                }
+                Ok(_) if line.ends_with(b"\n") => silence = 0,
+                _ => return Ok(()),
+            }
+            if !line.starts_with(b"{\"accepted\":") { // the answer to the order: judge a view from after it
+                let answer = String::from_utf8_lossy(&line);
+                assert!(!answer.starts_with("{\"fault\":") || answer.contains("OutOfMemory"), "the front answers {answer}");
+                is_ordered = false;
+                send(&mut front, SHOW);
+            } else if !is_ordered { // otherwise the view may be older than the order
+                if let Some(order) = self.judge(&line)? {
+                    is_ordered = true;
+                    send(&mut front, &order);
+                }
+            }
+            line.clear();
+        }
+        Ok(())
     }
 }
 
 fn main() -> Result<()> {
     let words: Vec<String> = env::args().collect();
-    let [_, node, host, port, folder] = &words[..] else {
-        eprintln!("usage: member NODE HOST PORT FOLDER");
+    let [_, node, address, folder] = &words[..] else {
+        eprintln!("usage: member NODE unix:PATH|HOST:PORT FOLDER");
         process::exit(2);
     };
     fs::create_dir_all(folder)?;
     env::set_current_dir(folder)?;
-    // what is there lasts: whoever wrote, renamed or removed it may have been killed before its sync
-    for path in ["work", &format!("start-{node}.json"), &format!("start-{node}.history"), "orders", "."] {
-        if let Ok(file) = File::open(path) {
-            file.sync_all()?;
-        }
-    }
-    let _ = fs::remove_file("run"); // before the first look nothing is known
-    let member = Member { node: node.parse().expect("a node"), address: format!("{host}:{port}") };
+    let _lock = lock(folder)?;
+    let mut member = Member::load(node.parse().expect("a node"))?;
+    if_there(fs::remove_file("run"))?; // before the first view nothing is known
     loop {
-        member.look()?;
+        if let Ok(front) = connect(address) { member.follow(front)? }
         thread::sleep(Duration::from_millis(300));
     }
 }

@@ -71,11 +71,32 @@ func JudgeShow(show []byte, node uint8, start, history []byte, work *uint64) (Ju
 	return Judged{Due(judged.due), uint64(judged.epoch), text, line, int64(judged.history_size)}, nil
 }
 
-// Begun is the text for the file of the start, once the common start is on the disk.
-func Begun(node uint8, epoch uint64) ([]byte, error) {
-	out, length := make([]byte, C.RESETD_MOST_TEXT), C.size_t(0)
-	err := failure(C.resetd_begun(C.uint8_t(node), C.uint64_t(epoch), at(out), size(out), &length))
+// A call that puts a text into the room that it is given.
+func textOf(room int, call func(out *C.uint8_t, room C.size_t, length *C.size_t) C.uint32_t) ([]byte, error) {
+	out, length := make([]byte, room), C.size_t(0)
+	err := failure(call(at(out), size(out), &length))
 	return out[:length], err
+}
+
+// Begun is the text of the start that JudgeShow takes, once the common start is on the disk.
+func Begun(node uint8, epoch uint64) ([]byte, error) {
+	return textOf(C.RESETD_MOST_TEXT, func(out *C.uint8_t, room C.size_t, length *C.size_t) C.uint32_t {
+		return C.resetd_begun(C.uint8_t(node), C.uint64_t(epoch), out, room, length)
+	})
+}
+
+// Loaded is that for the file of the start, which counts in the boot of this name.
+func Loaded(node uint8, epoch uint64, boot []byte) ([]byte, error) {
+	return textOf(C.RESETD_MOST_TEXT, func(out *C.uint8_t, room C.size_t, length *C.size_t) C.uint32_t {
+		return C.resetd_loaded(C.uint8_t(node), C.uint64_t(epoch), at(boot), size(boot), out, room, length)
+	})
+}
+
+// Carried is what the file of the start says in the boot of this name, as JudgeShow takes it.
+func Carried(node uint8, start, boot []byte) ([]byte, error) {
+	return textOf(C.RESETD_MOST_TEXT, func(out *C.uint8_t, room C.size_t, length *C.size_t) C.uint32_t {
+		return C.resetd_carried(C.uint8_t(node), at(start), size(start), at(boot), size(boot), out, room, length)
+	})
 }
 
 // Tag names the run of a start; one without bytes is none.
@@ -90,10 +111,9 @@ func (t Tag) String() string {
 
 // TagOf is the tag of a start that is due to talk.
 func TagOf(show []byte, node uint8, start, word []byte) (Tag, error) {
-	out, length := make([]byte, C.RESETD_MOST_TAG), C.size_t(0)
-	err := failure(C.resetd_tag(at(show), size(show), C.uint8_t(node), at(start), size(start), at(word), size(word),
-		at(out), size(out), &length))
-	return out[:length], err
+	return textOf(C.RESETD_MOST_TAG, func(out *C.uint8_t, room C.size_t, length *C.size_t) C.uint32_t {
+		return C.resetd_tag(at(show), size(show), C.uint8_t(node), at(start), size(start), at(word), size(word), out, room, length)
+	})
 }
 
 // IsSameRun says whether a message with the tag other is of the run of own, the receiver's.
@@ -104,67 +124,4 @@ func IsSameRun(own, other Tag) bool {
 // AreParted says whether no look can bring two tags together.
 func AreParted(own, other Tag) bool {
 	return bool(C.resetd_are_parted(at(own), size(own), at(other), size(other)))
-}
-
-const (
-	OrderReset uint8 = C.RESETD_ORDER_RESET
-	Confirm    uint8 = C.RESETD_CONFIRM
-)
-
-// Order is an order; one whose op is 0 is none.
-type Order struct {
-	Op, A, B uint8
-	Epoch    uint64
-}
-
-func (o Order) c() C.struct_resetd_order {
-	return C.struct_resetd_order{op: C.uint8_t(o.Op), a: C.uint8_t(o.A), b: C.uint8_t(o.B), epoch: C.uint64_t(o.Epoch)}
-}
-
-// Orders is the order book.
-type Orders struct {
-	Last   uint64
-	InHand Order
-}
-
-func (o Orders) c() C.struct_resetd_orders {
-	return C.struct_resetd_orders{last: C.uint64_t(o.Last), in_hand: o.InHand.c()}
-}
-
-func (o *Orders) take(orders C.struct_resetd_orders) {
-	inHand := orders.in_hand
-	*o = Orders{uint64(orders.last), Order{uint8(inHand.op), uint8(inHand.a), uint8(inHand.b), uint64(inHand.epoch)}}
-}
-
-// WriteDown writes an order down under the next number.
-func (o *Orders) WriteDown(order Order) error {
-	orders, wanted := o.c(), order.c()
-	err := failure(C.resetd_write_down(&orders, &wanted))
-	o.take(orders)
-	return err
-}
-
-// Line is what has to be sent for the order in hand.
-func (o Orders) Line(client uint8) ([]byte, error) {
-	orders, out, length := o.c(), make([]byte, C.RESETD_MOST_LINE), C.size_t(0)
-	err := failure(C.resetd_order_line(&orders, C.uint8_t(client), at(out), size(out), &length))
-	return out[:length], err
-}
-
-// Meaning is what an answer says of the order in hand.
-type Meaning C.uint32_t
-
-const (
-	Done      Meaning = C.RESETD_DONE
-	NotDone   Meaning = C.RESETD_NOT_DONE
-	SendAgain Meaning = C.RESETD_SEND_AGAIN
-	CountLost Meaning = C.RESETD_COUNT_LOST
-)
-
-// Hear hears the answer to the line that was sent last.
-func (o *Orders) Hear(line []byte) (Meaning, error) {
-	orders, meaning := o.c(), C.uint32_t(0)
-	err := failure(C.resetd_hear(&orders, at(line), size(line), &meaning))
-	o.take(orders)
-	return Meaning(meaning), err
 }

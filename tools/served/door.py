@@ -59,12 +59,16 @@ def build_members(folder: str, library: str, coordinator: str, exchanges: Exchan
         if text.count(old) != 1:
             raise Failed(f"{text.count(old)} places of plain_member.go have {old!r}")
         text = text.replace(old, new)
-    with open(f"{folder}/of_go.go", "w", encoding="utf-8") as file:
+    sources = f"{folder}/of_go.source"
+    os.mkdir(sources)
+    with open(f"{sources}/plain_member.go", "w", encoding="utf-8") as file:
         file.write(text)
+    for name in ("front.go", "files.go"):
+        shutil.copy(f"{examples}/{name}", sources)
     subprocess.run(["cc", "-O1", "-I", include, "-o", programs.of_c, f"{examples}/member.c", f"{library}/libresetd_member.a"], check=True)
     folders = {name: f"{folder}/{name.lower()}" for name in ("GOCACHE", "GOPATH", "GOTMPDIR")}
     os.mkdir(folders["GOTMPDIR"])
-    subprocess.run(["go", "build", "-o", programs.of_go, f"{folder}/of_go.go"], check=True,
+    subprocess.run(["go", "build", "-o", programs.of_go, "plain_member.go", "front.go", "files.go"], check=True, cwd=sources,
                    env={**os.environ, **folders, "CGO_ENABLED": "0"})
     return programs
 
