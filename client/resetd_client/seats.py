@@ -20,6 +20,7 @@ from __future__ import annotations
 
 import os
 import re
+from contextlib import suppress
 
 from . import files
 from .changes import Changes, State, state_of
@@ -114,12 +115,15 @@ class Seat:
         return line_of(self._begun.read()) == f"lost {told}"
 
     def take_refused(self) -> str | None:
-        """The tag that the member refused last, since the last call."""
+        """The tag that the member refused last, since the last call. The file is renamed before it is read, so that a tag that replaces it
+        meanwhile is left for the next call."""
         path = os.path.join(self.folder, "refused")
-        text = files.read(path)
+        with suppress(FileNotFoundError):
+            os.rename(path, f"{path}.taken")
+        text = files.read(f"{path}.taken")
         if text is None:
             return None
-        os.remove(path)
+        os.remove(f"{path}.taken")
         return text.strip()
 
     def _take_away_earlier_files(self) -> bool:

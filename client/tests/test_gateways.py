@@ -18,6 +18,7 @@ from case import Case, in_memory, over_both
 from pushing import of_unix
 from resetd_client import AtFront, Away, BadWords, Clock, Gateway, Port, Served, View, Wake, keep, patiently, read
 from resetd_client.following import DOUBT_SECONDS
+from resetd_client.files import put
 from resetd_client.gateway import GATHER_SECONDS
 from resetd_client.seats import Board, Seat
 from resetd_client.since import boot_name
@@ -160,6 +161,22 @@ class Seats(unittest.TestCase):
         self.tell("1 1", f" a-b {boot_name()}")
         self.assertEqual((self.served.takes("a-c"), self.seat.take_refused()), (True, None))
         self.assertEqual((self.served.takes("x-c"), self.seat.take_refused(), self.seat.take_refused()), (False, "x-c", None))
+
+    def test_a_refused_tag_that_replaces_another_one_as_that_is_taken(self) -> None:
+        """None is lost."""
+        self.begin("1 1")
+        self.tell("1 1", f" a-b {boot_name()}")
+        self.served.takes("x-c")
+        later = ["y-d"]
+
+        def read_as_another_comes(path: str) -> str | None:
+            text = read(path)
+            if "refused" in path and later:
+                put(f"{self.folder}/1/refused", f"{later.pop()}\n")
+            return text
+        with mock.patch("resetd_client.files.read", read_as_another_comes):
+            taken = self.seat.take_refused()
+        self.assertEqual((taken, self.seat.take_refused(), self.seat.take_refused()), ("x-c", "y-d", None))
 
     def test_a_wait_ends_with_a_change(self) -> None:
         """Also with one that came before it."""

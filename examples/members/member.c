@@ -233,6 +233,18 @@ static void begin(struct member *member, uint64_t epoch)
     fflush(stdout);
 }
 
+/* Takes the tag that was refused last. One that replaces it meanwhile is left for the next call. */
+static struct text take_refused(void)
+{
+    struct text refused;
+
+    expect(rename("refused", "refused.taken") == 0 || errno == ENOENT, "refused");
+    refused = read_file("refused.taken");
+    unlink("refused.taken");
+    refused.length = strcspn((char *)refused.bytes, "\n");
+    return refused;
+}
+
 /* Publishes the member's run in `run`. Returns whether a message was refused whose sender can't come to the same run. */
 static bool talk(const struct member *member, uint64_t epoch, const struct front *front, size_t length)
 {
@@ -241,16 +253,15 @@ static bool talk(const struct member *member, uint64_t epoch, const struct front
     size_t tag_length;
     int size;
     bool are_parted;
-    struct text refused = read_file("refused");
+    struct text refused = take_refused();
 
     expect_ok(resetd_tag((const uint8_t *)front->received, length, member->node, member->start, member->start_length,
                          (const uint8_t *)"", 0, tag, sizeof tag, &tag_length), "tag");
     size = snprintf(line, sizeof line, "%" PRIu64 " %.*s\n", epoch, tag_length ? (int)tag_length : 1,
                     tag_length ? (const char *)tag : "-");
     replace("run", line, (size_t)size, false);
-    are_parted = resetd_are_parted(tag, tag_length, refused.bytes, strcspn((char *)refused.bytes, "\n"));
+    are_parted = resetd_are_parted(tag, tag_length, refused.bytes, refused.length);
     free(refused.bytes);
-    unlink("refused");
     return are_parted;
 }
 

@@ -22,7 +22,8 @@ class Files:
     """What the member says in its folder."""
 
     def __init__(self, folder):
-        self.run, self.refused, self.work = (os.path.join(folder, name) for name in ("run", "refused", "work"))
+        self.run, self.work, self.written, self.taken = (os.path.join(folder, name) for name in ("run", "work", "refused", "refused.taken"))
+        self.refused = ""  # the tag of the last message of another run
 
     def begun(self):
         text = read(self.work)
@@ -38,17 +39,18 @@ class Files:
 
     def refuse(self, member):
         """Refuses a message with the tag that somebody has written down, again and again as its sender would send it, until the run is
-        over or has that tag."""
-        tag = read(self.refused)
-        if not tag:
-            return
-        if member.run is not None:
+        over or has that tag. The file is renamed before it is read, so that a tag that replaces it meanwhile is read next time."""
+        with suppress(FileNotFoundError):
+            os.rename(self.written, self.taken)
+            self.refused = read(self.taken).strip()
+            os.remove(self.taken)
+        if self.refused and member.run is not None:
             try:
-                with member.in_run(tag.strip()):
+                with member.in_run(self.refused):
                     pass
             except OutOfRun:
                 return
-        os.remove(self.refused)
+        self.refused = ""
 
 
 def main():

@@ -1,12 +1,14 @@
 /* usage: file_calls COUNTS COMMAND..
  *
  * Runs a command, and ends its process group right in front of the Nth system call by which one of its processes changes
- * files, counted over all of them. The file COUNTS holds N (0 for never) and the count so far. A filter of the kernel
- * (seccomp) stops each process at these calls alone, for a process that traces them (ptrace); so it sees what is called
- * past the C library, too. The command keeps the number of the process that was started. */
+ * files, counted over all of them. The file COUNTS holds N (0 for never) and the count so far. In front of each call that
+ * removes or renames FILE, FILE.next is renamed to FILE if there is one, like another program that replaces the file at
+ * this moment. A filter of the kernel (seccomp) stops each process at these calls alone, for a process that traces them
+ * (ptrace); so it sees what is called past the C library, too. The command keeps the number of the process that was started. */
 #define _GNU_SOURCE
 #include <errno.h>
 #include <fcntl.h>
+#include <limits.h>
 #include <linux/filter.h>
 #include <linux/seccomp.h>
 #include <signal.h>
@@ -55,6 +57,29 @@ static int changes_files(pid_t process) { /* a write to what is no file does not
   return stat(path, &info) == 0 && S_ISREG(info.st_mode);
 }
 
+static void read_text(pid_t process, uint64_t at, char *text, size_t room) { /* of a process, as far as there is room */
+  char path[64];
+  snprintf(path, sizeof path, "/proc/%d/mem", (int)process);
+  int memory = open(path, O_RDONLY | O_CLOEXEC);
+  ssize_t length = memory < 0 ? 0 : pread(memory, text, room - 1, (off_t)at);
+  text[length > 0 ? length : 0] = '\0';
+  close(memory);
+}
+
+static void replace_what_it_takes_away(pid_t process) {
+  struct user_regs_struct call;
+  char name[PATH_MAX], folder[64] = "", path[PATH_MAX + 64], next[PATH_MAX + 80];
+  if (ptrace(PTRACE_GETREGS, process, 0, &call) != 0) return;
+  int is_at = call.orig_rax == SYS_renameat || call.orig_rax == SYS_renameat2 || call.orig_rax == SYS_unlinkat;
+  if (!is_at && call.orig_rax != SYS_rename && call.orig_rax != SYS_unlink) return;
+  read_text(process, is_at ? call.rsi : call.rdi, name, sizeof name);
+  if (name[0] != '/' && is_at && (int)call.rdi != AT_FDCWD) snprintf(folder, sizeof folder, "/proc/%d/fd/%d/", (int)process, (int)call.rdi);
+  else if (name[0] != '/') snprintf(folder, sizeof folder, "/proc/%d/cwd/", (int)process);
+  snprintf(path, sizeof path, "%s%s", folder, name);
+  snprintf(next, sizeof next, "%s.next", path);
+  rename(next, path);
+}
+
 static int is_the_last(int counts) { /* counts one call more */
   uint64_t at[2] = {0, 0};
   need(pread(counts, at, sizeof at, 0) == sizeof at, "counts");
@@ -68,6 +93,7 @@ static void follow(int counts, pid_t group) { /* until none of the processes is 
   for (pid_t process; (process = waitpid(-1, &status, __WALL)) > 0 || errno == EINTR;) {
     if (process <= 0 || !WIFSTOPPED(status)) continue;
     int signal = WSTOPSIG(status), event = status >> 16;
+    if (event == PTRACE_EVENT_SECCOMP) replace_what_it_takes_away(process);
     if (event == PTRACE_EVENT_SECCOMP && changes_files(process) && is_the_last(counts)) kill(-group, SIGKILL);
     else if (event == PTRACE_EVENT_STOP && signal != SIGTRAP) ptrace(PTRACE_LISTEN, process, 0, 0); /* the group is stopped */
     else ptrace(PTRACE_CONT, process, 0, event ? 0 : signal);

@@ -1,4 +1,4 @@
-"""Kills in front of the calls by which a foreign member changes files."""
+"""Kills, and changes of other programs, in front of the calls by which a foreign member changes files."""
 
 import os
 import shutil
@@ -11,7 +11,8 @@ NEVER = 0
 
 class FileCalls:
     """A program around the member (file_calls.c) counts the system calls of all its processes, whatever language they are
-    written in. It is made where there is a C compiler for x86-64, and the kernel lets it trace its processes."""
+    written in; in front of a call that removes or renames FILE it renames FILE.next to FILE, if there is one. It is made where
+    there is a C compiler for x86-64, and the kernel lets it trace its processes."""
 
     def __init__(self, folder: str) -> None:
         self._program, self._counts = f"{folder}/file_calls", f"{folder}/file_calls.counts"

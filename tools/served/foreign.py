@@ -377,6 +377,22 @@ class Tried:
         self.until(what, holds, may_end=True)
         return self.process.poll() is not None
 
+    def refuse(self, tag: str) -> None:
+        """The member rejects a message with this tag, whose sender is shown what is shown to it. It has noted another tag before, which asks
+        for nothing; the file is replaced right in front of the call by which the member takes it away."""
+        with self.between.lock:
+            self.rule.refused()
+            if self.calls.can_see:
+                self.put("refused.next", tag)
+                tag = self.rule.run.split(" ")[1]
+            self.put("refused", tag)
+
+    def put(self, name: str, line: str) -> None:
+        """Replaces a file in the member's folder as a whole."""
+        with open(f"{self.trial.folder}/put", "w", encoding="utf-8") as file:
+            file.write(f"{line}\n")
+        os.replace(f"{self.trial.folder}/put", f"{self.folder}/{name}")
+
     def until(self, what: str, holds: Callable[[], bool], may_end: bool = False) -> None:
         """Waits until something holds, while the member keeps the rule."""
         until = time.monotonic() + self.trial.words.seconds
@@ -552,11 +568,7 @@ def of_second_hand(tried: Tried) -> None:
     tried.looks("another one was taken off its links, reset alone, linked and taken off again, while it was stopped", 3)
     run = others.members[1].run
     assert run is not None
-    with open(f"{tried.folder}/refused.new", "w", encoding="utf-8") as file:
-        file.write(f"{run.tag}\n")
-    with tried.between.lock:
-        tried.rule.refused()
-        os.replace(f"{tried.folder}/refused.new", f"{tried.folder}/refused")
+    tried.refuse(run.tag)
     tried.until("it refused a message of another run, whose sender is shown the same, so it asks for a reset",
                 lambda: not tried.rule.guesses[0].is_refused)
     join_again(trial)
