@@ -16,7 +16,7 @@ from collections.abc import Iterable, Iterator
 from typing import Self
 
 from support import traced
-from support.case import Case, tool
+from support.case import Case, tool, until
 from support.library_case import OfLibrary
 from support.memberlib import PATH, Library, Order, Orders, Refused
 from support.program import PROGRAM, ROOT
@@ -463,6 +463,56 @@ class InOtherLanguages(Made):
 
     def test_go_without_the_library(self) -> None:
         self.keeps_the_rule(self.make_in_plain_go(), "{node}", "{front}", "{folder}")
+
+
+class OneProcess(Made):
+    """A second process of a member ends, and names the one that has its folder."""
+
+    takes = 20
+
+    def starts(self, *command: str) -> subprocess.Popen[str]:
+        process = subprocess.Popen(command, stdin=subprocess.DEVNULL, stdout=subprocess.DEVNULL, stderr=subprocess.PIPE, text=True)
+        self.addCleanup(process.communicate)
+        self.addCleanup(process.kill)
+        return process
+
+    def has_the_folder(self, process: subprocess.Popen[str]) -> bool:
+        with contextlib.suppress(FileNotFoundError):
+            return self.read("files/lock") == f"{process.pid}\n".encode()
+        return False
+
+    def allows_one_process(self, *command: str) -> None:
+        folder = self.path("files")
+        words = [word.format(front=f"unix:{self.path('no front')}", folder=folder) for word in command]
+        first = self.starts(*words)
+        until("the first process has the folder", lambda: self.has_the_folder(first))
+        second = self.starts(*words)
+        _, said = second.communicate(timeout=60)
+        self.assertNotEqual(second.returncode, 0)
+        self.assertIn(f"process {first.pid} works with {folder}", said.splitlines()[-1])
+        self.assertIsNone(first.poll())
+        first.kill()
+        first.wait()
+        third = self.starts(*words)
+        until("the next process has the folder", lambda: self.has_the_folder(third))
+
+    def test_python(self) -> None:
+        self.allows_one_process(f"{EXAMPLES}/member.py", "1", "{front}", "{folder}")
+
+    def test_bash(self) -> None:
+        self.allows_one_process(f"{ROOT}/examples/plain_member", "1", "127.0.0.1", "1", "{folder}")
+
+    def test_c(self) -> None:
+        self.allows_one_process(self.make_in_c(), "1", "{front}", "{folder}")
+
+    def test_rust(self) -> None:
+        self.allows_one_process(self.make_in_rust(), "1", "{front}", "{folder}")
+
+    def test_go(self) -> None:
+        self.allows_one_process(self.make_in_go_with_the_library(), "1", "{front}", "{folder}")
+
+    def test_go_without_the_library(self) -> None:
+        self.allows_one_process(self.make_in_plain_go(), "1", "{front}", "{folder}")
 
 
 class Durable(Made):

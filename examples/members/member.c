@@ -5,8 +5,8 @@
  * HOST:PORT is the address of a front on the loopback, or of stunnel, which connects to the TLS port of a front elsewhere.
  *
  * FOLDER has `work`, with the epoch that was begun; `start-NODE.json` and `start-NODE.history`, in the client library's
- * formats; and, while the group is in a run, `run`, with the epoch and the tag (- for a member that is alone). Whoever
- * refuses a message of another run writes its tag into `refused`. */
+ * formats; `lock`, with the number of the process; and, while the group is in a run, `run`, with the epoch and the tag
+ * (- for a member that is alone). Whoever refuses a message of another run writes its tag into `refused`. */
 #define _POSIX_C_SOURCE 200809L
 #include <errno.h>
 #include <fcntl.h>
@@ -18,6 +18,7 @@
 #include <stdio.h>
 #include <stdlib.h>
 #include <string.h>
+#include <sys/file.h>
 #include <sys/socket.h>
 #include <sys/stat.h>
 #include <sys/un.h>
@@ -337,6 +338,25 @@ static void follow(struct member *member, struct front *front)
     }
 }
 
+/* Holds the folder until the process ends, so that no other process is this member. */
+static void lock_folder(const char *folder)
+{
+    char line[32];
+    int lock = open("lock", O_RDWR | O_CREAT | O_CLOEXEC, 0666);
+
+    expect(lock >= 0, "lock");
+    if (flock(lock, LOCK_EX | LOCK_NB) != 0) {
+        struct text holder;
+
+        expect(errno == EWOULDBLOCK, "lock");
+        holder = read_file("lock");
+        fprintf(stderr, "process %.*s works with %s\n", (int)strcspn((char *)holder.bytes, "\n"), (char *)holder.bytes, folder);
+        exit(EXIT_FAILURE);
+    }
+    snprintf(line, sizeof line, "%ld\n", (long)getpid());
+    write_at("lock", 0, line, strlen(line));
+}
+
 /* Syncs the member's files, since the previous process may have been killed before its sync, and reads them. */
 static void load(struct member *member)
 {
@@ -372,6 +392,7 @@ int main(int count, char **words)
     member.node = (uint8_t)atoi(words[1]);
     mkdir(words[3], 0777);
     expect(chdir(words[3]) == 0, words[3]);
+    lock_folder(words[3]);
     load(&member);
     unlink("run"); /* before the first view nothing is known */
     for (;;) {
