@@ -1,5 +1,5 @@
 # What a person would ask for. The toolchain's command `rt` has to be on the PATH.
-.PHONY: help check demo drill trial example services soak soak-door instances powercut takeover build prove lib test program load refusals bench sweep nightly install install-lib uninstall deb release
+.PHONY: help check demo drill trial example services soak soak-door soak-fence instances powercut takeover build prove lib test program load refusals bench sweep nightly install install-lib uninstall deb release
 
 PREFIX ?= /usr/local
 PROGRAM ?= bin/resetd
@@ -22,11 +22,12 @@ help:
 	@echo 'make bench     measures the drill, its parts, the store, the ledger, the engine and the server, and writes the tables of docs/MEASURES.md'
 	@echo 'make soak      kills a coordinator 200 times and 50 migrations, and looks for what was lost (ROUNDS=N for N kills)'
 	@echo 'make soak-door soaks the coordinator, the front and 64 members in C, Go and Python for 30 minutes, each killed at random (MINUTES=N)'
+	@echo 'make soak-fence  kills and pauses eight workers over a database behind a fence, and puts the store back: no item may be taken twice (MINUTES=N, 10)'
 	@echo 'make powercut  cuts the power of ext4, xfs, btrfs and f2fs under the program in a virtual machine, 2,000 times each (IMAGES=N)'
 	@echo 'make instances     a trial build whose instances are short, which change in the midst of resets: kills it there 100 times (ROUNDS=N)'
 	@echo 'make takeover  a coordinator on a replicated volume of three hosts, each in namespaces; hosts and bricks are lost'
 	@echo 'make sweep     refuses each allocation of every test and of the programs in turn, for 12 seconds each (EACH=N for N, 0 for all)'
-	@echo 'make nightly   what is too long for make test (powercut, soak-door, a fuzzer, soak, instances, services, load, takeover, sweep, refusals), with a line for each in docs/nightly.tsv'
+	@echo 'make nightly   what is too long for make test (powercut, soak-door, soak-fence, a fuzzer, soak, instances, services, load, takeover, sweep, refusals), with a line for each in docs/nightly.tsv'
 	@echo 'make install   copies the program, resetctl, the client library, examples, documents and manual pages below PREFIX (/usr/local); make uninstall takes them away (with PROGRAM=bin/resetd-trial the trial build)'
 	@echo 'make deb       builds a Debian package of all that with dpkg-deb'
 	@echo 'make release   makes what a release has in dist/, of the file LOG into which make test has printed (without one of the trial build)'
@@ -56,6 +57,9 @@ instances:
 
 soak-door: $(PROGRAM) lib/libresetd_member.a
 	@tools/soak_door --program $(PROGRAM) --minutes $(or $(MINUTES),30)
+
+soak-fence: $(PROGRAM)
+	@tools/soak_fence --program $(PROGRAM) --minutes $(or $(MINUTES),10)
 
 powercut: $(PROGRAM)
 	@tools/powercut/run --program $(PROGRAM) --jobs $(JOBS) --images $(or $(IMAGES),2000)
