@@ -118,6 +118,20 @@ class LongRuns(Case):
         """The bound of 1,048,576 is one of reads, and a read asks for 512 bytes."""
         self.assertEqual(drill_text(("#".ljust(511, "a") + "\n") * 2_400 + "add 1 1\n"), Ended(0, "done 1\n", ""))
 
+    def test_the_most_links(self) -> None:
+        """A ring with chords: each of 64 nodes is linked to the next and the next but one."""
+        pairs = [(node, (node + step) % 64 + 1) for node in range(1, 65) for step in (0, 1)]
+        text = "".join(f"add {node} 1\n" for node in range(1, 65)) + "".join(f"join {a} {b}\n" for a, b in pairs) + "join 1 4\n"
+        wanted = "".join(f"done {step}\n" for step in range(1, 193)) + "no 14 LinksFull\n"
+        self.assertEqual(drill_text(text), Ended(0, wanted, ""))
+
+    def test_a_flush_settles_at_most_256(self) -> None:
+        text = "add 1 1\nhold\n" + "reset 1\n" * 257 + "flush\n" * 2
+        wanted = "done 1\n" + "".join(f"pending {step}\n" for step in range(2, 259))
+        wanted += "".join(f"finished {step}\nsignal 1 {step - 1}\n" for step in range(2, 258)) + "settled 257\n"
+        wanted += "finished 258\nsignal 1 257\nsettled 258\n"
+        self.assertEqual(drill_text(text), Ended(0, wanted, ""))
+
     def test_as_many_are_held_again(self) -> None:
         """At most 1,024 steps are held, and as many again once these are settled."""
         text = "add 1 1\nhold\n" + "reset 1\n" * 1_025 + "flush\n" * 4 + "reset 1\n" * 1_024
