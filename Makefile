@@ -170,7 +170,7 @@ release:
 
 bin/resetd:
 	@echo 'there is no proved program yet: make build makes it in some 30 minutes.' >&2
-	@echo 'To go on with a trial build, of which nothing is proved: make trial, and then PROGRAM=bin/resetd-trial behind this' >&2
+	@echo 'To go on with a trial build, of which nothing is proved: make trial, and then PROGRAM=bin/resetd-trial after this' >&2
 	@exit 1
 
 lib/libresetd_member.a:

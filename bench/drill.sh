@@ -2,7 +2,7 @@
 # Steps per second of the drill on a ring with chords: 64 nodes, each linked to the next and the
 # next but one (128 links), through WAVES resets. A first run finds the steps: lanes are swept in
 # order, and every front is taken and then cleared, until the wave is over. The second run, whose time
-# is told, has the lines of the first one that were steps, and its output goes to a file. Prints the
+# is printed, has the lines of the first one that were steps, and its output goes to a file. Prints the
 # steps taken, the seconds, and their ratio.
 set -eu
 waves=${1:-4}

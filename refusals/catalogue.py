@@ -11,9 +11,9 @@ A catalogue is made of blocks, with an empty line between two:
     ! units drill::lines::one_of_each
 
 `@` names the file of the blocks after it, up to the next `@`; a block that changes several files names each in its
-midst. `#` gives the block its name, and ` killed` behind that says that no clause refuses it; ` type CODE NAMED` that
-it does not compile, with an error of this code that names NAMED: a type refuses it. The lines behind `-`
-stand once in the file, the lines behind `+` take their place; a `-` behind a `+` begins the next exchange. In a proof
+midst. `#` gives the block its name, and ` killed` after that says that no clause refuses it; ` type CODE NAMED` that
+it does not compile, with an error of this code that names NAMED: a type refuses it. The lines after `-`
+stand once in the file, the lines after `+` take their place; a `-` after a `+` begins the next exchange. In a proof
 file (`proofs/..`) the texts are names, and each place of an old one is changed. `%` names a clause that the mutant breaks,
 one a line, as a row of docs/PROMISES.md does: `World::judge (value)`, with the crate in front where it is another one, and
 without brackets where the clause has no name (`tools/promises --breaks` goes from a row to the mutants). `!` is the

@@ -23,10 +23,10 @@ class BehindAClose(Case):
         return Serving(self.made(topology([(1, 1)]), name), env=preloaded.environment(self.folder, STILL=1))
 
     def test_further_lines_are_discarded(self) -> None:
-        for behind in (b'{"op":"show"}\n', b'{"op":"show"}\n' * 2_000, b" " * 40_000):
-            with self.subTest(behind=len(behind)), self.serving(f"store{len(behind)}") as server, \
+        for after in (b'{"op":"show"}\n', b'{"op":"show"}\n' * 2_000, b" " * 40_000):
+            with self.subTest(after=len(after)), self.serving(f"store{len(after)}") as server, \
                     server.connect() as connection:
-                connection.send(b'{"op":"close"}\n' + behind)
+                connection.send(b'{"op":"close"}\n' + after)
                 # a connection that is torn off raises here
                 self.assertEqual(connection.rest(), [b'{"kind":"closed"}\n'])
                 connection.socket.close()
@@ -43,7 +43,7 @@ class BehindAClose(Case):
                     if time.monotonic() - begun < DISCARD / 2:
                         self.expect_discarded(server, connection)
                         return
-        self.fail("the machine was too busy to send a line behind a close in time")
+        self.fail("the machine was too busy to send a line after a close in time")
 
     def expect_discarded(self, server: Serving, connection: Connection) -> None:
         """Nothing more is said, and the connection is not torn off."""

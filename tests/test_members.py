@@ -242,7 +242,7 @@ class Members(OfLibrary):
                 self.assertEqual(json.dumps(json.loads(text)).encode() + b"\n", start_text(node, kept_in(text, node), count), state)
 
     def test_a_gateway(self) -> None:
-        """The members after it have begun what it told them, or have lost it."""
+        """Its members have begun its last instruction, or have lost it."""
         states = Random(6)
         for turn in range(300):
             view, node, kept, digests, work = state = states.state()

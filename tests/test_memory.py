@@ -23,7 +23,7 @@ ALL = 10**9
 PAIR = topology([(1, 1), (2, 1)], [(1, 2)])
 IN_A_RESET = world(4, [node(1, ABORT, awaits=[2]), node(2)], [link(1, 2, 3, (0, 0, [stores.abort()]))])
 CHECKED = [faulted(1, "NoMagic"), Ended(0, "legal 0\n", ""), Ended(0, "legal 3\n", "")]
-# How an answer of a drill tells that its ledger lacked memory, or its disk, which is in memory and fails for nothing else.
+# How an answer of a drill reports that its ledger lacked memory, or its disk, which is in memory and fails for nothing else.
 ENDS = [(0, ""), (4, "resetd: OutOfMemory\n"), (3, "resetd: Device\n")]
 LACKS = re.compile(r"^(no 2 OutOfMemory|commit 1 OutOfMemory|commit 2 Device)$", re.MULTILINE)
 # After the reset each of its three packets is taken and cleared.

@@ -144,7 +144,7 @@ class Unprinted(Case):
                     self.assertEqual(self.read("store"), content)
 
     def test_a_fault_line_that_can_not_be_written(self) -> None:
-        """The status tells it."""
+        """The status reports the fault."""
         for redirected in ("2>/dev/full", "2>&-", ">&- 2>&-"):
             self.assertEqual(by_shell(redirected, "check", self.path("none/store"))[0], 3)
             self.assertEqual(by_shell(redirected, "help")[0], 2)

@@ -143,7 +143,7 @@ class Timeouts(Case):
             self.expect_within(LINE, begun, server)
 
     def test_each_part_of_a_reply_has_what_is_left(self) -> None:
-        """Before each write the system is told again how long it may wait, so output that goes byte by byte has as much time as
+        """Before each write the system's timeout is set again, so output that goes byte by byte has as much time as
         output that goes at once."""
         self.needs("a C compiler", preloaded.has_compiler())
         log = self.path("calls")

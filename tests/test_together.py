@@ -219,7 +219,7 @@ class Refused(Served):
         self.expect_answers(FIRST_THREAD)
 
     def expect_answers(self, threads: range) -> None:
-        """Each order has a reply in its place, or tells that memory lacked; or nothing was begun."""
+        """Each order has a reply in its place, or the answer that memory lacked; or nothing was begun."""
         self.needs("a C compiler", preloaded.has_compiler())
         refusing, store = Refusing(PROGRAM, self.folder), self.made(topology([(1, 1)]))
         content, lacked = self.read("store"), 0

@@ -107,7 +107,7 @@ def await_views(connections: Sequence[socket.socket], epoch: int) -> None:
 
 
 def told_after(server: Server, connections: Sequence[socket.socket], epoch: int) -> float:
-    """Milliseconds from node 1's signal line to the last watcher told."""
+    """Milliseconds from node 1's signal line until the last watcher has the view."""
     with open(server.signals, "rb") as signals:
         signals.seek(0, 2)
         asyncio.run(once(server.port, {"op": "reset", "client": 1, "number": epoch, "node": 1}))

@@ -1,5 +1,5 @@
 """What people write on etcd in place of the coordinator: a common epoch that all watch, a key of each member that is ready, and
-a barrier. It tells nobody apart that was in the run before, keeps nothing, and has no links."""
+a barrier. It does not recognise who was in the run before, keeps nothing, and has no links."""
 
 import base64
 import contextlib

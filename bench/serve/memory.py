@@ -2,7 +2,7 @@
 that stays or over one for each burst.
 
 The words are the program, a folder, how many steps each way makes where its connection stays, and how many where the
-client leaves behind each burst. A line is printed for each twentieth of them: what is resident, what was resident at
+client leaves after each burst. A line is printed for each twentieth of them: what is resident, what was resident at
 most since the start, and how many connections there were.
 """
 

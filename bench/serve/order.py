@@ -5,7 +5,7 @@ socket as the server does, and answers each line that one client sends:
 
   pairs      no server: two pairs of a pwrite and a sync, as an order needs them, in a loop
   echo       answers at once: the socket alone
-  lone       answers behind two such pairs: the pairs and the socket
+  lone       answers after two such pairs: the pairs and the socket
   two        the same, where another process makes the pairs, as the server's flusher does: two switches more
   refusal    the server, and a request that it refuses as it reads it: the socket and JSON
   quiet      the server, and an order that it settles, a confirmation

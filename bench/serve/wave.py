@@ -2,7 +2,7 @@
 
 The words are a program, a folder of a real file system, and the file of a library that counts syncs and has them wait
 (syncs.c.txt). Over the file as it is and over one whose syncs wait a millisecond first. The syncs are those until all is
-at rest again, of acknowledgements and receipts behind the last signal too.
+at rest again, of acknowledgements and receipts after the last signal too.
 """
 
 import os

@@ -109,7 +109,7 @@ def findings(view: View, since: Since, bounds: Bounds) -> list[str]:
 
 def oldest_wait(view: View, since: Since) -> float:
     """For how long the oldest step that waits for the disk has waited at least. Each look notes the step that was accepted
-    last; the oldest of these notes that is not settled yet tells."""
+    last; the oldest of these notes that is not settled yet counts."""
     noted = {int(thing.split()[1]) for thing in since.things("accepted")} | {view.accepted}
     return max(since.seconds(f"accepted {step}") for step in noted if view.settled < step <= view.accepted)
 

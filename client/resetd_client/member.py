@@ -213,7 +213,7 @@ class Member(Following):
     def _follow_alone(self) -> None:
         try:
             self.follow(self._wakes, self._every)
-        except BaseException as fault:  # told to whoever leaves the `with`
+        except BaseException as fault:  # raised for whoever leaves the `with`
             self._fault = fault
             self._told(f"node {self.node}: it follows no more: {fault!r}")
             self._set_run(None)

@@ -1,4 +1,4 @@
-"""A member after a gateway, from either side: its folder, and the one file in which the gateway tells all its members what to do.
+"""A member after a gateway, from either side: its folder, and the one file with the gateway's instructions to all its members.
 
     FOLDER/told/members    the gateway's, put in place as a whole; a line for each member:
         NAME EPOCH NUMBER             begin this epoch, if NUMBER is above that of `begun`. It is greater each time, since an
@@ -69,7 +69,7 @@ class Cached:
 
 
 class Board:
-    """The file in which a gateway tells its members."""
+    """The file of a gateway's instructions to its members."""
 
     def __init__(self, folder: str) -> None:
         self._path = board_in(folder)
@@ -136,7 +136,7 @@ class Seat:
 
 
 class Served:
-    """A member's side of a gateway: its folder, and what the gateway tells."""
+    """A member's side of a gateway: its folder, and the gateway's instructions."""
 
     def __init__(self, folder: str) -> None:
         """`folder` is FOLDER/NAME in the gateway's FOLDER."""
@@ -150,7 +150,7 @@ class Served:
         self._changes = Changes([path])
         self._changes.take()
         if os.path.exists(os.path.join(self._folder, "wanted")):
-            warn(f"{folder}: the gateway is of an earlier version: start it again with this one, which tells its members in {path}")
+            warn(f"{folder}: the gateway is of an earlier version: start it again with this one, which instructs its members in {path}")
 
     def wanted(self) -> int | None:
         """The epoch to begin; None if the member has begun, or lost, the last one."""

@@ -1,4 +1,4 @@
-"""Wake-ups: what tells a service that it should look. It trusts no line: each only says that something may be new."""
+"""Wake-ups: the reasons for a service to look. It trusts no line: each only says that something may be new."""
 
 from __future__ import annotations
 

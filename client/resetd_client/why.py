@@ -104,7 +104,7 @@ def of_lock(found: os.stat_result) -> Iterator[Finding]:
 
 
 def of_program(process: int) -> Iterator[Finding]:
-    """Which program a process runs: what tells one build of the server from another."""
+    """Which program a process runs: its path and checksum distinguish one build of the server from another."""
     if program := program_of(process):
         yield Finding("program", f"process {process} runs {program.path}, SHA-256 {program.checksum}" + (
             "" if program.is_there else "; its path has another one now: it runs the old one until it is restarted"))

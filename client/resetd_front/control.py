@@ -55,7 +55,7 @@ def add_serve_words(serve: argparse.ArgumentParser) -> None:
     word("--socket", "PATH", f"the Unix socket ({SOCKET})", default=SOCKET)
     word("--mode", "OCTAL", "its mode (660)", type=lambda text: int(text, 8), default=0o660)
     word("--group", "NAMES", "the groups that the mode is for, with commas between", type=groups_named, default=())
-    word("--tls", "HOST:PORT", "also TLS 1.3 with client certificates; here, behind --tcp and --page fd:NAME stands for a socket that "
+    word("--tls", "HOST:PORT", "also TLS 1.3 with client certificates; here, after --tcp and --page fd:NAME stands for a socket that "
                                "the service manager passes", type=place_of)
     word("--certificate", "PEM", "the front's certificate for TLS, with its chain")
     word("--key", "PEM", "its key")
@@ -63,7 +63,7 @@ def add_serve_words(serve: argparse.ArgumentParser) -> None:
     word("--tcp", "HOST:PORT", "also TCP on the loopback, where whoever comes counts as the user nobody", type=place_of)
     word("--policy", "FILE", "who may do what (root and this user everything, the socket's group looks)")
     word("--audit", "FILE", "where each order is written down (standard output)", default="-")
-    word("--signals", "FILE", "the server's file of signals, so that watchers are told at once")
+    word("--signals", "FILE", "the server's file of signals, so that changes are pushed at once")
     word("--state", "FOLDER", f"where the front's own number is kept ({STATE})", default=os.environ.get("STATE_DIRECTORY") or STATE)
     word("--client", "C", "the client as which the front orders for others, and nobody else (15)", type=int, choices=CLIENTS, default=15)
     word("--patience", "SECONDS", "how long a line waits for its answer (30)", type=float, default=30.0)
@@ -208,7 +208,7 @@ def groups_of(words: argparse.Namespace) -> tuple[int, ...]:
 
 
 def tell_manager(text: str) -> None:
-    """Tells a service manager that asked for it (Type=notify of systemd)."""
+    """Notifies a service manager that asked for it (Type=notify of systemd)."""
     path = os.environ.get("NOTIFY_SOCKET")
     if path:
         with socket.socket(socket.AF_UNIX, socket.SOCK_DGRAM) as manager:

@@ -114,7 +114,7 @@ class Front(Events):
         self._note_connection("ends", connection, seconds=self._since(connection.since), why=connection.why)
         self._rules.pop(connection, None)
 
-    # what the server's side tells
+    # events of the server's side
 
     def answered(self, asked: list[Asked], line: Line | None) -> None:
         for each in asked:
@@ -142,7 +142,7 @@ class Front(Events):
     def follows(self) -> bool:
         return bool(self.watchers or self.followers)
 
-    # what the process is told
+    # events of the process
 
     def signalled(self) -> None:
         """The file of signals has grown."""
@@ -154,7 +154,7 @@ class Front(Events):
         self._soon("beat", BEAT_SECONDS, self._beat)
 
     def take_policy(self, policy: Policy) -> None:
-        """From the next line on this policy counts. Who may watch no more is told no more."""
+        """From the next line on this policy counts. Who may not watch any more gets no further view."""
         self._policy = policy
         self._rules = {connection: policy.rules_for(connection.peer) for connection in self._rules}
         for watcher in self.watchers:

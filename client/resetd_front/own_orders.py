@@ -40,7 +40,7 @@ class OwnOrders:
         self._lock = files.hold(folder)
         self._file = os.open(os.path.join(folder, f"client-{client}"), os.O_RDWR | os.O_CREAT | os.O_CLOEXEC, 0o600)
         self._number = kept_number(self._file)
-        self._is_free = False  # in this flight a number was refused, so that those behind it are out of turn
+        self._is_free = False  # in this flight a number was refused, so that those after it are out of turn
         self._unsure: list[Line] = []  # out of turn, sent more than once: carried out if a later one is in turn
 
     def close(self) -> None:

@@ -15,7 +15,7 @@ from .metrics import Metrics
 
 PAGE = os.path.join(os.path.dirname(os.path.abspath(__file__)), "page.html")
 POLICY = "default-src 'none'; script-src 'unsafe-inline'; style-src 'unsafe-inline'; connect-src 'self'"
-EACH_SECONDS = 0.05  # at most so often a page is told
+EACH_SECONDS = 0.05  # at most this often a page gets an event
 LOOK_SECONDS = 2.0  # for which a page waits before the server is looked at again
 
 

@@ -1,4 +1,4 @@
-"""The file of signals, by inotify: the system tells when it changes. It need not be there yet, and it may go."""
+"""The file of signals, by inotify: the system reports its changes. It need not be there yet, and it may go."""
 
 from __future__ import annotations
 

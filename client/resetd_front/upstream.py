@@ -29,7 +29,7 @@ LOOK_PAUSE = 0.02  # between two looks at a reset under way
 
 
 class Events:
-    """What the rest of the front is told."""
+    """The events that the rest of the front gets."""
 
     def answered(self, asked: list[Asked], line: Line | None) -> None:
         """Lines have their answers; the front itself gave them where there is no line."""
@@ -47,7 +47,7 @@ class Events:
         """The server answers again, or can't be reached."""
 
     def follows(self) -> bool:
-        """Whether somebody wants to be told of changes."""
+        """Whether somebody follows changes."""
         return False
 
 

@@ -1,4 +1,4 @@
-"""Connections that are told of each change, at most one view waiting for each."""
+"""Connections to which each change is pushed, at most one view waiting for each."""
 
 from __future__ import annotations
 
@@ -7,7 +7,7 @@ from collections import deque
 from collections.abc import Iterator
 from typing import Protocol
 
-AT_ONCE = 64  # watchers that are told in one turn of the loop; others are served in between
+AT_ONCE = 64  # watchers that get a view in one turn of the loop; others are served in between
 
 
 class Watcher(Protocol):

@@ -55,7 +55,7 @@ class Journal:
 
     def _write(self, place: int, data: bytes, with_snapshot: bytes | None = None) -> None:
         """A write, whose bytes come to be seen in up to three parts: from its start on, from its end on, in any order, or
-        the last one behind all others."""
+        the last one after all others."""
         now = self._content() if with_snapshot is None else (self.index, with_snapshot, tuple(self.bodies))
         file = bytearray(self.states[-1].ljust(place, b"\0"))
         parts = [self.choice.randrange(3) for _ in data]

@@ -48,7 +48,7 @@ class Seats(unittest.TestCase):
         keep(f"{self.folder}/{name}", text)
 
     def tell(self, told: str, run: str = "") -> None:
-        """Tells the member, between two others."""
+        """Writes the member's instruction, between two others."""
         self.board.tell(f"0 7 7 x-y {boot_name()}\n1 {told}{run}\n11 8 8\n")
 
     def begin(self, told: str) -> None:
@@ -111,7 +111,7 @@ class Seats(unittest.TestCase):
         self.assertEqual((self.seat.has_lost("1 3\n"), self.served.wanted()), (False, 1))
 
     def test_the_same_epoch_may_be_told_again(self) -> None:
-        """The number is greater, and nothing else tells."""
+        """The number is greater, and nothing else differs."""
         for number in range(1, 12):
             self.begin(f"1 {number}")
             self.assertEqual((self.served.wanted(), self.seat.has_begun(f"1 {number}\n"), self.seat.number), (None, True, number))
@@ -446,7 +446,7 @@ class Gateways(Case):
         self.assertEqual([self.begin(node) for node in (1, 2, 3)], [None] * 3)
 
     def test_a_reset_while_its_members_begin(self) -> None:
-        """It tells them the new epoch, though they have not begun the one before."""
+        """It instructs them to begin the new epoch, though they have not begun the one before."""
         self.look()
         told = self.rows()[0][0]
         self.server.reset(1)

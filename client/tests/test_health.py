@@ -1,4 +1,4 @@
-"""What a monitoring check tells."""
+"""What a monitoring check prints."""
 
 from __future__ import annotations
 

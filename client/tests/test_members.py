@@ -355,7 +355,7 @@ class Refusals(MemberCase):
             self.assertEqual(self.begun, begun)
 
     def test_a_resource_that_no_look_can_have_brought_so_far(self) -> None:
-        """The store went back: a person is told with which generation the members are to be started. A reset would not help."""
+        """The store went back: a message names the generation with which the members are to be started. A reset would not help."""
         member = self.in_a_run()
         asked, settled = sum(order.get("op") == "reset" for order in self.server.seen), self.port.show().settled
         for count, words in ((settled + 1, f"--fence {settled + 1}`"), (3 << 40, "generation 3 were there, and this one has 0")):

@@ -1,4 +1,4 @@
-"""What the library tells a person: by the logger, or by what a caller gives; and the page that `help` begins with."""
+"""The library's messages for a person: to the logger, or to a function that a caller passes; and the page that `help` begins with."""
 
 from __future__ import annotations
 

@@ -19,7 +19,7 @@ CLIENTS = range(1, 9)
 
 class Orderer(threading.Thread):
     """One client whose orders are unique: it adds and removes its own node in turn, and sends the same order again with the
-    same number until it is answered. Behind each it looks, so that answers are of different forms."""
+    same number until it is answered. After each it looks, so that answers are of different forms."""
 
     def __init__(self, case: Kills, client: int) -> None:
         super().__init__(daemon=True)
@@ -34,7 +34,7 @@ class Orderer(threading.Thread):
             order = {"op": "add" if count % 2 else "remove", "client": self.number, "number": count, "node": 20 + self.number}
             answer = self.answered({**order, "group": 1} if count % 2 else order)
             if answer.get("kind") != "done" or self.steps and answer["step"] <= self.steps[-1]:
-                self.faults.append(f"{order}: {answer}, behind step {self.steps[-1:]}")
+                self.faults.append(f"{order}: {answer}, after step {self.steps[-1:]}")
             else:
                 self.steps.append(answer["step"])
 

@@ -52,7 +52,7 @@ class Served(Case):
         return urllib.request.urlopen(self.address + path, timeout=DEADLINE)
 
     def states(self) -> Iterator[dict[str, Any]]:
-        """What the page is told, in turn."""
+        """The events that the page gets, in turn."""
         with self.get("/events") as stream:
             for line in stream:
                 if line.startswith(b"data: "):

@@ -1,4 +1,4 @@
-"""The policy of docs/FRONT.md, as it is printed: with its certificate the member of node 3 begins, confirms and is told of resets
+"""The policy of docs/FRONT.md, as it is printed: with its certificate the member of node 3 begins, confirms and learns of resets
 over TLS: in Python, at a gateway, in Go, and in C with a TLS tunnel like stunnel."""
 
 from __future__ import annotations
@@ -105,7 +105,7 @@ class Shipped(Case):
         return all(self.row(node)[4] == self.row(node)[5] > 0 for node in range(1, 5))
 
     def expect_member(self, *processes: subprocess.Popen[bytes]) -> None:
-        """It begins as a new one does, and at each of two resets, of which nothing tells it but the front."""
+        """It begins as a new one does, and at each of two resets, of which it learns from the front alone."""
         until("a group that is through", self.confirm_others)
         for _ in range(2):
             epoch = self.row(NODE)[4]

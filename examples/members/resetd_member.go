@@ -36,7 +36,7 @@ const (
 )
 
 // Judged is what is due at the epoch that is shown. Before it is done, Line stands in the history at HistorySize, in the
-// place of all behind it, and Start in the file of the start; one without bytes changes nothing.
+// place of all after it, and Start in the file of the start; one without bytes changes nothing.
 type Judged struct {
 	Due         Due
 	Epoch       uint64

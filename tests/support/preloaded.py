@@ -111,7 +111,7 @@ int flock(int file, int how) {
     static long locks;
     return fails("LOCK_FAILS", "ERROR", &locks) ? -1 : syscall(SYS_flock, file, how);
 }
-// A socket can't be listened to, or does not tell its address.
+// A socket can't be listened to, or its address can't be read.
 int listen(int socket, int most) {
     static long listens;
     return fails("LISTEN_FAILS", "ERROR", &listens) ? -1 : syscall(SYS_listen, socket, most);
@@ -155,7 +155,7 @@ ssize_t write(int file, const void *bytes, size_t count) {
     return syscall(SYS_write, file, bytes, piece(count));
 }
 // With WAITS it is written down too for how many milliseconds a client is waited for, for how many microseconds a thread
-// rests, whether what is sent goes out at once, and that no more will be sent. The first UNREADY connections can't be told to
+// rests, whether what is sent goes out at once, and that no more will be sent. The first UNREADY connections can't be set to
 // send at once. Call READ_TIME_FAILS that bounds a read fails, and call WRITE_TIME_FAILS that bounds a write.
 int setsockopt(int socket, int level, int option, const void *value, socklen_t length) {
     static long unready, reads, writes;

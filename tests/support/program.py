@@ -29,5 +29,5 @@ def ran(*words: str | bytes, given: bytes = b"", program: str | None = None, sec
 
 
 def faulted(status: int, name: str) -> Ended:
-    """How a command ends with this fault: nothing is printed, and one line tells it."""
+    """How a command ends with this fault: nothing is printed but one line with its name."""
     return Ended(status, "", f"resetd: {name}\n")

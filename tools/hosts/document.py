@@ -123,7 +123,7 @@ def wait_standby(machine: Machine) -> float:
 
 
 def check_held_in(machine: Machine) -> None:
-    """Looks whether what the unit denies its process is denied: the kernel tells."""
+    """Looks whether what the unit denies its process is denied, by the kernel's account."""
     _, told = machine.run("sh", "-c", "cat /proc/$(systemctl show --value -p MainPID resetd)/status")
     status = dict(line.split(":\t", 1) for line in told.splitlines() if ":\t" in line)
     if (int(status["CapBnd"], 16), status["NoNewPrivs"], status["Seccomp"]) != (0, "1", "2"):

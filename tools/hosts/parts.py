@@ -101,7 +101,7 @@ def cut_while_idle(trial: Trial) -> float:
     shown = ask(trial.site.host, old.address, {"op": "show"}, 30)
     tell(f"{old.host.name} is linked again, and all three bricks have the same {len(before)} bytes")
     if "accepted" in shown:
-        tell(f"the old coordinator, asked for show, tells its own past: {shown['accepted']} steps")
+        tell(f"the old coordinator, asked for show, shows its own past: {shown['accepted']} steps")
     ask_linked_old(trial, old, ends)
     refused = old.wait_refused()
     if trial.volume.wait_healed(new.host)[0] != before:

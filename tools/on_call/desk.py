@@ -101,7 +101,7 @@ class Desk:
         return self.resetctl("health", *(words or ("--unconfirmed", "1000000")), server=server, patience=patience, seconds=seconds)
 
     def await_health(self, server: Serving, wanted: str, *words: str) -> Typed:
-        """Looks until the check tells something."""
+        """Looks until the check prints something."""
         return until(wanted, lambda: wanted in (told := self.health(server, *words)).text and told)
 
     def expect_served(self, store: str, *wanted: str) -> None:

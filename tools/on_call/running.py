@@ -129,11 +129,11 @@ def a_slow_disk(desk: Desk) -> None:
             told = told_of_a_wave(server, desk.path(f"health{seconds}"))
             see(desk.why(store, server), "a sync of both took ")
         if "stood still" in told or seconds > 2 and "have waited for the disk" not in told:
-            raise NotSeen(f"at {seconds} s a sync the check told: {sorted(told)}")
+            raise NotSeen(f"at {seconds} s a sync the check printed: {sorted(told)}")
 
 
 def told_of_a_wave(server: Serving, memory: str) -> set[str]:
-    """What the check tells from the begin of a wave to its end, by looks that follow each other closely: words of it."""
+    """What the check finds from the begin of a wave to its end, by looks that follow each other closely: words of it."""
     port, told, words = Port(server.address, LONG), set[str](), {"stood still", "have waited for the disk"}
     while True:
         view = port.show()

@@ -146,7 +146,7 @@ def legend(at: Layout) -> list[str]:
     """What the marks mean, in two rows."""
     upper, lower = at.bottom + 30, at.bottom + 58
     parts = []
-    for x, kind, text in ((20, "abort", "Abort: a reset goes out"), (245, "ack", "Ack: all behind it were reached"),
+    for x, kind, text in ((20, "abort", "Abort: a reset goes out"), (245, "ack", "Ack: all beyond it were reached"),
                           (520, "ready", "Ready: the reset is over")):
         style = f'stroke="{COLOURS[kind]}" stroke-width="2" marker-end="url(#{kind})"'
         parts += [line(x, upper, x + 36, upper, style), label(x + 46, upper + 4, text)]

@@ -592,7 +592,7 @@ def of_kills(tried: Tried) -> None:
         tried.kills += 1
         tried.kill()
         tried.start()
-        tried.all_talk(f"after it died at file call {call} behind a reset")
+        tried.all_talk(f"after it died at file call {call} after a reset")
 
 
 EVENTS = (of_resets, of_links, of_second_hand, of_nodes, of_confirms, of_restores, of_unreadable, of_kills, of_files)

@@ -183,7 +183,7 @@ def order_at_once(ring: Ring, staying: Staying, client: Client, count: int) -> N
             for place in range(count)]
     for request, reply in zip(sent, staying.ask_all(sent)):
         if "kind" not in reply or (client.reply and reply["step"] <= client.reply["step"]):
-            raise Lost(f"{request} was answered {reply} behind {client.reply}")
+            raise Lost(f"{request} was answered {reply} after {client.reply}")
         client.answered, client.reply = request, reply
         ring.note(client)
 
@@ -217,5 +217,5 @@ def tell(ring: Ring, done: int, met: dict[int | None, int]) -> None:
     within = sum(met.values()) - between - met.get(None, 0)
     print(f"{done} kills ({between} between two instances, {within} while the threads of one ended or started, "
           f"{met.get(None, 0)} elsewhere), at least {watch(ring).instances} instances: {history.count} steps, "
-          f"{len(history.printed)} signals printed, each once; {history.taken} settled and taken by a kill, so told by "
-          f"epochs alone", flush=True)
+          f"{len(history.printed)} signals printed, each once; {history.taken} settled and taken by a kill, so known by "
+          f"their epochs alone", flush=True)

@@ -6,7 +6,7 @@ before it the crate where it is another one than the catalogue's:
     % World::judge (value)
     % coord_world World::apply (outputs)
 
-The function is named by the end of its path, by as much of it as tells it apart.
+The function is named by the end of its path, by as much of it as distinguishes it.
 """
 
 from __future__ import annotations

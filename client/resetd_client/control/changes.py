@@ -28,7 +28,7 @@ def order(control: Control) -> int:
 
 
 def say_what_becomes_of_files(control: Control, nodes: list[int]) -> None:
-    """Tells a person what the services of nodes that were removed do with their files."""
+    """Says what the services of nodes that were removed do with their files."""
     if nodes and not control.words.quiet:
         complain(f"removed: {', '.join(map(str, nodes))}. A service may keep its files: if its node is added again it asks for one "
                  "reset. When it is removed for good, remove its files too")

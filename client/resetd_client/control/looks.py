@@ -51,7 +51,7 @@ def table(view: View) -> str:
 
 def watch(control: Control) -> int:
     """Draws the mode of each node, in place, as it changes; if the output is no terminal, it writes a line with the time
-    for each change. A front tells it of changes; a server's port it asks again and again."""
+    for each change. A front pushes each change; a server's port is asked again and again."""
     until = math.inf if control.words.for_seconds is None else time.monotonic() + control.words.for_seconds
     is_terminal = sys.stdout.isatty()
     wakes = wakes_of(control.port)

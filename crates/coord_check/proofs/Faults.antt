@@ -61,7 +61,7 @@ module _ {X : Type 0} (f : Letter → List X) where
   each_empty [] is = tt
   each_empty (x ∷ xs) is = let parts = both_empty (f x) (flat_map f xs) is in (parts.0, each_empty xs parts.1)
 
-  -- what no letter tells, each letter of a link doesn't
+  -- a fault that no letter reports, no letter of a link reports
   pub no_letter : f letter.N ≡ [] → flat_map f link_letters ≡ [] → (x : Letter) → f x ≡ []
   unfolding link_letters
   no_letter none is letter.N = none

@@ -26,7 +26,7 @@ known_printer known p = record { output = known; is_broken = p.is_broken; lost =
 abbrev pub known_end : {D V W : Type 0} → Option (List ℕ) → ServerEnd D V W → ServerEnd D V (Option (List ℕ))
 known_end known e = record { closed = e.closed; callers = e.callers; served = e.served; printer = known_printer known e.printer }
 
--- what grew behind a number is what grew
+-- what grew after a number is what grew
 grown : (first later : ℕ) (old new : Option (List ℕ)) (text : List ℕ) → Appends (known_as first old) (known_as later new) text → Appends old new text
 grown first later None new text is = tt
 grown first later (Some xs) None text is = absurd is

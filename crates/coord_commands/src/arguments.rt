@@ -10,7 +10,7 @@ use clap::error::ErrorKind;
 use clap::{Arg, ArgAction, ArgMatches, Command};
 use std::alloc::{AllocError, Global};
 
-/// What the arguments ask for, with the arguments behind its name.
+/// What the arguments ask for, with the arguments after its name.
 #[derive(Clone, Copy)]
 pub enum Task<'a> {
     /// Read requests from standard input, and print what becomes of each.

@@ -5,7 +5,7 @@ ghost use Rattle.coord_journal.specs.declared.layout.TheConstants.{MAX_HALF as G
 ghost use Rattle.coord_config.specs.declared.values.TheConstants.{MAX_HALF, MIN_HALF};
 ghost use Rattle.coord_commands.specs.Laws.{CommandsAreTaken};
 
-/// The arguments of each command are taken, and ask for it with the arguments behind its name.
+/// The arguments of each command are taken, and ask for it with the arguments after its name.
 #[tactic(auto, using(crate::proofs::CommandsTaken::commands_are_taken))]
 pub fn commands_are_taken()
     ensures { CommandsAreTaken }

@@ -57,7 +57,7 @@ module _ {bytes : List ℕ} {content : Content} {half_size half used : ℕ} (tex
   gate : length before ≡ gate_place half_size half used
   gate = omega (arith, text.holds.used_is, text.skips, length-append (text.selector ∷ magic) (to_be_bytes w64 half_size ++ (text.skipped ++ front)), length-append (to_be_bytes w64 half_size) (text.skipped ++ front), length-append text.skipped front)
 
-  -- The same text: by another selector of its half, with other bytes in front of that half, or behind its closed gate.
+  -- The same text: by another selector of its half, with other bytes in front of that half, or after its closed gate.
   pub respelled : (c : List ℕ) (selector : ℕ) (skipped behind : List ℕ) → selector % 2 ≡ half → length skipped ≡ length text.skipped → c ≡ lead selector half_size skipped (half_front content.version content.snapshot text.holds.opened ++ 0 ∷ behind) → IsTextAt c content half_size half used
   respelled c selector skipped behind selected skips is = record {
     selector = selector;

@@ -204,7 +204,7 @@ module _ (w : World) (range : InRange w) (accepted : ℕ) where
     once_alone true x = (λ none. none, tt)
     once_alone false x = tt
 
-    -- the key that an entry tells
+    -- the key of an entry
     abbrev IsNode : Entry → ℕ → Type 0
     IsNode (Node n e) k = n ≡ k
     IsNode (Link a b incarnation) k = ⊥

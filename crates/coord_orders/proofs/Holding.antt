@@ -55,7 +55,7 @@ pub record IsFree (c : ℕ) (base : World) (e : Exchange) : Type 0 where
   pub trail : trail_of c base e ≡ e.done
   pub settled : settled_of c base e ≡ trail_of c base e
 
--- what an answer with this meaning tells, if it is the one that is awaited
+-- what follows from an answer with this meaning, if it is the one that is awaited
 abbrev pub IsReturned : ℕ → World → Exchange → ℕ → Meaning → Type 0
 IsReturned c base e serial SendAgain = Unit {0}
 IsReturned c base e serial CountLost = (serial < e.sent) × (e.book.awaited ≡ Some serial → ⊥)

@@ -25,7 +25,7 @@ IsNoProbe None = Unit {0}
 IsNoProbe (Some s) = (u : ℕ) → s.command ≢ probe u
 
 -- over a world that takes steps, and whose last order of the client is no probe, a probe is refused, whatever its number is, and the
--- refusal tells whether it is the last number, the next one or another one
+-- refusal shows whether it is the last number, the next one or another one
 abbrev pub CountIsFound : Type 0
 CountIsFound = (w settled : World) (c n u : ℕ) → is_exhausted w ≡ false → IsNoProbe (get w.sessions c) →
     accepts w settled (Order c n (probe u)) ≡ Err (answer_to_probe w (last_number (get w.sessions c)) n u)

@@ -17,7 +17,7 @@ use Rattle.coord_starts.specs.declared.starts.Outcome.TheVariants.{Served, Raise
 use Rattle.coord_starts.specs.declared.starts.Task.{Task}
 use Rattle.coord_starts.specs.declared.starts.Task.TheVariants.{Serve, Migrate}
 
--- why a run of events ended early, as a store tells it
+-- why a run of events ended early, as a store reports it
 abbrev pub reported_as : RunFaultKind → StoreFault
 reported_as kind.OutOfMemory = OutOfMemory
 reported_as (kind.Store fault) = fault

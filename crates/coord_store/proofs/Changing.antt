@@ -73,7 +73,7 @@ module _ {D : Type 0} (m : DiskModel D) where
       let room = has_room m journal w half (length fits.body) (holds fits.keeps fits.going) fits.place in
       (rw (sym (as_long w fits.body body steps fits.spells takes.spells)) room.0, room.1)
 
-  -- the same change, told with the faults of another type
+  -- the same change, with the faults of another type
   pub returned_again : {T U E F : Type 0} (s n : Kept D) (next : World) (a : E) (b : F) (x : T) (y : U) → Changes m next a s n (Ok x) → Changes m next b s n (Ok y)
   returned_again s n next a b x y changes = record { any_moment = changes.any_moment; any_moment_refused = λ k none. tt; world = changes.world; going = changes.going; torn = λ e. ok_not y b e; same_world = tt; halves = changes.halves }
 

@@ -67,6 +67,6 @@ abbrev pub or_no_answer : Option Answer → Result Answer ReadFault
 or_no_answer None = Err NoAnswer
 or_no_answer (Some a) = Ok a
 
--- the answer that a text tells, read as JSON
+-- the answer that a text gives, read as JSON
 unfoldable pub answer_in : List ℕ → Result Answer ReadFault
 answer_in text = or_no_answer (option_and_then answer_of (read text))

@@ -3,7 +3,7 @@
 //!
 //! `specs/OrderLine.antt`, `specs/AnswerLine.antt` and `specs/ShowLine.antt` say them by
 //! docs/FORMATS.md, "Administration lines". [`print_order`] adds just that line to a text,
-//! [`read_answer`] tells the reply or the refusal that a line is, and [`read_show`] the view. The main
+//! [`read_answer`] returns the reply or the refusal of a line, and [`read_show`] the view. The main
 //! theorem is the contract of [`laws::names_are_read`]: each name that the server prints for a refusal of
 //! an order, or for what became of one, is read as that.
 #![tactic(auto)]

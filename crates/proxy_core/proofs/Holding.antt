@@ -43,7 +43,7 @@ Fresh r sent queued requests answers = (p : ℕ) → count_by (is_first_at p) se
 abbrev pub IsAgain : List Sent → Sent → Type 0
 IsAgain sent s = s.is_first ≡ false → IsKnown sent s
 
--- those of a connection that is not over: what it was told and what is in hand of it is what it asked
+-- those of a connection that is not over: its answers and its lines in hand are those that it asked
 abbrev pub Turn : List ℕ → List Delivery → List Request → List Request → List Request → Type 0
 Turn ended delivered in_flight queued requests = (c : ℕ) → is_ended c ended ≡ false → places_delivered c delivered ++ (places_of c in_flight ++ places_of c queued) ≡ places_of c requests
 
@@ -119,7 +119,7 @@ apart_of c d ended h = elim (c == d) as (λ b. (b || is_ended d ended) ≡ false
 going_of : (c d : ℕ) (ended : List ℕ) → is_ended d (c ∷ ended) ≡ false → is_ended d ended ≡ false
 going_of c d ended h = elim (c == d) as (λ b. (b || is_ended d ended) ≡ false → is_ended d ended ≡ false) [ true ↦ λ t. absurd (cc t) | false ↦ λ f. f ] h
 
--- whoever is over was told the first of what it asked, whether it is over now or was before
+-- a connection that is over had the answers to its first lines, whether it is over now or was before
 over_all : (ended : List ℕ) (delivered : List Delivery) (in_flight queued requests : List Request) → Turn ended delivered in_flight queued requests → Over ended delivered requests
     → (c : ℕ) → (more : List ℕ) × (places_delivered c delivered ++ more ≡ places_of c requests)
 over_all ended delivered in_flight queued requests turn over c =
@@ -238,7 +238,7 @@ turn_queued a ended delivered in_flight queued requests turn d going =
     ∙ ap (λ l. l ++ own) (turn d going)
     ∙ sym (of_push d requests a)
 
--- one that is over neither asks nor is told
+-- one that is over asks nothing and gets no answer
 over_push : (a : Request) (ended : List ℕ) (delivered : List Delivery) (requests : List Request) → is_ended a.from ended ≡ false → Over ended delivered requests → Over ended delivered (requests ++ a ∷ [])
 over_push a ended delivered requests going over d is =
     let apart : (a.from == d) ≡ false = ended_apart a.from d ended going is in

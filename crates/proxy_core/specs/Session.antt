@@ -1,5 +1,5 @@
 -- The joint promise of the proxy and the server's session rule: an unnumbered order is carried out at most once, and whoever is
--- told that its order was carried out is told of its own.
+-- answered that its order was carried out has the answer of its own.
 use Rattle.std.specs.Prelude.{◌≡◌, ℕ, ◌≤◌, ◌<◌, ◌==◌, ◌&&◌, Bool, true, List, count_by, Contains}
 use Rattle.proxy_core.specs.Rules.{Rules}
 use Rattle.proxy_core.specs.Run.{Sent, Answer, Count, Run, Event, new_run, run}
@@ -23,7 +23,7 @@ pub record Session (r : Rules) (w : Run) (done : List Sent) : Type 0 where
   -- an order that is refused on its merits had the next number, so nothing that was sent before it with that number was carried out
   pub order_refused : (h : Answer) → Contains w.answers h → h.sent.is_unnumbered ≡ true → r.is_refusal h.answer ≡ true
       → (s : Sent) → Contains done s → s.is_unnumbered ≡ true → s.number ≡ h.sent.number → h.sent.serial < s.serial
-  -- a reply to an order tells of one with its number that was sent no later, if no other process orders as the proxy's client
+  -- a reply to an order is that of one with its number that was sent no later, if no other process orders as the proxy's client
   pub number_used : (h : Answer) → Contains w.answers h → h.sent.is_unnumbered ≡ true → r.uses_number h.answer ≡ true
       → (s : Sent) × Contains done s × (s.is_unnumbered ≡ true) × (s.number ≡ h.sent.number) × (s.serial ≤ h.sent.serial)
   -- numbers stay below the greatest one: each is at most the count of steps

@@ -20,8 +20,8 @@ pub fn at_most_once()
     ensures { AtMostOnce }
 {}
 
-/// If the loop finds the last numbers right, whoever is told that its unnumbered order was carried out is
-/// told of its own order.
+/// If the loop finds the last numbers right, whoever is answered that its unnumbered order was
+/// carried out has the answer of its own order.
 pub fn own_replies()
     ensures { OwnReplies }
 {}

@@ -57,7 +57,7 @@ class Image(NamedTuple):
 @dataclass
 class Tally:
     """What became of the images. `refused` are those that the file system did not mount or gave no file of, or whose store the
-    program refused; `lost` those in which something answered is missing, or that tell another history. By the bytes of a unit.
+    program refused; `lost` those in which something answered is missing, or that have another history. By the bytes of a unit.
     `faults` are those that may not be: a lost one, or a refused one where 4,096 bytes are written whole. `told` has all."""
 
     images: collections.Counter[int] = field(default_factory=collections.Counter)

@@ -1,4 +1,4 @@
--- What a flight settles: of each step the reply and the releases, in order, and the tickets behind.
+-- What a flight settles: of each step the reply and the releases, in order, and then the tickets.
 use Rattle.std.proofs.Common.{◌≡◌, ℕ, zero, suc, ◌+◌, ◌≤◌, ◌==◌, true, cond, List, [], ◌∷◌, ◌++◌, map, length, take, drop, refl, sym, ap, ◌∙◌, append-nil, append_assoc, arith, inl, nat_le, slice_get}
 use Rattle.std.proofs.lemmas.Bool.Decides.{nat_tests}
 use Rattle.std.proofs.lemmas.List.{length-take}

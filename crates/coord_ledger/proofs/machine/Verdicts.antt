@@ -32,7 +32,7 @@ going_order log s = grind (arith, behind_repeat, full_first)
 pub submit_order : SubmitOrder
 submit_order log s = ap (cond (has_stopped log) (Err Stopped)) (going_order log s)
 
--- ---- what a verdict tells
+-- ---- what follows from a verdict
 
 -- a step that is accepted is fresh, and the log isn't full
 pub record IsAccepted (log : Log) (s : Step) (k : Kind) : Type 0 where

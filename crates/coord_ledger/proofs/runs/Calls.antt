@@ -122,7 +122,7 @@ failed_on [] (b ∷ given) e a many = absurd (omega (arith, many))
 failed_on (x ∷ es) [] e a many = absurd (omega (arith, many))
 failed_on (x ∷ es) (b ∷ given) e a many = let later = failed_on es given e a (omega (arith, many)) in omega (arith, later)
 
--- a commit tells it
+-- a commit's answer says how often its device failed
 commit_answer_failed : {T : Type 0} (r : Result T CommitFault) → failures_in r ≡ failed_at Commit (commit_answer r)
 commit_answer_failed (Ok done) = refl
 commit_answer_failed (Err why) = refl

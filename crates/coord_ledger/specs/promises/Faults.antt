@@ -18,7 +18,7 @@ abbrev pub failed_in_run : RunFaultKind → ℕ
 failed_in_run OutOfMemory = 0
 failed_in_run (Store fault) = failed_in_opening fault
 
--- how often the device has failed in an event that is answered so: only a commit tells it
+-- how often the device has failed in an event with this answer: only that of a commit says so
 abbrev pub failed_at : Event → Answer → ℕ
 failed_at Commit (Failed fault) = failed_in_commit fault
 failed_at event answer = 0
