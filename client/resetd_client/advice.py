@@ -23,7 +23,7 @@ WHAT_TO_DO = {
     Refusal.LINKS_FULL: "drop one first",
     Refusal.BAD_EPOCH: "it was confirmed before, or the node went back: look at `show`",
     Refusal.OLD: "nothing: repeats are expected",
-    Refusal.EARLY: "`resend` tells which packets are due",
+    Refusal.EARLY: "`resend` shows which packets are due",
     Refusal.DIFFERS: "find who made the packet: this world did not",
     Refusal.NOT_RELEASED: "the same",
     Refusal.PENDING_FULL: "the same order after a while",

@@ -37,7 +37,7 @@ class Desk:
         self.seats = [Seat(os.path.join(folder, name)) for name in names]
         self._least = max([numbers.get(seat.name, 0) for seat in self.seats], default=0)
         self.starts = Starts(shelf, node, self._begun())
-        self.telling: int | None = None  # the epoch that this process told, which is not confirmed yet
+        self.telling: int | None = None  # the epoch of this process's last instruction, if it is not confirmed yet
         self.tag: str | None = None  # of the run that the members may talk in: empty if the node is alone
 
     @property
@@ -53,7 +53,7 @@ class Desk:
         return Due.WAIT if self._is_told(row) else self.starts.due(view, row)
 
     def has_begun(self, row: Node) -> bool:
-        """Whether all members have begun what this process told them, and that is kept, so that it is due to be confirmed."""
+        """Whether all members have begun this process's last instruction, and that is kept, so that it is due to be confirmed."""
         return self._is_told(row) and self.starts.begun == row.epoch
 
     def awaits_begin(self) -> bool:
@@ -118,7 +118,7 @@ class Gateway(Following):
         self._is_through = False
         self._last: View | None = None
         if earlier := [seat.name for desk in self.desks for seat in desk.seats if seat.is_earlier]:
-            self._told(f"{len(earlier)} members were told by a gateway of an earlier version ({earlier[0]} is one): start them again "
+            self._told(f"{len(earlier)} members have instructions of a gateway of an earlier version ({earlier[0]} is one): start them again "
                        "with this version")
 
     def look(self) -> View:
