@@ -249,3 +249,22 @@ class Names(Copied):
         status, said = self.compare(copy, "names")
         self.assertEqual(status, 1, said)
         self.assertRegex(said, r"Connections\.antt:\d+: Thingummy: write the thing's name \(docs/retired\.txt\)")
+
+    def test_a_retired_term_may_be_a_name_of_code(self) -> None:
+        """After `prose of` it is refused in comments and strings alone, in each language."""
+        copy = self.copy()
+        with open(copy / "docs/retired.txt", "a", encoding="utf-8") as retired:
+            retired.write("prose of crates,refusals\t\\bxyzzy\\b\tnothing\n")
+        added = {CONNECTIONS: ("xyzzy : ℕ", "-- an xyzzy"), "crates/coord_admin/src/lib.rt": ("mod xyzzy;", "/// An xyzzy."),
+                 "refusals/places.py": ("xyzzy = 1", "NAME = f\"an xyzzy {NAME}\""), "refusals/run": ("xyzzy = 1", "# an xyzzy")}
+        for file, (code, _) in added.items():
+            with open(copy / file, "a", encoding="utf-8") as text:
+                text.write(f"{code}\n")
+        self.assertEqual(self.compare(copy, "names")[0], 0)
+        for file, (_, prose) in added.items():
+            with open(copy / file, "a", encoding="utf-8") as text:
+                text.write(f"{prose}\n")
+        status, said = self.compare(copy, "names")
+        self.assertEqual(status, 1, said)
+        for file in added:
+            self.assertRegex(said, rf"{file}:\d+: xyzzy: write nothing \(docs/retired\.txt\)")
