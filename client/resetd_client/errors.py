@@ -20,16 +20,16 @@ class ResetdError(Exception):
 
 
 class BadWords(ResetdError, ValueError):
-    """The caller's words are wrong: an address, or a number out of its range. Nothing was sent. Needs a person: who
-    wrote the words."""
+    """An argument is invalid: an address, or a number out of its range. Nothing was sent. Needs a person: the caller's
+    author."""
 
 
 class Unreadable(ResetdError, ValueError):
-    """A file that the library keeps, or takes its words from, does not read. Needs a person: the text says what to do.
+    """A file that the library keeps, or that configures it, can't be read. Needs a person: the text says what to do.
     `path` is the file."""
 
     def __init__(self, path: str, what_to_do: str) -> None:
-        super().__init__(f"{path} does not read{what_to_do}")
+        super().__init__(f"{path} can't be read{what_to_do}")
         self.path = path
 
 

@@ -89,8 +89,8 @@ class Comparison:
             return Level.UNKNOWN, [f"the store can't be compared: {fault}"]
         if not differs:
             return Level.OK, []
-        return Level.CRITICAL, [f"that is not the store on this file: {self._path} {differs}; its present answers are lost when the "
-                                "server ends: leave it running (OPERATING, Backup and restore)"]
+        return Level.CRITICAL, [f"that is not the store on this file: {self._path} {differs}; the server's present answers are lost "
+                                "when it ends: leave it running (OPERATING, Backup and restore)"]
 
 
 def findings(view: View, since: Since, bounds: Bounds) -> list[str]:
@@ -147,8 +147,8 @@ def missing_signals(view: View, signals: Signals, since: Since, bounds: Bounds) 
     if not late:
         return []
     more = f" and {len(late) - 1} more" if len(late) > 1 else ""
-    return ["the file of signals lacks `signal {} {}`{} for {:.0f} s: the server can't print, services learn of a reset by "
-            "looking alone; make room and start it again".format(*late[0], more, lasted[late[0]])]
+    return ["the file of signals lacks `signal {} {}`{} for {:.0f} s: the server can't print, and services learn of a reset only "
+            "by looking; free some space and restart it".format(*late[0], more, lasted[late[0]])]
 
 
 def metrics(view: View | None, is_stopped: bool, differs: bool | None = None) -> str:
@@ -157,7 +157,7 @@ def metrics(view: View | None, is_stopped: bool, differs: bool | None = None) ->
     rows = [("resetd_up", "gauge", "1 if the server answers", [("", int(view is not None or is_stopped))]),
             ("resetd_stopped", "gauge", "1 if the server answers Stopped", [("", int(is_stopped))])]
     if differs is not None:
-        rows.append(("resetd_store_differs", "gauge", "1 if the server's store is not on its file", [("", int(differs))]))
+        rows.append(("resetd_store_differs", "gauge", "1 if the server's store is no longer on its file", [("", int(differs))]))
     if view:
         names = [(f'{{node="{node.node}",group="{node.group}"}}', node) for node in view.nodes]
         rows += [
@@ -167,7 +167,7 @@ def metrics(view: View | None, is_stopped: bool, differs: bool | None = None) ->
             ("resetd_node_epoch", "gauge", "a node's epoch", [(name, node.epoch) for name, node in names]),
             ("resetd_node_confirmed", "gauge", "the last epoch that was confirmed",
              [(name, node.confirmed) for name, node in names]),
-            ("resetd_node_in_reset", "gauge", "1 if a reset is at the node",
+            ("resetd_node_in_reset", "gauge", "1 if the node is in a reset",
              [(name, int(node.mode != "ready")) for name, node in names])]
     return "".join(f"# HELP {name} {about}.\n# TYPE {name} {kind}\n" +
                    "".join(f"{name}{labels} {value}\n" for labels, value in values)

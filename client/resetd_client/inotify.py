@@ -35,13 +35,13 @@ class Inotify:
         return int(self._descriptor)
 
     def watch(self, folder: str) -> int | None:
-        """Watches a folder from now on, also one that came in the place of another. Returns the number of the watch, None if the
-        folder is not there."""
+        """Watches a folder from now on, even if it has replaced another one. Returns the number of the watch, or None if there is
+        no such folder."""
         number = int(self._add(self._descriptor, os.fsencode(folder), ctypes.c_uint32(MASK)))
         return number if number >= 0 else None
 
     def take(self) -> set[int] | None:
-        """The watches in whose folders something has changed since the last call; None if that is not known."""
+        """Returns the watches whose folders have changed since the last call, or None if that is unknown."""
         changed, is_known = set[int](), True
         try:
             while events := os.read(self._descriptor, EVENTS_BYTES):

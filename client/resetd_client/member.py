@@ -195,7 +195,7 @@ class Member(Following):
         return self._next_wait(self._run is not None or not self._is_there, every)
 
     def __enter__(self) -> Member:
-        """Begins to follow, in a thread. Raises ValueError at an `every` that lets no time pass."""
+        """Starts a thread that follows. Raises ValueError if `every` is not positive."""
         check_every(self._every)
         self._thread = threading.Thread(target=self._follow_alone, name=f"member {self.node}", daemon=True)
         self._thread.start()

@@ -65,8 +65,8 @@ def shown_to(view: View, row: Node) -> Shown:
 
 
 def judge(kept: Kept, history: Container[str], shown: Shown) -> Judged:
-    """The due action. `history` has the digests of all parties with which a start of the member ever first talked; that of a
-    start that was alone is not among them."""
+    """Returns the due action. `history` has the digest of each party with which a start of the member first talked, except
+    those of starts that were alone."""
     digest = digest_of(shown.party)
     if shown.epoch > shown.confirmed and digest not in history:
         return Judged(Due.BEGIN, Kept())

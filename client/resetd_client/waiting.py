@@ -38,12 +38,12 @@ def of_group(part: Part, entries: list[Entry]) -> Iterator[Finding]:
 
 
 def others(part: Part) -> str:
-    """Who waits for a member."""
+    """Describes who waits for a member."""
     return f"the {len(part.nodes)} nodes of its group wait" if len(part.nodes) > 1 else "it is connected with nobody"
 
 
 def sign_of_life(node: Node, entries: list[Entry]) -> str:
-    """When the node's member was last heard of: an order that names the node and is a member's."""
+    """Describes the last sign of life of the member in the audit: a confirm or a reset of its node."""
     mine = [entry for entry in entries if request_of(entry).get("op") in ("confirm", "reset") and request_of(entry).get("node") == node.node]
     if not mine:
         return "; the audit has no sign of life of it" if entries else ""

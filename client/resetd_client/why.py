@@ -28,7 +28,7 @@ def of_file(path: str, account: Account | None = None) -> Iterator[Finding]:
     except OSError as fault:
         yield of_absence(path, fault)
         return
-    kind = KINDS.get(stat.S_IFMT(found.st_mode), "thing of another kind")
+    kind = KINDS.get(stat.S_IFMT(found.st_mode), "file of another kind")
     is_file = kind == "file"
     yield Finding("file", f"a {kind} of {found.st_size:,} bytes, {owned(found)}" + ("" if is_file else "; a store is a regular file"),
                   "" if is_file else "Device")
@@ -39,7 +39,7 @@ def of_file(path: str, account: Account | None = None) -> Iterator[Finding]:
     try:
         store = read_store(path)
     except NoStore as fault:
-        yield Finding("store", f"does not read: {fault}" + (": the file is empty" if not found.st_size else ""), fault.name)
+        yield Finding("store", f"is not a readable store: {fault}" + (": the file is empty" if not found.st_size else ""), fault.name)
     except (OSError, Restless) as fault:
         yield Finding("store", f"can't be read: {fault}", "Device")
     else:
@@ -52,8 +52,8 @@ def of_absence(path: str, fault: OSError) -> Finding:
     if fault.errno != errno.ENOENT:
         return Finding("file", f"{fault.strerror}", "Device")
     if os.path.islink(path):
-        return Finding("file", f"a link that leads nowhere: {os.path.realpath(path)}", "Device")
-    return Finding("file", f"{fault.strerror}; a start would make an empty one", "NoMagic")
+        return Finding("file", f"a symbolic link to a missing file: {os.path.realpath(path)}", "Device")
+    return Finding("file", f"{fault.strerror}; a start would create an empty file", "NoMagic")
 
 
 def of_folder(folder: str) -> Iterator[Finding]:
@@ -75,21 +75,21 @@ def owned(found: os.stat_result) -> str:
 def of_access(path: str, account: Account) -> Iterator[Finding]:
     """Whether the server's user may use the file and its folder, and whether the disk takes a sync."""
     if not may_try_as(account):
-        yield Finding("access", f"whether {account.name} may open it, root alone can try (sudo)",
+        yield Finding("access", f"only root can check whether {account.name} may open it (sudo)",
                       left_out=f"whether {account.name} may open it")
         return
     if not account.is_known:
-        yield Finding("access", f"no user of this machine has the number {account.uid}, which owns the folder: it may be that of the "
-                                "machine that it came from; --user names the server's")
+        yield Finding("access", f"no user of this machine has the number {account.uid}, which owns the folder: it may be from another "
+                                "machine; give the server's user with --user")
     trial = tried_as(account, os.path.realpath(path))
     if trial.failed:
-        yield Finding("access", f"the user {account.name} {trial.failed}; if the server runs as {account.name}: chown {account.name} "
-                                f"{path}, and look at the modes above", "Device")
+        yield Finding("access", f"the user {account.name} {trial.failed}; if the server runs as {account.name}, run chown {account.name} "
+                                f"{path}, and check the modes above", "Device")
     elif trial.synced is None:
-        yield Finding("access", f"to open it and its folder and to sync both takes longer than {SYNC_SECONDS:g} s",
-                      later="a disk that is slow or hangs")
+        yield Finding("access", f"opening and syncing it and its folder takes longer than {SYNC_SECONDS:g} s",
+                      later="a slow or hanging disk")
     else:
-        yield Finding("access", f"the user {account.name} may open it and its folder, and a sync of both took {trial.synced:.3f} s")
+        yield Finding("access", f"the user {account.name} may open it and its folder; syncing both took {trial.synced:.3f} s")
 
 
 def of_lock(found: os.stat_result) -> Iterator[Finding]:
@@ -107,7 +107,7 @@ def of_program(process: int) -> Iterator[Finding]:
     """Which program a process runs: its path and checksum distinguish one build of the server from another."""
     if program := program_of(process):
         yield Finding("program", f"process {process} runs {program.path}, SHA-256 {program.checksum}" + (
-            "" if program.is_there else "; its path has another one now: it runs the old one until it is restarted"))
+            "" if program.is_there else "; the file at that path has changed: the process runs the old one until it is restarted"))
 
 
 def of_output(process: int) -> Iterator[Finding]:
@@ -115,14 +115,14 @@ def of_output(process: int) -> Iterator[Finding]:
     pipe = output_pipe(process)
     if pipe is not None:
         read = ", ".join(f"process {each}{commanded(each)}" for each in pipe.readers) or "no process"
-        yield Finding("output", f"process {process} writes into a pipe, which {read} reads" +
+        yield Finding("output", f"process {process} writes to a pipe that {read} reads" +
                       ("; it is full: end its reader" if pipe.is_full else ""), later="an output that nobody reads" if pipe.is_full else "")
 
 
 def of_limit(who: str, limit: int | None, needed: int) -> Iterator[Finding]:
     if limit is not None and limit < needed:
-        yield Finding("limit", f"{who} may let a file grow to {limit:,} bytes alone: beyond it ends by SIGXFSZ, without a word",
-                      later="the end by a signal")
+        yield Finding("limit", f"{who} may write files of at most {limit:,} bytes: a longer one ends it by SIGXFSZ, without a message",
+                      later="its end by a signal")
 
 
 def of_store(store: Store) -> Iterator[Finding]:
@@ -130,11 +130,11 @@ def of_store(store: Store) -> Iterator[Finding]:
     behind = store.count - store.world.count
     yield Finding("store", f"version {half.version}, {store.count:,} steps: {store.world.count:,} in the snapshot, {behind:,} in "
                            f"{len(store.batches):,} batches after it")
-    yield Finding("store", f"half {half.index} is read; {half.used:,} of its {half.size:,} bytes are in use")
+    yield Finding("store", f"half {half.index} is selected; {half.used:,} of its {half.size:,} bytes are used")
     nodes = [node for node, mode in store.world.modes.items() if mode != "ready"]
     if nodes:
-        yield Finding("store", f"in the snapshot a reset is at {', '.join(map(str, nodes))}")
-    yield Finding("store", "reads as a store by its bytes; whether its steps are taken and its world is legal, resetd check says")
+        yield Finding("store", f"in the snapshot these nodes are in a reset: {', '.join(map(str, nodes))}")
+    yield Finding("store", "its bytes are a store; resetd check says whether its steps are accepted and its world is legal")
 
 
 def of_space(path: str, found: os.stat_result) -> Iterator[Finding]:
@@ -144,7 +144,7 @@ def of_space(path: str, found: os.stat_result) -> Iterator[Finding]:
     yield Finding("space", f"{free:,} bytes are free, and the file may take {lacks:,} more",
                   later="Stopped" if free < lacks else "")
     if space.f_flag & os.ST_RDONLY:
-        yield Finding("space", "the file system is mounted to be read only", "Device")
+        yield Finding("space", "the file system is mounted read-only", "Device")
     limit = resource.getrlimit(resource.RLIMIT_FSIZE)[0]
     yield from of_limit("this shell", None if limit == resource.RLIM_INFINITY else limit, full)
     for process in lock_holders(found):

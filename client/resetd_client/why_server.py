@@ -20,7 +20,7 @@ KEPT_SECONDS = "11 minutes"  # the longest that one client keeps all others out
 CONDITIONS = {
     Condition.STOPPED: ("is stopped by a signal (SIGSTOP or a debugger): kill -CONT {} continues it", "a stop"),
     Condition.IN_A_CALL: ("has a thread in a system call that does not return, such as a sync of a slow or hanging disk: "
-                          "see the kernel's log (journalctl -k)", "a disk that is slow or hangs"),
+                          "see the kernel's log (journalctl -k)", "a slow or hanging disk"),
     Condition.SPINNING: ("has a thread that is always busy: it works, or it spins", ""),
 }
 
@@ -41,10 +41,10 @@ def of_address(text: str, seconds: float, path: str, audit: str = AUDIT) -> Iter
     except OSError as fault:
         yield Finding("address", f"{host}: {fault.strerror}", "Socket")
     if port < lowest_port() and os.geteuid() != 0:
-        yield Finding("address", f"port {port} is root's: others have those from {lowest_port()}", "Socket")
+        yield Finding("address", f"only root may use port {port}: others may use ports from {lowest_port()}", "Socket")
     listeners = sorted(listening(host, port))
     for process in listeners:
-        yield Finding("address", f"process {process}{commanded(process)} listens there: a second one can't", "Socket")
+        yield Finding("address", f"process {process}{commanded(process)} listens there: no other process can", "Socket")
     yield from of_answer(f"{host}:{port}", seconds, path, listeners, audit)
 
 
@@ -53,10 +53,10 @@ def of_network(path: str) -> Iterator[Finding]:
     for process in filter(has_other_network, holders_of(path)):
         try:
             join_network(process)
-            yield Finding("address", f"process {process} has a private network: the address is checked inside it")
+            yield Finding("address", f"process {process} has a private network: the address is checked inside that network")
         except OSError as fault:
             text = f"process {process} has a private network, which can't be joined ({fault.strerror})"
-            yield Finding("address", text, left_out="what is at the address in there")
+            yield Finding("address", text, left_out="what listens at the address inside it")
         return
 
 
@@ -67,7 +67,7 @@ def of_answer(address: str, seconds: float, path: str, listeners: list[int], aud
     try:
         view = Port(address, seconds).show()
     except NotNow as not_now:
-        yield Finding("answer", f"a coordinator says {not_now.name}: its device has failed, or it is ending; resetctl close ends it",
+        yield Finding("answer", f"a coordinator answers {not_now.name}: its device has failed, or it is ending; resetctl close ends it",
                       fault)
     except NotTaken as other:
         yield Finding("answer", str(other), fault)
@@ -94,9 +94,9 @@ def of_store_behind(path: str, before: Reading | None, view: View) -> Iterator[F
     after = read_if_allowed(path)
     if not before or not after:
         text = "whether the coordinator has the store on this file"
-        yield Finding("answer", f"{text} can't be seen by this user, or while it is at work", left_out=text)
+        yield Finding("answer", f"unknown {text}: this user can't read it, or it changes too fast", left_out=text)
     elif differs := difference(before, view, after):
-        yield Finding("answer", f"that is not the store on this file: it {differs}. The coordinator has another one, or this one was "
+        yield Finding("answer", f"that is not the store on this file: it {differs}. The coordinator has another store, or this file was "
                                 "overwritten, truncated or replaced under it, and its answers are lost when it ends", later="a loss")
 
 
@@ -116,7 +116,7 @@ def of_silence(address: str, servers: list[int]) -> Iterator[Finding]:
     having = peers(*host_and_port(address))
     for peer in having:
         if peer.is_served:
-            yield Finding("client", f"{told_peer(peer)} has the one connection, and nobody else is served: end it, or wait, "
+            yield Finding("client", f"{told_peer(peer)} has the one connection, and nobody else is served: end it, or wait "
                                     f"at most {KEPT_SECONDS}", later="a client that keeps the one connection")
     if waiting := [peer for peer in having if not peer.is_served and peer.user is not None]:
         yield Finding("client", f"{', '.join(map(told_peer, waiting))} {'wait' if len(waiting) > 1 else 'waits'} for a connection")
@@ -128,8 +128,8 @@ def told_peer(peer: Peer) -> str:
         return " and ".join(f"process {each}{commanded(each)}" for each in peer.processes) + (
             f" of {user_name(peer.user)}" if peer.user is not None else "")
     if peer.user is not None:
-        return f"a process of {user_name(peer.user)} (root sees which) at {peer.address}"
-    return f"a client at {peer.address}, of no process here,"
+        return f"a process of {user_name(peer.user)} (only root sees which) at {peer.address}"
+    return f"a client at {peer.address} without a process on this machine"
 
 
 def lowest_port() -> int:

@@ -71,7 +71,7 @@ class Link(asyncio.Protocol):
 
 
 class Upstream:
-    """Sends what waits in a pairing, a flight after the other."""
+    """Sends the waiting lines of a pairing, one flight after another."""
 
     def __init__(self, addresses: str, pairing: Pairing, own: OwnOrders, views: Views, events: Events, silent: float) -> None:
         """`addresses` are HOST:PORT, one or several of one coordinator with commas between; one that has answered nothing for

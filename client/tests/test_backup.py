@@ -74,8 +74,8 @@ class Words(Case):
             file.write("something else than a store")
         self.run_words("backup", self.store, self.out)
         for source, out, said in ((self.store, self.store, "this is the store itself"),
-                                  (self.out, self.store, "a process has locked it: a store that is served is not replaced"),
-                                  (self.store, f"{self.folder}/text", "it holds something else than a store")):
+                                  (self.out, self.store, "a process has locked it: a store that is being served can't be replaced"),
+                                  (self.store, f"{self.folder}/text", "it is not a store")):
             self.assertEqual(self.run_words("backup", source, out), (2, "", f"resetctl: {out}: {said}\n"))
 
     def test_what_is_no_file_is_not_replaced(self) -> None:

@@ -158,8 +158,8 @@ class Lagging(Case):
         return check(self.port, Since(f"{self.folder}/since", now), bounds, 0.0, Signals(self.path, f"{self.folder}/kept")).findings
 
     def lag(self, node: int, epoch: int, more: str, seconds: int) -> tuple[str, ...]:
-        return (f"the file of signals lacks `signal {node} {epoch}`{more} for {seconds} s: the server can't print, services learn "
-                "of a reset by looking alone; make room and start it again",)
+        return (f"the file of signals lacks `signal {node} {epoch}`{more} for {seconds} s: the server can't print, and services learn "
+                "of a reset only by looking; free some space and restart it",)
 
     def test_lines_that_do_not_come(self) -> None:
         self.assertEqual(self.look(0), ())

@@ -50,7 +50,7 @@ class Files(Case):
         for data, count, index, used in ((APPENDED, 1, 0, 45), (CHECKPOINTED, 0, 1, 17)):
             status, lines = self.why(self.put(data))
             self.assertEqual((status, lines[-1]), (0, "nothing found here prevents a start"))
-            self.assertIn(f"store    half {index} is read; {used} of its 32,768 bytes are in use", lines)
+            self.assertIn(f"store    half {index} is selected; {used} of its 32,768 bytes are used", lines)
             self.assertTrue(any(line.startswith(f"store    version 1, {count} steps: 0 in the snapshot") for line in lines))
             self.assertRegex(lines[1], rf"^file     a file of {len(data):,} bytes, -rw-r----- \S+:\S+$")
             self.assertIn("lock     nobody on this machine holds it", lines)
@@ -62,13 +62,13 @@ class Files(Case):
                            (APPENDED[:48] + b"\7" + APPENDED[49:], "BadBatch: at byte 48, batch 0 is not a batch (BadByte)")):
             status, lines = self.why(self.put(data))
             name = told.split(":")[0]
-            self.assertEqual((status, lines[-1]), (1, f"a start now would end with {name}: store: does not read: {told}"))
+            self.assertEqual((status, lines[-1]), (1, f"a start now would end with {name}: store: is not a readable store: {told}"))
 
     def test_what_is_no_file(self) -> None:
         os.mkfifo(f"{self.folder}/fifo")
         os.symlink(f"{self.folder}/nowhere", f"{self.folder}/link")
-        for path, told in (("none", "NoMagic: file: No such file or directory; a start would make an empty one"),
-                           ("link", f"Device: file: a link that leads nowhere: {self.folder}/nowhere"),
+        for path, told in (("none", "NoMagic: file: No such file or directory; a start would create an empty file"),
+                           ("link", f"Device: file: a symbolic link to a missing file: {self.folder}/nowhere"),
                            ("none/store", f"Device: folder: {self.folder}/none: No such file or directory"),
                            (".", "Device: file: a folder of "), ("fifo", "Device: file: a FIFO of 0 bytes, p"),
                            ("/dev/null", "Device: file: a character device of 0 bytes, c")):
@@ -93,8 +93,8 @@ class Files(Case):
         resource.setrlimit(resource.RLIMIT_FSIZE, (65_552, before[1]))
         self.addCleanup(resource.setrlimit, resource.RLIMIT_FSIZE, before)
         status, lines = self.why(store)
-        self.assertEqual((status, lines[-1]), (1, "a server that runs meets the end by a signal: limit: this shell may let a file "
-                                                  "grow to 65,552 bytes alone: beyond it ends by SIGXFSZ, without a word"))
+        self.assertEqual((status, lines[-1]), (1, "a running server will meet its end by a signal: limit: this shell may write files "
+                                                  "of at most 65,552 bytes: a longer one ends it by SIGXFSZ, without a message"))
 
     @unittest.skipUnless(os.geteuid() == 0, "it needs root: it acts as another user")
     def test_the_user_of_the_server(self) -> None:
@@ -112,7 +112,7 @@ class Files(Case):
         os.chown(store, nobody.pw_uid, -1)
         status, lines = self.why(store)
         self.assertEqual((status, lines[-1]), (0, "nothing found here prevents a start"))
-        self.assertTrue(any("the user nobody may open it and its folder, and a sync of both took" in line for line in lines), lines)
+        self.assertTrue(any("the user nobody may open it and its folder; syncing both took" in line for line in lines), lines)
         os.chmod(self.folder, 0o300)
         self.assertIn("access: the user nobody can't open its folder: Permission denied", self.why(store)[1][-1])
 
@@ -133,7 +133,7 @@ class Files(Case):
         store = self.put(FRESH)
         with mock.patch("resetd_client.access.os.geteuid", return_value=12_345):
             status, lines = self.why("--user", "54321", store)
-        self.assertEqual((status, lines[-1]), (0, "nothing found here prevents a start; whether 54321 may open it is not known"))
+        self.assertEqual((status, lines[-1]), (0, "nothing found here prevents a start; not checked: whether 54321 may open it"))
 
     def test_a_disk_that_hangs(self) -> None:
         """A sync that does not come back holds nothing up here."""
@@ -141,7 +141,7 @@ class Files(Case):
             trial = tried_as(account_of(os.geteuid()), self.put(FRESH), 1.0)
         self.assertEqual(trial, Trial("", None))
         with mock.patch("resetd_client.why.tried_as", return_value=trial):
-            self.assertIn("a server that runs meets a disk that is slow or hangs: access: ", self.why(f"{self.folder}/store")[1][-1])
+            self.assertIn("a running server will meet a slow or hanging disk: access: ", self.why(f"{self.folder}/store")[1][-1])
         with mock.patch("resetd_client.access.os.fdatasync", side_effect=OSError(5, "Input/output error")):
             self.assertEqual(tried_as(account_of(os.geteuid()), self.put(FRESH)).failed, "can't sync it: Input/output error")
 
@@ -183,7 +183,7 @@ class Files(Case):
         self.server.ring(2)
         status, lines = self.why(self.put(FRESH), self.server.address)
         self.assertEqual(status, 1)
-        self.assertTrue(any(line.startswith("a server that runs meets a loss: answer: that is not the store on this file")
+        self.assertTrue(any(line.startswith("a running server will meet a loss: answer: that is not the store on this file")
                             for line in lines))
 
 
@@ -263,7 +263,7 @@ class Networks(unittest.TestCase):
                 why = subprocess.run([sys.executable, f"{ROOT}/client/resetctl", "why", store, "127.0.0.1:4170"],
                                      stdout=subprocess.PIPE, encoding="utf-8", check=False)
                 server.kill()
-            self.assertIn(f"process {server.pid} has a private network: the address is checked inside it", why.stdout)
+            self.assertIn(f"process {server.pid} has a private network: the address is checked inside that network", why.stdout)
             self.assertIn(f"a start now would end with Device: lock: held by process {server.pid} (", why.stdout)
             self.assertIn("a coordinator with 0 nodes and 0 steps on the disk", why.stdout)
 
@@ -330,7 +330,7 @@ class BesideTheProgram(Case):
         shutil.copy(sys.executable, f"{program}.new")
         os.replace(f"{program}.new", program)
         _, out, _ = self.run_words("why", self.server.store)
-        self.assertIn(f"{told}; its path has another one now", out)
+        self.assertIn(f"{told}; the file at that path has changed", out)
 
     def test_a_client_that_keeps_the_one_connection(self) -> None:
         assert isinstance(self.server, Real) and self.server.process
@@ -339,7 +339,7 @@ class BesideTheProgram(Case):
             client.sendall(b'{"op":"show"}\n')
             self.assertTrue(client.recv(1))  # it is this one that is served
             lines = self.run_words("why", self.server.store, self.server.behind)[1].splitlines()
-        keeps = "a server that runs meets a client that keeps the one connection: client: process "
+        keeps = "a running server will meet a client that keeps the one connection: client: process "
         self.assertTrue(any(line.startswith(f"{keeps}{os.getpid()} (") for line in lines), lines)
 
     def test_a_server_that_is_stopped(self) -> None:
@@ -348,7 +348,7 @@ class BesideTheProgram(Case):
         os.kill(process, signal.SIGSTOP)
         lines = self.run_words("why", self.server.store, self.server.behind)[1].splitlines()
         os.kill(process, signal.SIGCONT)
-        stopped = f"a server that runs meets a stop: server: process {process} is stopped by a signal"
+        stopped = f"a running server will meet a stop: server: process {process} is stopped by a signal"
         self.assertTrue(any(line.startswith(stopped) and f"kill -CONT {process}" in line for line in lines), lines)
         self.assertFalse(any("the one connection, and nobody" in line for line in lines), lines)
 
@@ -373,16 +373,16 @@ class BesideTheProgram(Case):
         self.addCleanup(process.kill)
         os.close(writer)
         self.server.behind = os.read(reader, 100).decode().split()[1]
-        output = f"output   process {process.pid} writes into a pipe, which process {os.getpid()} ("
+        output = f"output   process {process.pid} writes to a pipe that process {os.getpid()} ("
         told = self.run_words("why", self.server.store, self.server.behind)[1]
         self.assertIn(output, told)
-        self.assertNotIn("a server that runs meets", told)
+        self.assertNotIn("a running server will meet", told)
         for number in range(1, 401):
             self.server.ask(op="reset", client=9, number=number, node=1)
         self.assertEqual(self.server.ask(op="close"), {"kind": "closed"})
         told = self.run_words("why", self.server.store, self.server.behind)[1]
         self.assertIn(output, told)
-        self.assertIn("a server that runs meets an output that nobody reads: output: process", told.splitlines()[-1])
+        self.assertIn("a running server will meet an output that nobody reads: output: process", told.splitlines()[-1])
 
     def test_a_file_that_was_cut_under_its_server(self) -> None:
         assert isinstance(self.server, Real)

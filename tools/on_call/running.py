@@ -83,7 +83,7 @@ def another_store(desk: Desk) -> None:
         server.await_quiet()
         words = ("--store", store, "--unconfirmed", "1000000")
         see(desk.health(server, *words).text, f"resetd CRITICAL: that is not the store on this file: {store} has ")
-        see(desk.why(store, server), "a server that runs meets a loss: answer: that is not the store on this file")
+        see(desk.why(store, server), "a running server will meet a loss: answer: that is not the store on this file")
         folder = f"/proc/{server.process.pid}/fd"
         held = next(f"{folder}/{name}" for name in os.listdir(folder) if os.readlink(f"{folder}/{name}") == f"{store} (deleted)")
         see(desk.resetctl("backup", held, desk.path("left")).text, "copied ")
@@ -127,7 +127,7 @@ def a_slow_disk(desk: Desk) -> None:
             with server.connect() as connection:
                 connection.send({"op": "reset", "client": 1, "number": 1, "node": 1})
             told = told_of_a_wave(server, desk.path(f"health{seconds}"))
-            see(desk.why(store, server), "a sync of both took ")
+            see(desk.why(store, server), "syncing both took ")
         if "stood still" in told or seconds > 2 and "have waited for the disk" not in told:
             raise NotSeen(f"at {seconds} s a sync the check printed: {sorted(told)}")
 

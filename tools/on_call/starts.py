@@ -48,7 +48,7 @@ def no_regular_file(desk: Desk) -> None:
 def any_fault(desk: Desk) -> None:
     store = desk.store()
     os.truncate(store, 60)
-    see(desk.why(store), "a start now would end with BadRecord: store: does not read: BadRecord: at byte ")
+    see(desk.why(store), "a start now would end with BadRecord: store: is not a readable store: BadRecord: at byte ")
     desk.start_ends(store, 1, "BadRecord")
     see(desk.resetctl("report", "--store", store, desk.path("report.tar.gz"), patience=0, seconds=2).text, "why.txt", "written to ")
 
@@ -62,7 +62,7 @@ def a_limit(desk: Desk) -> None:
         resource.setrlimit(resource.RLIMIT_FSIZE, (most, most))
 
     with Serving(store, preexec_fn=limit_files) as server:
-        see(desk.why(store), f"process {server.process.pid} may let a file grow to {most:,} bytes alone")
+        see(desk.why(store), f"process {server.process.pid} may write files of at most {most:,} bytes")
         number = 0
         while server.process.poll() is None:
             number += 1
@@ -80,7 +80,7 @@ def no_store(desk: Desk) -> None:
     copy = desk.store(name="copy")
     store = desk.write("store", b"")
     desk.start_ends(store, 1, "NoMagic")
-    see(desk.why(store), "a start now would end with NoMagic: store: does not read", "the file is empty")
+    see(desk.why(store), "a start now would end with NoMagic: store: is not a readable store", "the file is empty")
     os.remove(store)
     shutil.copy(copy, store)
     desk.expect_served(store)

@@ -33,23 +33,23 @@ def parser() -> argparse.ArgumentParser:
     top = argparse.ArgumentParser(prog="resetctl", description=__doc__, formatter_class=argparse.RawDescriptionHelpFormatter)
     top.add_argument("--version", action="version", version=f"resetctl {__version__}")
     top.add_argument("--address", default=os.environ.get("RESETD_ADDRESS") or default_address(),
-                     help="HOST:PORT of the coordinator, unix:PATH or tls:HOST:PORT of a front, or several with commas between "
-                     "(RESETD_ADDRESS; the front's socket if it is there, else 127.0.0.1:4170)")
+                     help="HOST:PORT of the coordinator, unix:PATH or tls:HOST:PORT of a front, or several separated by commas "
+                     "(RESETD_ADDRESS; the front's socket if it exists, else 127.0.0.1:4170)")
     for name, about in CREDENTIALS.items():
         top.add_argument(f"--{name}", metavar="PEM", help=f"for tls: {about} (RESETD_{name.upper()})")
     top.add_argument("--client", type=ranges.of("client"), metavar="C",
-                     default=os.environ.get("RESETD_CLIENT") or str(CLIENTS[-1]), help="the client that orders (RESETD_CLIENT, 16)")
+                     default=os.environ.get("RESETD_CLIENT") or str(CLIENTS[-1]), help="the client's number (RESETD_CLIENT, 16)")
     top.add_argument("--state", default=os.environ.get("RESETCTL_STATE") or default_state(), metavar="FOLDER",
-                     help="the folder for this client's numbers (RESETCTL_STATE, ~/.local/state/resetctl)")
+                     help="the folder for this client's order numbers (RESETCTL_STATE, ~/.local/state/resetctl)")
     top.add_argument("--patience", type=ranges.span, metavar="SECONDS",
-                     help="how long the same line is sent again while no answer comes (30; of what only looks 2)")
+                     help="how long to resend a line that has no answer (30; 2 for commands that only read)")
     top.add_argument("--seconds", type=ranges.some_seconds, metavar="SECONDS",
-                     help="how long one answer may take (20; of what only looks 2)")
-    top.add_argument("--quiet", action="store_true", help="prints no reply of an order, of resend and of close")
+                     help="how long one answer may take (20; 2 for commands that only read)")
+    top.add_argument("--quiet", action="store_true", help="print no reply to an order, resend or close")
     commands = top.add_subparsers(dest="command", required=True, metavar="COMMAND")
     for command in COMMANDS:
         each = commands.add_parser(command.name, help=command.about, description=f"{command.about}.",
-                                   epilog="Exit statuses and what all commands take: resetctl --help.")
+                                   epilog="Exit statuses and common options: resetctl --help.")
         each.set_defaults(call=command.call, is_look=command.is_look)
         command.add_words(each)
     return top
@@ -87,7 +87,7 @@ def main(arguments: list[str] | None = None) -> int:
         complain(f"{words.file}: {fault}")
         return REFUSED
     except (CountLost, CountNotFound, Held, Unreadable) as fault:
-        complain(f"{fault}{'; resetctl count finds the number' if isinstance(fault, CountLost) else ''}")
+        complain(f"{fault}{'; resetctl count recovers the number' if isinstance(fault, CountLost) else ''}")
         return COUNT
     except NotTaken as refused:
         complain(control.why(refused))

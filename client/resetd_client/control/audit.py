@@ -119,12 +119,12 @@ def came_of(entry: Entry) -> str:
 
 def add_log_words(parser: argparse.ArgumentParser) -> None:
     parser.add_argument("file", metavar="FILE", nargs="?", default=FILE, help=f"the front's audit file, - for standard input ({FILE})")
-    parser.add_argument("--reset", action="store_true", help="who asked for a reset that was carried out, or may have been")
-    parser.add_argument("--denied", action="store_true", help="who was denied what")
-    parser.add_argument("--node", type=ranges.of("node"), help="orders at this node")
-    parser.add_argument("--since", metavar="TIME", help="from this time on, as the file has it (2026-01-31T12:00), in UTC")
-    parser.add_argument("--until", metavar="TIME", help="before this time")
-    parser.add_argument("--json", action="store_true", help="the lines as the file has them")
+    parser.add_argument("--reset", action="store_true", help="only resets that were carried out, or may have been")
+    parser.add_argument("--denied", action="store_true", help="only denied requests")
+    parser.add_argument("--node", type=ranges.of("node"), help="only orders at this node")
+    parser.add_argument("--since", metavar="TIME", help="only from this time on, in UTC (2026-01-31T12:00)")
+    parser.add_argument("--until", metavar="TIME", help="only before this time")
+    parser.add_argument("--json", action="store_true", help="print the lines as they are in the file")
 
 
 COMMANDS = (Command("log", "prints who ordered what and when, from the audit file of a front", log, add_log_words, is_look=True),)

@@ -129,7 +129,7 @@ class Control:
 
 @contextmanager
 def told_after(seconds: float, text: str) -> Iterator[threading.Timer]:
-    """Prints a text on standard error if the body takes longer than this and doesn't cancel the timer."""
+    """Prints a text on standard error if the body takes longer than this many seconds and doesn't cancel the timer."""
     timer = threading.Timer(seconds, complain, [text])
     timer.daemon = True
     timer.start()

@@ -92,10 +92,10 @@ def timed(call: Callable[[], object]) -> float:
 def add_bench_words(parser: argparse.ArgumentParser) -> None:
     add_json(parser)
     parser.add_argument("--orders", type=ranges.some_orders, default=ORDERS, metavar="N",
-                        help=f"how many orders one after the other, 2 at least ({ORDERS})")
-    parser.add_argument("--waves", type=ranges.amount, default=WAVES, metavar="N", help=f"how many resets ({WAVES})")
-    parser.add_argument("--with-services", action="store_true", help="also if there are services, which then begin again")
+                        help=f"the number of orders, sent one after another, at least 2 ({ORDERS})")
+    parser.add_argument("--waves", type=ranges.amount, default=WAVES, metavar="N", help=f"the number of resets ({WAVES})")
+    parser.add_argument("--with-services", action="store_true", help="run even if nodes have services, which then begin again")
 
 
-COMMANDS = (Command("bench", "measures orders a second and a wave of this server; refused if nodes have services", bench,
+COMMANDS = (Command("bench", "measures this server's orders a second and a wave; refused if nodes have services", bench,
                     add_bench_words),)

@@ -99,7 +99,7 @@ def apply(control: Control) -> int:
         for each, reply in zip(orders, control.carry_out_all(book, lines, view.accepted)):
             print(f"{told_reply(reply)}: {each}", flush=True)
     say_what_becomes_of_files(control, [each.members["node"] for each in orders if each.op == "remove"])
-    print(f"{len(orders)} orders; the network is as in {control.words.topology} wants")
+    print(f"{len(orders)} orders; the network matches {control.words.topology}")
     return DONE
 
 
@@ -111,7 +111,7 @@ def numbers(*names: str) -> Callable[[argparse.ArgumentParser], None]:
 
 
 def add_count_words(parser: argparse.ArgumentParser) -> None:
-    parser.add_argument("--most", type=ranges.count, default=MOST_TRIED, help=f"how many numbers are tried ({MOST_TRIED})")
+    parser.add_argument("--most", type=ranges.count, default=MOST_TRIED, help=f"the most numbers to try ({MOST_TRIED})")
 
 
 def add_diff_words(parser: argparse.ArgumentParser) -> None:
@@ -124,18 +124,18 @@ def add_topology_words(parser: argparse.ArgumentParser) -> None:
 
 
 COMMANDS = (
-    Command("reset", "asks for a reset at a node: it reaches all that links connect with it", order, numbers("node")),
-    Command("confirm", "says that a node's service has begun an epoch", order, numbers("node", "epoch")),
+    Command("reset", "asks for a reset of a node, which reaches all nodes that links connect with it", order, numbers("node")),
+    Command("confirm", "confirms that a node's service has begun an epoch", order, numbers("node", "epoch")),
     Command("add", "adds a node", order, numbers("node", "group")),
     Command("remove", "removes a node that has no links", order, numbers("node")),
     Command("join", "links two nodes", order, numbers("a", "b")),
-    Command("drop", "takes the link of two nodes away", order, numbers("a", "b")),
-    Command("resend", "sends the packets in transit again, if a wave stands still", resend),
-    Command("close", "ends the server in order", close),
+    Command("drop", "removes the link of two nodes", order, numbers("a", "b")),
+    Command("resend", "sends the packets in transit again, if a wave makes no progress", resend),
+    Command("close", "shuts the server down", close),
     Command("count", "recovers the number of this client's last order if it was lost", count, add_count_words),
-    Command("diff", "prints the orders that would make the network match a topology file; status 1 if there are some",
+    Command("diff", "prints the orders that would make the network match a topology file; exits with 1 if there are any",
             diff, add_diff_words, is_look=True),
-    Command("check-topology", "checks a topology file, like `resetd init`, without a store; status 2 if it is invalid",
+    Command("check-topology", "checks a topology file as `resetd init` does, without a store; exits with 2 if it is invalid",
             check_topology, add_topology_words, is_look=True),
-    Command("apply", "makes these orders, each once", apply, add_topology_words),
+    Command("apply", "sends the orders that make the network match a topology file, each once", apply, add_topology_words),
 )

@@ -63,24 +63,24 @@ def write_metrics(control: Control) -> int:
 def add_health_words(parser: argparse.ArgumentParser) -> None:
     add_json(parser)
     parser.add_argument("--steps", type=ranges.span, default=5.0, metavar="SECONDS", help="how long steps may wait for the disk (5)")
-    parser.add_argument("--wave", type=ranges.span, default=5.0, metavar="SECONDS", help="how long a wave may stand still (5)")
+    parser.add_argument("--wave", type=ranges.span, default=5.0, metavar="SECONDS", help="how long a wave may make no progress (5)")
     parser.add_argument("--unconfirmed", type=ranges.span, default=60.0, metavar="SECONDS",
                         help="how long an epoch may be unconfirmed (60)")
-    parser.add_argument("--signals", metavar="FILE", help="warns if the server's file of signals lacks lines")
-    parser.add_argument("--store", metavar="FILE", help="critical if that is not the store of the server")
+    parser.add_argument("--signals", metavar="FILE", help="warn if this file of the server's signals lacks lines")
+    parser.add_argument("--store", metavar="FILE", help="critical if this is not the server's store")
     parser.add_argument("--close-stopped", action="store_true",
-                        help="closes a server that answers Stopped, so that its service manager starts it again")
+                        help="close a server that answers Stopped, so that its service manager restarts it")
 
 
 def add_metrics_words(parser: argparse.ArgumentParser) -> None:
-    parser.add_argument("--store", metavar="STORE", help="also says whether that is the store of the server")
+    parser.add_argument("--store", metavar="STORE", help="also report whether this is the server's store")
     parser.add_argument("file", metavar="FILE", nargs="?", default="-",
-                        help="a file, which is replaced as a whole (standard output)")
+                        help="a file to replace as a whole (standard output)")
 
 
 COMMANDS = (
-    Command("health", "looks whether all is well: status 0 well, 1 warning, 2 critical, 3 unknown", health, add_health_words,
+    Command("health", "checks the server: exits with 0 if all is well, 1 warning, 2 critical, 3 unknown", health, add_health_words,
             is_look=True),
-    Command("metrics", "writes metrics for node_exporter's collector of text files", write_metrics, add_metrics_words,
+    Command("metrics", "writes metrics for node_exporter's textfile collector", write_metrics, add_metrics_words,
             is_look=True),
 )

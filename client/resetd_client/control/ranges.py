@@ -27,7 +27,7 @@ def span(text: str) -> float:
 def some_seconds(text: str) -> float:
     """Seconds, more than 0."""
     if (seconds := span(text)) == 0:
-        raise argparse.ArgumentTypeError("it takes more than 0 seconds")
+        raise argparse.ArgumentTypeError("it must be more than 0 seconds")
     return seconds
 
 
@@ -53,7 +53,7 @@ def count(text: str) -> int:
 def fence_count(text: str) -> int:
     """The count of a fence, as a database keeps it."""
     if not is_number(text, MOST_FENCE_COUNT) or int(text) > MOST_FENCE_COUNT:
-        raise argparse.ArgumentTypeError(f"{text!r} is no count of a fence")
+        raise argparse.ArgumentTypeError(f"{text!r} is not a fence count")
     return int(text)
 
 

@@ -42,7 +42,7 @@ def parts(control: Control) -> Iterator[Part]:
     yield Part("store", "a copy of the store, as resetctl backup makes it; if the store can't be read, the file's bytes",
                lambda: copy_of(words.store))
     yield Part("steps.txt", "its steps since the last checkpoint", lambda: steps_text(words.store, False))
-    yield Part("steps-before.txt", "the steps of the half before", lambda: steps_text(words.store, True))
+    yield Part("steps-before.txt", "the steps of the previous half", lambda: steps_text(words.store, True))
     for name, path in memories(control):
         yield Part(name, f"what resetctl health remembers ({path})", lambda path=path: bytes_of(path))  # type: ignore[misc]
     yield Part("journal.txt", f"the last {MOST_LINES} lines of the units {words.unit}, {words.unit}-front and {words.unit}-health",
@@ -51,7 +51,7 @@ def parts(control: Control) -> Iterator[Part]:
     yield Part("versions.txt", "versions, and checksums of the program and the library", lambda: versions(words.store))
     yield Part("process.txt", "the server's limits, and the state of each of its threads", lambda: process_text(words.store))
     yield Part("filesystem.txt", "mount, space and device of the store", lambda: file_system(words.store))
-    yield Part("kernel.txt", "what the kernel has said of that device", lambda: kernel_lines(words.store))
+    yield Part("kernel.txt", "the kernel's messages about that device", lambda: kernel_lines(words.store))
 
 
 def why_text(control: Control) -> str:
@@ -95,7 +95,7 @@ def versions(path: str) -> str:
              "package " + said("dpkg-query", "--show", "resetd").strip()]
     for process in lock_holders(os.stat(path)):
         if program := program_of(process):
-            now = "its path still has it" if program.is_there else "its path has another one now"
+            now = "the file is unchanged" if program.is_there else "the file at that path has changed since"
             lines.append(f"{program.checksum}  {program.path}, run by process {process}; {now}")
     for folder, _, names in sorted(os.walk(PACKAGE)):
         lines += [f"{checksum_of(os.path.join(folder, name))}  {os.path.relpath(os.path.join(folder, name), PACKAGE)}"
@@ -107,7 +107,7 @@ def process_text(path: str) -> str:
     text = ""
     for process in lock_holders(os.stat(path)):
         text += f"process {process}\n{bytes_of(f'/proc/{process}/limits').decode()}"
-        text += "".join(f"thread {thread}: {state}, went to rest {rests} times\n"
+        text += "".join(f"thread {thread}: {state}, went to sleep {rests} times\n"
                         for thread, (state, rests) in sorted(threads_of(process).items()))
     return text or "nobody on this machine has the store locked\n"
 
@@ -134,7 +134,7 @@ def report(control: Control) -> int:
     except BaseException:
         os.remove(out)
         raise
-    print(f"{table}written to {out}, which nobody else may read; it holds nothing else of this machine")
+    print(f"{table}written to {out}, which only its owner may read; it has nothing else of this machine")
     return DONE
 
 
@@ -152,6 +152,6 @@ def add_words(parser: argparse.ArgumentParser) -> None:
                         help="the state of the timer's health (/var/lib/resetd-health)")
 
 
-COMMANDS = (Command("report", "writes a file for whoever looks into a fault: what why, show, steps and health find, a copy of the "
-                    "store, the units' journal, versions, limits, file system, kernel lines of the device", report, add_words,
+COMMANDS = (Command("report", "writes a file for diagnosing a fault: the output of why, show, steps and health, a copy of the "
+                    "store, the units' journal, versions, limits, file system, the kernel's lines about the device", report, add_words,
                     is_look=True),)

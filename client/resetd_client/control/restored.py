@@ -12,7 +12,7 @@ from .base import DONE, Command, Control
 
 def add_words(parser: argparse.ArgumentParser) -> None:
     parser.add_argument("--fence", type=ranges.fence_count, metavar="COUNT",
-                        help="the greatest count in the fences of your databases: prints the generation for their members")
+                        help="the greatest fence count in your databases: also print the generation for their members")
 
 
 def restored(control: Control) -> int:
@@ -28,5 +28,5 @@ def restored(control: Control) -> int:
     return DONE
 
 
-COMMANDS = (Command("restored", "after a restore: asks for a reset in each group, and waits until every node has a new epoch",
+COMMANDS = (Command("restored", "asks for a reset in each group after a restore, and waits until every node has a new epoch",
                     restored, add_words),)

@@ -32,7 +32,7 @@ def why(control: Control) -> int:
     if words.json:
         print_json({"findings": [asdict(finding) for finding in findings], "told": told.splitlines()})
         return REFUSED if told else DONE
-    left_out = "".join(f"; {finding.left_out} is not known" for finding in findings if finding.left_out)
+    left_out = "".join(f"; not checked: {finding.left_out}" for finding in findings if finding.left_out)
     print(told or f"nothing found here prevents a start{left_out}")
     return REFUSED if told else DONE
 
@@ -48,7 +48,7 @@ def told_start(findings: list[Finding]) -> str:
     """With which fault a start of the server would end now, and which a running server will meet; empty if there is none."""
     faults = sorted((finding for finding in findings if finding.fault), key=lambda finding: finding.fault != "Usage")
     told = [f"a start now would end with {finding.fault}: {finding.about}: {finding.text}" for finding in faults[:1]]
-    told += [f"a server that runs meets {finding.later}: {finding.about}: {finding.text}" for finding in findings if finding.later]
+    told += [f"a running server will meet {finding.later}: {finding.about}: {finding.text}" for finding in findings if finding.later]
     return "\n".join(told)
 
 
@@ -115,8 +115,8 @@ def why_not(out: str, source: os.stat_result) -> str:
     if os.path.samestat(found, source):
         return "this is the store itself"
     if lock_holders(found):
-        return "a process has locked it: a store that is served is not replaced"
-    return "" if not head or head[1:9] == MAGIC else "it holds something else than a store"
+        return "a process has locked it: a store that is being served can't be replaced"
+    return "" if not head or head[1:9] == MAGIC else "it is not a store"
 
 
 def put(path: str, data: bytes, like: os.stat_result) -> None:
@@ -142,8 +142,8 @@ def add_why_words(parser: argparse.ArgumentParser) -> None:
     add_json(parser)
     add_file_words(parser)
     parser.add_argument("at", metavar="ADDRESS", nargs="?", help="the address of the server, A.B.C.D:P")
-    parser.add_argument("--audit", metavar="FILE", default=AUDIT, help=f"the audit of a front, which says since when a group waits ({AUDIT})")
-    parser.add_argument("--user", type=ranges.account, metavar="NAME", help="the user as whom the server runs (who owns the folder)")
+    parser.add_argument("--audit", metavar="FILE", default=AUDIT, help=f"a front's audit file, which shows how long a group has waited ({AUDIT})")
+    parser.add_argument("--user", type=ranges.account, metavar="NAME", help="the user that the server runs as (the folder's owner)")
 
 
 def add_file_words(parser: argparse.ArgumentParser) -> None:
@@ -153,7 +153,7 @@ def add_file_words(parser: argparse.ArgumentParser) -> None:
 def add_steps_words(parser: argparse.ArgumentParser) -> None:
     add_json(parser)
     add_file_words(parser)
-    parser.add_argument("--before", action="store_true", help="the half from before the last checkpoint, which stays until the next one")
+    parser.add_argument("--before", action="store_true", help="read the half from before the last checkpoint, which is kept until the next one")
 
 
 def add_backup_words(parser: argparse.ArgumentParser) -> None:
@@ -162,8 +162,8 @@ def add_backup_words(parser: argparse.ArgumentParser) -> None:
 
 
 COMMANDS = (
-    Command("why", "prints the cause of a fault at a start, for the store's file and the address; status 1 if there is one", why, add_why_words, is_look=True),
-    Command("steps", "prints the steps of a store, each with its batch, the steps of which were settled together", steps,
+    Command("why", "prints what would make a start fail, from the store's file and the address; exits with 1 if something would", why, add_why_words, is_look=True),
+    Command("steps", "prints the steps of a store, each with the batch in which it was settled", steps,
             add_steps_words),
-    Command("backup", "copies a store, which may be served meanwhile", backup, add_backup_words),
+    Command("backup", "copies a store, even while it is served", backup, add_backup_words),
 )

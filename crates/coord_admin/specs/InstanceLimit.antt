@@ -12,7 +12,7 @@ IsAge most kept Young = kept < most
 IsAge most kept Old = (most ≤ kept) × (kept < 2 * most)
 IsAge most kept Over = 2 * most ≤ kept
 
--- `keeps d n`: the desk d may have kept n steps
+-- `keeps d n`: n is a possible number of steps that the desk d has kept
 module _ {D : Type 0} (keeps : D → ℕ → Type 0) where
   abbrev pub HasKept : D → ℕ → Type 0
   HasKept d most = (kept : ℕ) × keeps d kept × (most ≤ kept)

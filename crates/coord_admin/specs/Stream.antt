@@ -1,4 +1,4 @@
--- The output of `serve`: a reply to each line of a text, in order, which the desk may give.
+-- The output of `serve`: for each line of a text, in order, a reply that the desk may return.
 use Rattle.std.specs.Prelude.{◌≡◌, ◌⊎◌, ℕ, ◌≤◌, Bool, true, false, List, [], ◌∷◌, ◌++◌, length, IsSome, IfSome, Some, Result, Ok, Err}
 use Rattle.std.specs.Str.{IsUtf8}
 use Rattle.coord_lines.specs.Lines.{Line, lines_of}

@@ -25,7 +25,7 @@ use std::collections::VecDeque;
 /// when it is made.
 pub struct Queue<D: Desk> {
     pub(crate) posted: VecDeque<D::Posted>,
-    /// Room for their answers. It is empty except while they are written.
+    /// A buffer for the replies to the posted orders, empty except while they are written.
     answers: Vec<Answer>,
     ghost few: { deque_len posted ≤ MAX_BATCH_STEPS },
     ghost has_room: { (MAX_BATCH_STEPS ≤ deque_capacity posted) ×

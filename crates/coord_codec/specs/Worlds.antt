@@ -92,7 +92,7 @@ can_link nodes front e = same_group (group_of nodes e.0) (group_of nodes e.1) &&
 abbrev pub last_ends : List LinkRow → ℕ × ℕ
 last_ends front = last_by (λ r. (r.a, r.b)) (0, 0) front
 
--- not below the last link's lesser end
+-- a is not below the lesser end of the last link
 abbrev pub first_rises : List LinkRow → ℕ → Bool
 first_rises front a = nat_le (last_ends front).0 a
 

@@ -205,7 +205,7 @@ fn listening<S: Net>(rt: &S, address: SocketAddrV4) -> io::Result<S::Listener> {
     Ok(listener)
 }
 
-/// Takes the disk of a name, and opens the store on it. A disk that is refused is put back.
+/// Opens the disk with this name, and the store on it. A disk that is refused is put back.
 fn opened<F: Folder>(alloc: Global, folder: &mut F, file: &str) -> Result<Store<F::Disk>, Fault>
     ensures opened { IfOk result (IsOpenedStore F.Disk.model (F.holds folder.old file.now)) }
     ensures going { IfOk result (λ store. has_stopped store ≡ false) }

@@ -3,8 +3,8 @@
 
 ghost use Rattle.coord_config.specs.Written.{WrittenIsRead};
 
-/// A written topology within the limits is read as itself, provided that the text is a
-/// TOML document within the limit of a text. No clause says that it always is.
+/// Reading the text of a topology within the limits returns the topology, provided that the text is
+/// a TOML document within the limit of a text. No clause says that it always is.
 pub fn written_is_read()
     ensures { WrittenIsRead }
 {}

@@ -18,7 +18,7 @@ pub struct Blip {
     left: Option<u64>,
 }
 
-/// Fails one call. If that is a write, its first bytes are written before.
+/// Fails one call. If it is a write, its first bytes are still written.
 #[derive(Drop)]
 pub struct Tear {
     blip: Blip,

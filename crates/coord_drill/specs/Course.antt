@@ -76,7 +76,7 @@ pub record RunsOn {D : Type 0} (disk : DiskModel D) (crashes : D → D → Type 
   pub moments : EachMoment disk crashes true s events given old new
   pub failed : disk.failures new ≡ disk.failures old + failed_until events given
 
--- they lead from one place to another
+-- the events take the drill from the place p to the place q
 abbrev pub RunsTo : {D : Type 0} → DiskModel D → (D → D → Type 0) → List Event → List Answer → Place D → Place D → Type 0
 RunsTo disk crashes events given p q = (q.machine ≡ run p.machine events given) × RunsOn disk crashes p.machine events given p.disk q.disk
 
@@ -88,7 +88,7 @@ GivesEmpty version bytes = Recovered bytes (no_world version) × Legal (no_world
 abbrev pub RaisesEmpty : {D : Type 0} → DiskModel D → D → D → Type 0
 RaisesEmpty disk old new = LeavesOnly disk old new (λ bytes. GivesEmpty 1 bytes ⊎ GivesEmpty 2 bytes)
 
--- the request leads from one place to the other
+-- the request takes the drill from the place p to the place q
 abbrev pub Moves : {D : Type 0} → DiskModel D → (D → D → Type 0) → Option Asked → List Answer → Place D → Place D → Type 0
 Moves disk crashes None given p q = RunsTo disk crashes [] given p q
 Moves disk crashes (Some Version2) given p q = (q.machine ≡ adopted (no_world 2)) × RaisesEmpty disk p.disk q.disk × (disk.failures q.disk ≡ disk.failures p.disk)
@@ -96,7 +96,7 @@ Moves disk crashes (Some a) given p q = RunsTo disk crashes (line_events p.state
 
 -- ---- lines
 
--- a line leads from one place to the next
+-- a line takes the drill from the place p to the place q
 pub record LineGoes {D : Type 0} (disk : DiskModel D) (crashes : D → D → Type 0) (p : Place D) (line : Line) (q : Place D) : Type 0 where
   pub given : List Answer
   pub text : List ℕ

@@ -98,8 +98,8 @@ IsEitherText one other bytes = IsText one bytes ⊎ IsText other bytes
 abbrev pub formatted : ℕ → ℕ → List ℕ → List ℕ
 formatted half_size version snapshot = (0 ∷ magic) ++ (to_be_bytes w64 half_size ++ (half_front version snapshot [] ++ 0 ∷ []))
 
--- The bytes after an append at the closed gate at this place: a body and a closed gate were written after
--- it, and then it was opened by a 1.
+-- The bytes after an append at the closed gate at this offset: a body and a new closed gate were written after
+-- the gate, and then a 1 opened it.
 abbrev pub with_body_at : ℕ → List ℕ → List ℕ → List ℕ
 with_body_at gate body bytes = overwritten (overwritten bytes (gate + 1) (sized body ++ 0 ∷ [])) gate (1 ∷ [])
 

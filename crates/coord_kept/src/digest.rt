@@ -65,7 +65,7 @@ pub fn tag_of(
     Ok(tag)
 }
 
-/// Returns the tag of the fence of a start that first talked with these and whose fence has this
+/// Returns the fence tag of a start that first talked with this party and whose fence has this
 /// count.
 pub fn fence_tag(
     alloc: Global,

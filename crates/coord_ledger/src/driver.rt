@@ -40,7 +40,7 @@ impl<D: CrashDisk> Model for Driver<D> {
 }
 
 impl<D: CrashDisk> Driver<D> {
-    /// The driver of a ledger with its store at home.
+    /// Returns the driver of a ledger whose store is at home: no flight is out.
     pub fn over(ledger: Ledger<D>) -> Self
         requires { ledger.out ≡ None }
         ensures { result ≡ at_home ledger }

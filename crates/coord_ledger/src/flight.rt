@@ -28,9 +28,9 @@ pub struct Flight<D: Disk> {
     pub(crate) steps: Vec<Step>,
     /// Once the store has the world after the steps: the settled world of when the flight went out.
     pub(crate) before: Option<World>,
-    /// The world after the steps, until it is the store's. If the flight has all pending steps, it
-    /// is a copy of the front world. A commit that ran out of memory may have used it up: the next
-    /// try makes it again.
+    /// The world after the steps, until the commit moves it into the store. If the flight has all
+    /// pending steps, it is a copy of the front world. A commit that ran out of memory may have
+    /// consumed it: the next try makes it again.
     pub(crate) next: Option<World>,
     pub(crate) mark: Mark,
     pub(crate) store: Store<D>,

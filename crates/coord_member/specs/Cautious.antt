@@ -22,7 +22,7 @@ due_with more kept row now = due_of kept.begun kept.party (was_before now (more 
 abbrev pub MoreOnlyForbids : Type 0
 MoreOnlyForbids = (more : List (List Entry)) (kept : Kept) (row : Row) (now : List Entry) → (due_with more kept row now ≡ due kept row now) ⊎ ((due_with more kept row now ≡ Wait) ⊎ (due_with more kept row now ≡ Reset))
 
--- the event that happens if the history of a member that looks has these parties too
+-- the event that happens if these parties are added to the history of the member that looks
 abbrev pub happens_with : MemberWorld → List (List Entry) → Event → MemberWorld
 happens_with w more (Look i row now) =
     let m = w.member i in let d = due_with more m.kept row now in looked w i (member_for m (kept_for m.kept now d) row d)

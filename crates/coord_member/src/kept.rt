@@ -16,7 +16,7 @@ pub struct Kept {
     begun: Option<u64>,
     /// With whom the present start first talked; None: with nobody yet.
     party: Option<Vec<Entry>>,
-    /// With whom any start ever talked.
+    /// The parties with which the member's starts have first talked.
     history: Vec<Vec<Entry>>,
 }
 

@@ -47,7 +47,7 @@ pub record Exchange : Type 0 where
 abbrev pub begun : ℕ → Exchange
 begun last = record { book = opened (record { last = last; in_hand = None }); done = []; sent = 0; under_way = []; trail = []; settled = 0; owed = []; answers = [] }
 
--- the events
+-- an event at the client, at the server or on the way between them
 pub data Event : Type 0 where
   Write : Command → Event  -- the client writes an order down
   Send : Event  -- it sends its order in hand, for the first time or again

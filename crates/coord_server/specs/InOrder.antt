@@ -22,7 +22,7 @@ use Rattle.coord_admin.specs.declared.request.Request.TheVariants as request
 use Rattle.coord_server.specs.EngineDesk.{DeskState}
 use Rattle.coord_server.specs.Ending.{IsClosed, ServedWhileOpen}
 
--- an answer to a line, and the settled steps of its instance by which it is given
+-- an answer to a line, and the steps of its instance that were settled when it was returned
 pub record Returned : Type 0 where
   pub line : Line
   pub answer : Answer

@@ -1,4 +1,4 @@
--- The names that the server prints are those that are read.
+-- Each name that the server prints is read as what it names.
 use Rattle.std.specs.Prelude.{◌≡◌, Some}
 use Rattle.std.specs.List.{AllByRecursion}
 use Rattle.coord_types.specs.Names.{kind_name, refusal_name}

@@ -1,4 +1,4 @@
--- What neighbours may rely on: whose lines are in the next flight.
+-- What a connection may rely on beside busy ones: whose lines are in the next flight.
 use Rattle.std.specs.Prelude.{◌≡◌, ℕ, ◌≤◌, ◌==◌, ◌&&◌, not, Bool, true, List, [], ◌∷◌, Option, Some, None, if◌then◌else◌, count_by}
 use Rattle.proxy_core.specs.Pending.{Pending, is_from}
 use Rattle.proxy_core.specs.Machine.{is_among, is_ready, joins, kind_of, picked, picks_of}

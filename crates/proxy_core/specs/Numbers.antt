@@ -1,4 +1,4 @@
--- What the numbers that the proxy gives say: of one request, and of two.
+-- What the proxy's own numbers guarantee: for one request, and for two.
 use Rattle.std.specs.Prelude.{◌≡◌, ◌⊎◌, ℕ, ◌+◌, ◌≤◌, ◌<◌, true, List, [], ◌∷◌, Contains}
 use Rattle.proxy_core.specs.Rules.{Rules}
 use Rattle.proxy_core.specs.Run.{Sent, Answer, Count, Run}
@@ -8,13 +8,13 @@ abbrev pub AreSerial : ℕ → List Sent → Type 0
 AreSerial n [] = Unit {0}
 AreSerial n (s ∷ more) = (s.serial ≡ n) × AreSerial (n + 1) more
 
--- whatever was sent of an older request of the same connection was sent before the sending that an answer answers
+-- an answered line was sent after every line of the older requests of its connection
 abbrev pub IsInOrder : Run → Type 0
 IsInOrder w = (h : Answer) (s : Sent) → Contains w.answers h → Contains w.sent s → s.from ≡ h.sent.from → s.place < h.sent.place → s.serial < h.sent.serial
 
 -- ---- how it is known that a number was not used
 
--- the server refused the number of this very sending
+-- the server refused the number of exactly this line
 abbrev pub IsNumberRefused : Rules → List Answer → Sent → Type 0
 IsNumberRefused r answers s = (h : Answer) × Contains answers h × (h.sent ≡ s) × (r.refuses_number h.answer ≡ true)
 
@@ -31,7 +31,7 @@ IsUnused r answers counts s = IsNumberRefused r answers s ⊎ (IsOrderRefused r 
 
 -- ---- what is promised
 
--- two sendings of the proxy's numbers, the first one earlier
+-- two lines with the proxy's own numbers, the first one sent earlier
 pub record AreTwo (w : Run) (s t : Sent) : Type 0 where
   pub first : Contains w.sent s
   pub second : Contains w.sent t

@@ -25,7 +25,7 @@ pub(crate) enum Kind {
     Orders,
 }
 
-/// A round of the choice: which lines fly, of which kind they are, and the room that is left.
+/// One round of choosing the next flight: the chosen lines, their kind, and the room left.
 #[derive(Debug, Drop)]
 pub(crate) struct Round {
     picks: Vec<bool>,

@@ -66,7 +66,7 @@ pub(crate) fn due_number(due: Due) -> u32
     }
 }
 
-/// Puts a text at the beginning of the room for it.
+/// Copies a text to the beginning of the buffer. Errors: `NoRoom`.
 pub(crate) fn put(out: &mut [u8], text: &[u8]) -> Result<(), Fault>
     ensures { IsPut text.now out.new result }
 {

@@ -20,7 +20,7 @@ Passes m old new = Elapses (m.clock old) (m.clock new) (m.left_since old) (m.lef
 pub record LeavesOnly {D : Type 0} (m : DiskModel D) (old new : D) (P : List ℕ → Type 0) : Type 0 where
   pub later : m.clock old ≤ m.clock new
   pub each : (image : List ℕ) → m.left_since new (m.clock old) image → P image
-  -- for a list of calls that began earlier
+  -- since an earlier moment t, a crash may leave only what it could have left before, or bytes with P
   pub before : (t : ℕ) (image : List ℕ) → t ≤ m.clock old → m.left_since new t image → m.left_since old t image ⊎ P image
 
 -- A crash at any moment leaves nothing that it could not have left before.

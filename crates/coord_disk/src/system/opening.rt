@@ -20,7 +20,7 @@ pub fn open_locked<R: Files<File = File>>(rt: &R, path: &str) -> io::Result<Syst
     Ok(SystemFile::over(file, Some(folder)))
 }
 
-/// The file, read-only, and its folder if the file is created here.
+/// Opens the file read-only, and its folder if the file is created here.
 pub fn open_unlocked<R: Files<File = File>>(rt: &R, path: &str) -> io::Result<SystemFile<File>> {
     refuse_other_kinds(rt, path)?;
     match File::open(rt, path) {

@@ -76,7 +76,7 @@ pub record EndedEarly {D : Type 0} (model : DiskModel D) (crashes : D → D → 
   pub answered : Answered start (take at events) given
   pub disk : D  -- as the events before have left it
   pub moments : EachMoment model crashes keeps_model start (take at events) given first disk
-  -- there is no memory for the list of answers, as it begins, or it ends at an event
+  -- it ran out of memory for the list of answers before the first event, or it ended at an event
   pub why : ((at ≡ 0) × IsGivenUp (run start (take at events) given) kind released disk lost) ⊎ EndsAt model crashes keeps_model (run start (take at events) given) (slice_get events at) kind released disk lost
 
 -- ---- on any disk
