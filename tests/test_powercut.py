@@ -1,11 +1,14 @@
 """The parts of tools/powercut that need no machine: what a cut may leave of a list of writes, the disk, and what a store's bytes say."""
 
+import os
 import random
+import signal
 import socket
 import struct
+import subprocess
 import sys
 
-from support.case import Case, tool
+from support.case import Case, tool, until
 from support.program import PROGRAM, ran
 from support.serving import Serving
 
@@ -18,6 +21,24 @@ from cutting.verdicts import Looker, verdict_of  # noqa: E402
 
 A, B, C = (letter * 4_096 for letter in (b"a", b"b", b"c"))
 VOLATILE: Volatile = [(0, A), (8_192, A + B), (0, B), (4_096, C)]
+# Four calls in two processes, each of which starts another process, as a machine is, and ends it.
+CALLS = """
+import os, signal, subprocess, sys, time
+sys.path.insert(0, sys.argv[1])
+from cutting.workers import call_each
+
+def wait(number):
+    machine = subprocess.Popen(["sleep", "1000"], start_new_session=True)
+    print(os.getpid(), machine.pid, flush=True)
+    try:
+        time.sleep(1000)
+    finally:
+        machine.kill()
+        machine.wait()
+
+signal.signal(signal.SIGINT, signal.default_int_handler)
+call_each(wait, [(number,) for number in range(4)], 2)
+"""
 
 
 class Cuts(Case):
@@ -133,3 +154,28 @@ class Stores(Case):
         self.assertIsNone(history.differs(content._replace(steps={8: b"a"})))
         self.assertEqual(history.differs(content._replace(steps={9: b"c"})), "another step 9")
         self.assertEqual(history.differs(content._replace(snapshot=b"other")), "another snapshot of 7 steps")
+
+
+class Workers(Case):
+    programs = ()
+
+    def test_they_end_with_what_they_have_started(self) -> None:
+        """When the process is stopped, interrupted or killed. No further call begins."""
+        for number in (signal.SIGTERM, signal.SIGINT, signal.SIGKILL):
+            with self.subTest(number.name), subprocess.Popen([sys.executable, "-c", CALLS, tool("powercut")], stdout=subprocess.PIPE,
+                                                             stderr=subprocess.DEVNULL, text=True) as process:
+                assert process.stdout
+                pids = [int(pid) for _ in range(2) for pid in process.stdout.readline().split()]
+                process.send_signal(number)
+                process.wait()
+                until("the end of each process", lambda: not any(map(is_alive, pids)))
+                self.assertEqual((len(pids), process.stdout.read()), (4, ""))
+
+
+def is_alive(pid: int) -> bool:
+    """Whether there is such a process, and it has not ended."""
+    try:
+        with open(f"/proc/{pid}/stat", encoding="utf-8") as file:
+            return file.read().rsplit(")", 1)[1].split()[0] != "Z"
+    except FileNotFoundError:
+        return False

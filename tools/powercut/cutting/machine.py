@@ -30,12 +30,27 @@ class Refused(Exception):
 class Machine:
     """What both machines have: an agent at the other end of a socket, which takes an order and answers it."""
 
-    def __init__(self) -> None:
+    def __init__(self, work: str, disk: Disk) -> None:
+        """Boots it with what WORK has, over a disk. Raises Gone and Refused."""
         self.folder = tempfile.mkdtemp(prefix="powercut-")
         self.console = f"{self.folder}/console"
         self._processes = list[subprocess.Popen[bytes]]()
         self._buffer = b""
-        self._socket: socket.socket
+        try:
+            nbd.serve(disk, f"{self.folder}/disk")
+            self._socket = self._boot(work)
+            self._await_agent()
+            self._prepare()
+        except BaseException:
+            self._end_processes()
+            raise
+
+    def _boot(self, work: str) -> socket.socket:
+        """Starts the processes: the socket at whose other end the agent will be. Raises Gone."""
+        raise NotImplementedError
+
+    def _prepare(self) -> None:
+        """What the agent has to do first. Raises Gone and Refused."""
 
     def _start(self, *words: str, files: tuple[int, ...] = (), output: str | None = None) -> None:
         with open(output or os.devnull, "ab") as out:
@@ -78,11 +93,14 @@ class Machine:
             return file.read()[-2000:]
 
     def end(self) -> None:
+        self._end_processes()
+        self._socket.close()
+
+    def _end_processes(self) -> None:
         """Signal 9 to all that was started."""
         for process in self._processes:
             os.killpg(process.pid, signal.SIGKILL) if process.poll() is None else None
             process.wait()
-        self._socket.close()
         shutil.rmtree(self.folder, ignore_errors=True)
 
     def _fill(self, until: float) -> None:
@@ -104,9 +122,7 @@ class Machine:
 class Qemu(Machine):
     """QEMU with Debian's kernel, in software unless POWERCUT_ACCEL names something else (kvm)."""
 
-    def __init__(self, work: str, disk: Disk) -> None:
-        super().__init__()
-        nbd.serve(disk, f"{self.folder}/disk")
+    def _boot(self, work: str) -> socket.socket:
         listener = socket.socket(socket.AF_UNIX)
         listener.bind(f"{self.folder}/control")
         listener.listen(1)
@@ -119,20 +135,17 @@ class Qemu(Machine):
                     f"driver=nbd,node-name=d,server.type=unix,server.path={self.folder}/disk", "-device",
                     "virtio-blk-pci,drive=d,write-cache=on", output=f"{self.folder}/qemu")
         try:
-            self._socket, _ = listener.accept()
+            return listener.accept()[0]
         except TimeoutError as late:
             with open(f"{self.folder}/qemu", encoding="utf-8") as said:
                 raise Gone(said.read()) from late
-        self._await_agent()
 
 
 class UserModeLinux(Machine):
     """Linux as a process; qemu-storage-daemon serves its virtio disk. It is some ten times as fast as QEMU in software. It can't run a
     program with AddressSanitizer, since it has fewer addresses."""
 
-    def __init__(self, work: str, disk: Disk) -> None:
-        super().__init__()
-        nbd.serve(disk, f"{self.folder}/disk")
+    def _boot(self, work: str) -> socket.socket:
         self._start("qemu-storage-daemon", "--blockdev", f"driver=nbd,node-name=d,server.type=unix,server.path={self.folder}/disk", "--export",
                     f"type=vhost-user-blk,id=e,node-name=d,addr.type=unix,addr.path={self.folder}/virtio,writable=on")
         until = time.monotonic() + 60
@@ -140,17 +153,15 @@ class UserModeLinux(Machine):
             if time.monotonic() > until:
                 raise Gone("qemu-storage-daemon serves nothing")
             time.sleep(0.02)
-        self._socket, other = socket.socketpair()
+        here, other = socket.socketpair()
         self._start(f"{work}/user/usr/bin/linux.uml", f"mem={USER_MEMORY}", f"initrd={work}/user-initrd",
                     f"virtio_uml.device={self.folder}/virtio:2", "con=null", "con0=fd:0,fd:1", f"ssl0=fd:{other.fileno()},fd:{other.fileno()}",
                     "rdinit=/init", "panic=-1", "quiet", f"uml_dir={self.folder}/", files=(other.fileno(),), output=self.console)
         other.close()
-        try:
-            self._await_agent()
-            self.must("set", "/sys/block/vda/cache_type", "write back")
-        except (Gone, Refused):
-            self.end()
-            raise
+        return here
+
+    def _prepare(self) -> None:
+        self.must("set", "/sys/block/vda/cache_type", "write back")
 
 
 # What makes a machine over a disk.
