@@ -167,7 +167,7 @@ class Tools(Run):
 
     def test_what_the_documents_show(self) -> None:
         self.expect(tool("test_documents"), "--quick", "--program", PROGRAM,
-                    ends_with="what the documents show is what is printed")
+                    ends_with="the programs print what the documents show")
 
     def test_the_digest_that_a_page_shows(self) -> None:
         """The worked answer of docs/SERVICES.md has the party, the digest and the tag that the library makes of it."""

@@ -127,7 +127,7 @@ class Tls:
             return untrusted(self, fault)
         except Away:
             return None
-        return None if is_taken else Untrusted(f"{self}: it ends the handshake: it does not take this client's certificate")
+        return None if is_taken else Untrusted(f"{self}: it ended the handshake: it does not accept this client's certificate")
 
 
 @dataclass(frozen=True)
@@ -156,7 +156,7 @@ class Credentials:
         """The TLS context. Raises Untrusted if a file is missing or invalid."""
         missing = [name for name in CREDENTIALS if not getattr(self, name)]
         if missing:
-            raise Untrusted(f"no {' and no '.join(missing)} given: tls: takes the PEM files of all three "
+            raise Untrusted(f"no {' and no '.join(missing)} given: tls: needs the PEM files of all three "
                             "(RESETD_CERTIFICATE, RESETD_KEY, RESETD_AUTHORITY)")
         context = ssl.SSLContext(ssl.PROTOCOL_TLS_CLIENT)  # it checks the certificate, and the name in it
         context.minimum_version = ssl.TLSVersion.TLSv1_3
@@ -171,12 +171,12 @@ class Credentials:
 
 
 def refuse_password() -> str:
-    """A key that has a password would ask at the terminal. Raises ValueError."""
+    """Raises ValueError: a key with a password would make OpenSSL ask for it at the terminal."""
     raise ValueError("the key has a password")
 
 
 def read_credentials(path: str) -> dict[str, str]:
-    """What a file says of credentials; relative paths begin at its folder. Raises Unreadable."""
+    """Reads a credentials file; its relative paths start at its folder. Raises Unreadable."""
     try:
         with open(path, "rb") as file:
             found = tomllib.load(file)
@@ -186,18 +186,18 @@ def read_credentials(path: str) -> dict[str, str]:
         raise Unreadable(path, f" as TOML: {fault}") from fault
     for name, value in found.items():
         if name not in CREDENTIALS or not isinstance(value, str):
-            raise Unreadable(path, f": it may have {', '.join(CREDENTIALS)}, each a text, and no {name} of another kind")
+            raise Unreadable(path, f": {name} is not allowed: only {', '.join(CREDENTIALS)} are, each a string")
     return {name: os.path.join(os.path.dirname(path), value) for name, value in found.items()}
 
 
 def addresses_of(text: str, credentials: Credentials | None = None) -> tuple[Address, ...]:
-    """The addresses of a text, with commas between; without credentials those of the environment count. Raises
-    BadWords, and Unreadable of a file of credentials."""
+    """Parses a comma-separated list of addresses. `credentials` are by default those of the environment. Raises BadWords, and
+    Unreadable for a credentials file."""
     return tuple(address_of(each, credentials) for each in text.split(","))
 
 
 def address_of(text: str, credentials: Credentials | None = None) -> Address:
-    """One address. Raises BadWords, and Unreadable of a file of credentials."""
+    """Parses one address. Raises BadWords, and Unreadable for a credentials file."""
     text = text.strip()
     kind, colon, rest = text.partition(":")
     if kind == "unix" and not rest.isdigit():
@@ -246,5 +246,5 @@ def untrusted(address: Address, fault: OSError) -> Untrusted | None:
     reason = getattr(fault, "reason", None) if isinstance(fault, ssl.SSLError) else None
     words = set(reason.split("_")) if reason else set()
     if reason and "ALERT" in words and words & {"CERTIFICATE", "CA", "DENIED", "DECRYPT"}:
-        return Untrusted(f"{address}: it does not take this client's certificate ({reason.lower().replace('_', ' ')})")
+        return Untrusted(f"{address}: it does not accept this client's certificate ({reason.lower().replace('_', ' ')})")
     return None

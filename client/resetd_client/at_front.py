@@ -41,7 +41,7 @@ class AtFront:
         """Waits at most `held_seconds` for another process to release the folder. Raises BadWords if an address is not a front's,
         and Held."""
         if not all(address.is_front for address in port.addresses):
-            raise BadWords("orders without a number are for a front (unix:PATH, tls:HOST:PORT)")
+            raise BadWords("orders without a number need the address of a front (unix:PATH, tls:HOST:PORT)")
         self.port, self.folder = port, folder
         self._lock = files.hold(folder, held_seconds)
         self._watched = Watched(port)
@@ -72,7 +72,7 @@ class AtFront:
             reply = reply_of(members_of(line))
         except Refused as refused:
             if refused.refusal in LOST_COUNT:
-                raise Away(f"the front has lost its count: {refused}") from refused
+                raise Away(f"the front has lost its order number: {refused}") from refused
             return refused
         except NotTaken as fault:
             if isinstance(fault, Garbled):
@@ -114,7 +114,7 @@ def orders_of(port: Port, client: int | None, folder: str, *, held_seconds: floa
     if all(address.is_front for address in port.addresses):
         return AtFront(port, folder, held_seconds=held_seconds)
     if client is None:
-        raise BadWords("a client, 1 to 16, is needed at the server's own port; at a front (unix:PATH, tls:HOST:PORT) none is")
+        raise BadWords("the server's own port needs a client, 1 to 16; only a front (unix:PATH, tls:HOST:PORT) needs none")
     return Orders(port, client, folder, recovers=True, held_seconds=held_seconds, told=told)
 
 

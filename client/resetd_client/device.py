@@ -56,7 +56,7 @@ def file_system(path: str) -> str:
 
 
 def kernel_lines(path: str) -> str:
-    """What the kernel has said of a file's device since the start of the machine, and of nothing else."""
+    """Returns the kernel's messages about a file's device since the machine started, and no others."""
     names = devices_of(path)
     if not names:
         return "the file is not on a block device of this machine\n"
@@ -65,4 +65,4 @@ def kernel_lines(path: str) -> str:
     if len(told) < 2:  # no journal, or none that this user may read
         told = said("dmesg", "--time-format", "iso").splitlines()
     lines = "".join(f"{line}\n" for line in told if wanted.search(line))
-    return lines or f"nothing of {', '.join(names)} among {len(told):,} lines\n"
+    return lines or f"none of the {len(told):,} lines is about {', '.join(names)}\n"

@@ -45,11 +45,11 @@ def generation_of(count: int) -> int:
 def check_generation(generation: int) -> None:
     """Raises BadWords at a generation that no member can have."""
     if generation not in GENERATIONS:
-        raise BadWords(f"a generation is to be a whole number from 0 to {GENERATIONS[-1]}, and not {generation}")
+        raise BadWords(f"a generation must be a whole number from 0 to {GENERATIONS[-1]}, not {generation}")
 
 
 def check_store(count: int, generation: int, settled: int) -> None:
-    """Raises StoreWentBack if a resource keeps a count that no member of this generation can have, where so many steps are settled."""
+    """Raises StoreWentBack if a resource keeps a count that no member of this generation can have after this many settled steps."""
     if count <= count_of(generation, settled):
         return
     if generation_of(count) > generation:

@@ -36,7 +36,7 @@ class Stopped(Exception):
 def check_every(seconds: float) -> None:
     """Raises BadWords at a time between two looks that would let no time pass, or is no number."""
     if not seconds > 0:
-        raise BadWords(f"{seconds} seconds between two looks: it takes more than 0")
+        raise BadWords(f"{seconds} seconds between two looks: it must be more than 0")
 
 
 class Following:

@@ -163,7 +163,7 @@ class Gateway(Following):
             self._waits = 0
             self._await_view()
             view = self._view()
-        raise Away("there are new epochs each time that it looks")
+        raise Away("each look showed new epochs")
 
     def _sooner(self, began: float) -> float:
         """A look is due when all instructed members have begun, or no other one has for a moment: they are confirmed together. It

@@ -18,12 +18,12 @@ class History:
     it is skipped, and the next one takes its place."""
 
     def __init__(self, path: str) -> None:
-        """Raises Unreadable if the file does not read."""
+        """Raises Unreadable if the file can't be read."""
         self._path = path
         text = files.read_bytes(path) or b""
         self._size = text.rfind(b"\n") + 1  # of the lines that are whole
         if not LINES.fullmatch(text, 0, self._size):
-            raise Unreadable(path, ": remove it with the member's other files, and a reset is asked for")
+            raise Unreadable(path, ": remove it and the member's other files; the member then asks for a reset")
         self._digests = {bytes.fromhex(line.decode()) for line in text[:self._size].splitlines()}
         self._added: list[str] = []
 

@@ -22,7 +22,7 @@ def check_number(name: str, value: object) -> None:
     if limits is None:
         return
     if not isinstance(value, int) or isinstance(value, bool) or value not in limits:
-        raise BadWords(f"{name} is to be {said(limits)}, and not {shown(value)}")
+        raise BadWords(f"{name} must be {said(limits)}, not {shown(value)}")
 
 
 def check_order(order: Mapping[str, object]) -> None:

@@ -89,7 +89,7 @@ class Member(Following):
         begun, or at an invalid generation."""
         super().__init__(orders, told)
         if work is Work.MEMORY and begun is not None:
-            raise BadWords("work in memory alone does not outlive its process: give begun=None")
+            raise BadWords("work in memory does not outlive its process: give begun=None")
         check_generation(generation)
         self.port, self.node, self._generation = port, node, generation
         self._shelf = Shelf(os.path.join(orders.folder, f"start-{node}.json"))
@@ -142,7 +142,7 @@ class Member(Following):
             if self._fault:
                 raise self._fault
             if run is None:
-                raise OutOfRun("no run is on")
+                raise OutOfRun("there is no run")
             if tag is not None and not run.takes(tag):
                 self._refuse(tag)
                 raise OutOfRun(f"{tag} is of another run")
@@ -178,7 +178,7 @@ class Member(Following):
             if row is None or not self._advance(view, row):
                 return view
             self._await_view()
-        raise Away(f"node {self.node} has a new epoch each time it is looked at")
+        raise Away(f"each look showed a new epoch of node {self.node}")
 
     def follow(self, wakes: Wakes, every: float = LOOK_SECONDS, after: Callable[[View], None] | None = None) -> None:
         """Looks at once, at each wake-up, after this many seconds, and after each absence of the coordinator, until no more

@@ -260,12 +260,12 @@ class Orders:
                 return Kept(int(kept["number"]), [])
             return Kept(int(kept["number"]) - 1, [dict(order) for order in [kept["order"], *kept.get("behind", [])]])
         except (ValueError, KeyError, TypeError, AttributeError) as fault:
-            raise Unreadable(self._path, " as an order: remove it, and the count is found") from fault
+            raise Unreadable(self._path, " as an order: remove it; the order number is then recovered") from fault
 
 
 def outcome_of(answer: dict[str, Any] | NotTaken, above: int) -> Outcome:
-    """The result of an order. Raises CountLost if the answer is of another order, and any answer that says neither that the order
-    was carried out nor that it was not."""
+    """Returns the result of an order. Raises CountLost if the answer belongs to another order, and the answer itself if it leaves
+    open whether the order was carried out."""
     if isinstance(answer, Refused):
         if answer.refusal is Refusal.NUMBER_REUSED:
             raise CountLost(answer.number, answer.name) from answer
@@ -294,7 +294,7 @@ def find_count(port: Port, client: int, near: int = 0, most: int = MOST_TRIED, n
         probes = [{"op": "confirm", "client": client, "number": number, "node": node, "epoch": 0} for number in part]
         for number, answer in zip(part, port.ask_many(probes)):
             if not isinstance(answer, Refused):
-                raise Garbled(f"{answer} in answer to a confirm of epoch 0")
+                raise Garbled(f"a confirm of epoch 0 was answered {answer}")
             if answer.refusal is Refusal.NUMBER_REUSED:
                 return number
             if answer.refusal in NEXT_IS:
@@ -303,8 +303,8 @@ def find_count(port: Port, client: int, near: int = 0, most: int = MOST_TRIED, n
                 raise answer
         tried, at_once = tried + len(part), min(16 * at_once, PROBES)
     raise CountNotFound(
-        f"client {client}: {tried} numbers were tried, around {near} and none above {greatest}, and none is its last "
-        f"or its next: use a client that was never used, or try more")
+        f"client {client}: of {tried} numbers around {near}, up to {greatest}, none is its last or its next one: "
+        f"use a client that was never used, or try more")
 
 
 def outwards(near: int, greatest: int) -> Iterator[int]:

@@ -194,7 +194,7 @@ def line_of(request: Request) -> bytes:
     """The line of a request. Raises TooLong."""
     line = json.dumps(dict(request), separators=(",", ":")).encode() + b"\n"
     if len(line) > MOST_BYTES + 1:
-        raise TooLong(f"a line has at most {MOST_BYTES} bytes, and these words make {len(line) - 1}")
+        raise TooLong(f"a line has at most {MOST_BYTES} bytes, and this request has {len(line) - 1}")
     return line
 
 

@@ -25,7 +25,7 @@ def renew(port: Port, orders: Orders, seconds: float) -> str:
     until = time.monotonic() + seconds
     while behind := not_risen(first, view):
         if time.monotonic() > until:
-            raise Away(f"no new epoch yet at {named(behind)}; `resetctl resend`, and then the same words again")
+            raise Away(f"no new epoch yet at {named(behind)}; run `resetctl resend`, and then this command again")
         for group in groups(view):
             due = [node for node in group if node.node in behind]
             if due and all(node.mode == "ready" for node in group):

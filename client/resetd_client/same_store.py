@@ -22,11 +22,11 @@ class Reading:
 
 
 def reading(path: str) -> Reading:
-    """What a file holds now. Raises NotCompared."""
+    """Returns the number of steps in a file now. Raises NotCompared."""
     try:
         return Reading(read_store(path).count)
     except NoStore as fault:
-        return Reading(None, f"does not read as a store ({fault})")
+        return Reading(None, f"is not a readable store ({fault})")
     except (PermissionError, Restless) as fault:
         raise NotCompared(f"{path}: {fault.strerror if isinstance(fault, OSError) else fault}") from fault
     except OSError as fault:

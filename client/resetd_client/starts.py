@@ -27,7 +27,7 @@ class Shelf:
     been killed before its own sync."""
 
     def __init__(self, path: str) -> None:
-        """Raises Unreadable if a file does not read."""
+        """Raises Unreadable if a file can't be read."""
         self._path, self._boot = path, boot_name()
         self._keeps_starts = True  # whether work outlives the process
         self.history = History(os.path.splitext(path)[0] + ".history")

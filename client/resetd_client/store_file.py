@@ -22,7 +22,7 @@ Read = Callable[[int, int], bytes]
 
 
 class NoStore(ResetdError):
-    """The file does not read as a store: the fault's name as `resetd` prints it, and its position. Needs a person."""
+    """The file is not a readable store: the fault's name as `resetd` prints it, and its position. Needs a person."""
 
     def __init__(self, name: str, place: int, what: str) -> None:
         super().__init__(f"{name}: at byte {place}, {what}")
@@ -93,15 +93,15 @@ def store_of(half: Half) -> Store:
     try:
         world = world_of(half.snapshot, half.version)
     except NotSpelled as fault:
-        raise NoStore("BadSnapshot", half.start + TOP + fault.place, f"the snapshot spells no world ({fault.kind})") from None
+        raise NoStore("BadSnapshot", half.start + TOP + fault.place, f"the snapshot can't be decoded ({fault.kind})") from None
     count, batches = world.count, list[Batch]()
     for place, body in zip(half.places, half.bodies):
         try:
             batch = batch_of(body, half.version)
         except NotSpelled as fault:
-            raise NoStore("BadBatch", place + fault.place, f"batch {len(batches)} is not a batch ({fault.kind})") from None
+            raise NoStore("BadBatch", place + fault.place, f"batch {len(batches)} can't be decoded ({fault.kind})") from None
         if batch.first != count + 1:
-            raise NoStore("BadBatch", place, f"batch {len(batches)} begins with step {batch.first}, and {count + 1} is due")
+            raise NoStore("BadBatch", place, f"batch {len(batches)} begins with step {batch.first} instead of {count + 1}")
         batches.append(batch)
         count = batch.last
     return Store(half, world, tuple(batches))
@@ -113,11 +113,11 @@ def read_half(read: Read, is_other: bool = False) -> Half:
     head = read(0, HEADER)
     size = int.from_bytes(head[9:], "big")
     if len(head) < HEADER or head[1:9] != MAGIC or size not in HALVES:
-        raise NoStore("NoMagic", min(len(head), 1), "no store begins so")
+        raise NoStore("NoMagic", min(len(head), 1), "it does not begin as a store")
     for _ in range(MOST_PASSES):
         if (half := one_pass(read, size, is_other)) is not None:
             return half
-    raise Restless(f"{MOST_PASSES} times a checkpoint came in between")
+    raise Restless(f"a checkpoint interrupted all {MOST_PASSES} attempts to read it")
 
 
 def one_pass(read: Read, size: int, is_other: bool) -> Half | None:
@@ -162,7 +162,7 @@ def walked(read: Read, size: int, index: int, top: bytes) -> Half:
     def with_gate(place: int, length: int, most: int, what: str) -> tuple[bytes, int]:
         """A field, and the gate after it."""
         if length > most:
-            raise NoStore("BadRecord", start + place - 4, f"{what} of {length} bytes is longer than {most}")
+            raise NoStore("BadRecord", start + place - 4, f"{what} has {length} bytes, more than {most}")
         field = read(start + place, length + 1)
         if place + length >= size or len(field) <= length:
             raise NoStore("BadRecord", start + place, f"{what} of {length} bytes with its gate runs past the end")

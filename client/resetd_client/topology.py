@@ -119,7 +119,7 @@ def tables_alone(top: dict[str, Any], key: str) -> Iterator[dict[str, Any]]:
     """The tables of an array. Raises BadTopology if it is no array, or has anything else."""
     rows = top.get(key, [])
     if not isinstance(rows, list) or not all(isinstance(row, dict) for row in rows):
-        raise BadTopology("BadValue", f"{key} is to be written as [[{key}]]")
+        raise BadTopology("BadValue", f"{key} must be written as [[{key}]]")
     return tables(top, key)
 
 
@@ -128,13 +128,13 @@ def check_keys(table: dict[str, Any], required: set[str], optional: set[str], wh
     if missing := required - set(table):
         raise BadTopology("BadKey", f"{where} lacks {' and '.join(sorted(missing))}")
     if extra := set(table) - required - optional:
-        raise BadTopology("BadKey", f"{where} has {' and '.join(sorted(extra))}, which mean nothing")
+        raise BadTopology("BadKey", f"{where} has an unknown key: {', '.join(sorted(extra))}")
 
 
 def number(value: Any, limits: range, what: str) -> int:
     """A whole number of a range. Raises BadTopology."""
     if not isinstance(value, int) or isinstance(value, bool) or value not in limits:
-        raise BadTopology("BadValue", f"{what} is to be a whole number from {limits[0]} to {limits[-1]}")
+        raise BadTopology("BadValue", f"{what} must be a whole number from {limits[0]} to {limits[-1]}")
     return value
 
 

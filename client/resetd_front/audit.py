@@ -47,7 +47,7 @@ class Audit:
             if now - self._complained < COMPLAINT_SECONDS:
                 return None
             self._complained = now
-            return f"{self._path}: {fault.strerror}: {self.lost} lines of the audit are lost"
+            return f"{self._path}: {fault.strerror}: {self.lost} audit lines were lost"
 
     def reopen(self) -> None:
         """Opens the file again by its name, after a rotation. If that fails, goes on with the old one. Raises OSError."""

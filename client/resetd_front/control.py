@@ -39,10 +39,10 @@ def parser() -> argparse.ArgumentParser:
                                   formatter_class=argparse.RawDescriptionHelpFormatter)
     top.add_argument("--version", action="version", version=f"resetd-front {__version__}")
     commands = top.add_subparsers(dest="command", required=True, metavar="COMMAND")
-    check = commands.add_parser("check", help="says what each may do by a policy, or why it is not taken")
+    check = commands.add_parser("check", help="prints what a policy allows to whom, or why it is invalid")
     check.add_argument("policy", metavar="POLICY")
-    serve = commands.add_parser("serve", help="serves until SIGTERM; SIGHUP reads policy and certificates again, and opens "
-                                              "the audit anew")
+    serve = commands.add_parser("serve", help="serves until SIGTERM; on SIGHUP reads the policy and certificates again and "
+                                              "reopens the audit file")
     add_serve_words(serve)
     return top
 
@@ -97,13 +97,13 @@ def main() -> int:
 
 
 def check(path: str) -> int:
-    """Prints a line for each rule, or says why the policy is not taken."""
+    """Prints a line for each rule, or why the policy is invalid."""
     try:
         rules = policy.read(path).rules
     except (policy.BadPolicy, OSError) as fault:
         complain(f"{path}: {fault}")
         return FAULT
-    print("".join(f"{rule}\n" for rule in rules) + "All else is not allowed.")
+    print("".join(f"{rule}\n" for rule in rules) + "Everything else is refused.")
     return OK
 
 

@@ -208,7 +208,7 @@ def check_loopback(listener: socket.socket) -> None:
     host = listener.getsockname()[0]
     if not ipaddress.ip_address(host).is_loopback:
         listener.close()
-        raise ValueError(f"{host} is no address of the loopback: use TLS for others")
+        raise ValueError(f"{host} is not a loopback address: use TLS for other hosts")
 
 
 def name_of(address: object) -> str:
@@ -222,7 +222,7 @@ def remove_stale(path: str) -> None:
     with socket.socket(socket.AF_UNIX) as trial:
         try:
             if not stat.S_ISSOCK(os.lstat(path).st_mode):
-                raise OSError(errno.ENOTSOCK, "it is no socket", path)
+                raise OSError(errno.ENOTSOCK, "it is not a socket", path)
             trial.connect(path)
         except FileNotFoundError:
             return

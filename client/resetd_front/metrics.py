@@ -40,15 +40,15 @@ class Metrics:
     def collect(self) -> Any:
         """Called by the library for each text."""
         front = self._front
-        answers = self._counter("resetd_front_answers", "answers by op and by what they say", labels=["op", "answer"])
+        answers = self._counter("resetd_front_answers", "answers by op and by kind or name", labels=["op", "answer"])
         for (op, what), count in front.counts.answers.items():
             answers.add_metric([op, what], count)
         yield answers
         for name, about, value in (
                 ("connections", "connections since the start", front.counts.connections), ("flights", "flights", front.upstream.flights),
-                ("resends", "lines that were sent again", front.upstream.resends),
-                ("audit_lost", "lines of the audit that could not be written", front.audit.lost)):
+                ("resends", "lines sent again to the server", front.upstream.resends),
+                ("audit_lost", "audit lines that could not be written", front.audit.lost)):
             yield self._counter(f"resetd_front_{name}", about, value=value)
-        for name, about, value in (("open_connections", "connections that are there", len(front.connections)),
+        for name, about, value in (("open_connections", "open connections", len(front.connections)),
                                    ("watchers", "connections that watch", len(front.watchers))):
             yield self._gauge(f"resetd_front_{name}", about, value=value)

@@ -24,9 +24,9 @@ def passed() -> dict[str, socket.socket]:
 
 
 def passed_as(name: str) -> socket.socket:
-    """The one of this name. Raises ValueError where there is none, and OSError."""
+    """Returns the socket of this name. Raises ValueError if there is none, and OSError."""
     try:
         return passed()[name]
     except KeyError:
-        raise ValueError(f"no socket {name!r} was passed: its socket unit has FileDescriptorName={name} and is started before this "
-                         "process") from None
+        raise ValueError(f"no socket {name!r} was passed: its socket unit needs FileDescriptorName={name} and must be started before "
+                         "this process") from None

@@ -75,12 +75,12 @@ def read(path: str) -> Policy:
     try:
         tables = tomllib.loads(text.decode("utf-8"))
     except (tomllib.TOMLDecodeError, UnicodeDecodeError) as fault:
-        raise BadPolicy(f"no TOML: {fault}") from None
+        raise BadPolicy(f"not TOML: {fault}") from None
     if unknown := set(tables) - {"allow"}:
         raise BadPolicy(f"{sorted(unknown)[0]!r} has no meaning: a policy has only [[allow]]")
     rules = tables.get("allow", [])
     if not isinstance(rules, list):
-        raise BadPolicy("'allow' is written [[allow]]")
+        raise BadPolicy("'allow' must be written [[allow]]")
     return Policy(tuple(rule_of(place, table) for place, table in enumerate(rules, 1)))
 
 
@@ -88,12 +88,12 @@ def rule_of(place: int, table: Any) -> Rule:
     """The rule of a table. Raises BadPolicy."""
     try:
         if not isinstance(table, dict):
-            raise BadPolicy("it is no table")
+            raise BadPolicy("it is not a table")
         if unknown := [key for key in table if key not in KEYS]:
             raise BadPolicy(f"{unknown[0]!r} has no meaning")
         kinds = [key for key in KINDS if key in table]
         if len(kinds) != 1:
-            raise BadPolicy("it names one of user, group, certificate")
+            raise BadPolicy("it must name exactly one of user, group, certificate")
         ops = words_of(table.get("ops"), OPS)
         return Rule(kinds[0], str(table[kinds[0]]), number_of(kinds[0], table[kinds[0]]), ops,
                     numbers_of(table, "clients", CLIENTS), numbers_of(table, "nodes", NODES))
@@ -103,7 +103,7 @@ def rule_of(place: int, table: Any) -> Rule:
 
 def number_of(kind: str, name: Any) -> int | None:
     if not isinstance(name, str) or not name:
-        raise BadPolicy(f"{kind} is no name")
+        raise BadPolicy(f"{kind} is not a name")
     if kind == "certificate":
         return None
     try:
@@ -114,10 +114,10 @@ def number_of(kind: str, name: Any) -> int | None:
 
 def words_of(given: Any, known: Sequence[str]) -> frozenset[str]:
     if not isinstance(given, list) or not given:
-        raise BadPolicy("ops is a list of ops")
+        raise BadPolicy("ops must be a list of ops")
     for word in given:
         if word not in known:
-            raise BadPolicy(f"{word!r} is no op: {', '.join(known)}")
+            raise BadPolicy(f"{word!r} is not an op: {', '.join(known)}")
     return frozenset(given)
 
 
@@ -126,5 +126,5 @@ def numbers_of(table: dict[str, Any], key: str, known: range) -> frozenset[int] 
         return None
     given = table[key]
     if not isinstance(given, list) or not given or not all(type(each) is int and each in known for each in given):
-        raise BadPolicy(f"{key} is a list of numbers from {known[0]} to {known[-1]}")
+        raise BadPolicy(f"{key} must be a list of numbers from {known[0]} to {known[-1]}")
     return frozenset(given)

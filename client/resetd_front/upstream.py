@@ -339,5 +339,5 @@ def address_of(text: str) -> tuple[str, int]:
     """The host and the port of HOST:PORT. Raises ValueError."""
     host, colon, port = text.strip().rpartition(":")
     if not colon or not host or not port.isdigit() or not 0 < int(port) < 65536:
-        raise ValueError(f"{text!r} is no address: HOST:PORT is meant")
+        raise ValueError(f"{text!r} is not an address: use HOST:PORT")
     return host, int(port)

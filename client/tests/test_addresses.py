@@ -114,7 +114,7 @@ class Certificates(Case):
 
     def test_a_client_that_the_front_does_not_take(self) -> None:
         for _ in range(3):
-            with self.assertRaisesRegex(Untrusted, "does not take this client's certificate"):
+            with self.assertRaisesRegex(Untrusted, "does not accept this client's certificate"):
                 Port(self.address, 30, self.credentials("stranger")).show()
 
     def test_a_client_that_is_not_taken_without_a_word(self) -> None:
@@ -132,7 +132,7 @@ class Certificates(Case):
         thread.start()
         port = f"tls:127.0.0.1:{listener.getsockname()[1]}"
         for _ in range(3):
-            with self.assertRaisesRegex(Untrusted, "does not take this client's certificate"):
+            with self.assertRaisesRegex(Untrusted, "does not accept this client's certificate"):
                 Port(port, 30, self.credentials("stranger")).show()
         with self.assertRaises(Away):
             Port(port, 30, self.credentials()).show()

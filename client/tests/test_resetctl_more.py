@@ -124,7 +124,7 @@ class Topology(Case):
     def test_without_a_server(self) -> None:
         path = f"{self.folder}/want.toml"
         for text, status, said in (("[[node]]\nid = 1\ngroup = 3\n", 0, "legal: 1 nodes in 1 groups, 0 links\n"),
-                                   ("half = 1\n", 2, f"resetctl: {path}: BadValue: half is to be a whole number from 32768 to 16777216\n")):
+                                   ("half = 1\n", 2, f"resetctl: {path}: BadValue: half must be a whole number from 32768 to 16777216\n")):
             with open(path, "w", encoding="utf-8") as file:
                 file.write(text)
             self.assertEqual(self.run_words("check-topology", path, address="127.0.0.1:1"),

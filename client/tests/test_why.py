@@ -56,10 +56,10 @@ class Files(Case):
             self.assertIn("lock     nobody on this machine holds it", lines)
 
     def test_where_it_stops_to_read(self) -> None:
-        for data, told in ((b"", "NoMagic: at byte 0, no store begins so: the file is empty"),
+        for data, told in ((b"", "NoMagic: at byte 0, it does not begin as a store: the file is empty"),
                            (APPENDED[:50], "BadRecord: at byte 38, a body of 23 bytes with its gate runs past the end"),
                            (FRESH[:17] + b"\3" + FRESH[18:], "BadSnapshot: at byte 17, version 3 is not known"),
-                           (APPENDED[:48] + b"\7" + APPENDED[49:], "BadBatch: at byte 48, batch 0 is not a batch (BadByte)")):
+                           (APPENDED[:48] + b"\7" + APPENDED[49:], "BadBatch: at byte 48, batch 0 can't be decoded (BadByte)")):
             status, lines = self.why(self.put(data))
             name = told.split(":")[0]
             self.assertEqual((status, lines[-1]), (1, f"a start now would end with {name}: store: is not a readable store: {told}"))

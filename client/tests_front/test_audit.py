@@ -83,7 +83,7 @@ class Files(unittest.TestCase):
     def test_a_full_disk_is_said_once(self) -> None:
         audit = Audit("/dev/full") if os.path.exists("/dev/full") else self.skipTest("it needs /dev/full")
         audit.note("starts")
-        self.assertIn("1 lines of the audit are lost", audit.write() or "")
+        self.assertIn("1 audit lines were lost", audit.write() or "")
         audit.note("stops")
         self.assertIsNone(audit.write())
         self.assertEqual(audit.lost, 2)

@@ -109,7 +109,7 @@ class Trial:
                 if service.fault:
                     raise service.fault
             time.sleep(0.05)
-        raise Lost(f"a reset has not come to its end within {seconds} s: {rows}")
+        raise Lost(f"a reset did not end within {seconds} s: {rows}")
 
     def check(self) -> None:
         """All that was promised, with no order on its way."""

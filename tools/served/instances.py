@@ -158,7 +158,7 @@ def live_unkilled(ring: Ring) -> None:
           f"that stay, over {connections} connections one after the other and {at_once} where {AT_ONCE} are sent at "
           f"once; each signal was printed, each once", flush=True)
     if server.instances < UNKILLED or min(connections, at_once) < 2:
-        raise Lost("hardly an instance has ended: this is not a program with short instances")
+        raise Lost("hardly any instance has ended: this is not a program with short instances")
     kills.finish(ring)
 
 

@@ -73,7 +73,7 @@ class Ring:
                 self.compare(epochs)
                 return self.await_signals(until)
             time.sleep(0.005)
-        raise Lost(f"a reset has not come to its end within {TIMEOUT} seconds")
+        raise Lost(f"a reset did not end within {TIMEOUT} seconds")
 
     def note_counts(self, accepted: int, settled: int, is_start: bool = False) -> None:
         """While a server runs, over all its instances, neither count falls."""

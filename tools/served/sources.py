@@ -61,7 +61,7 @@ def plant(folder: str, word: str) -> None:
         if exchange.file.startswith("proofs/"):
             continue
         if read(path).count(exchange.old) != 1:
-            sys.exit(f"{word}: what is to be exchanged in {path} does not stand there once: {exchange.old}")
+            sys.exit(f"{word}: the text to replace does not occur exactly once in {path}: {exchange.old}")
         write(path, read(path).replace(exchange.old, exchange.new))
 
 
