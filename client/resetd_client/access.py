@@ -29,7 +29,8 @@ class Account:
 
 
 def account_of(uid: int) -> Account:
-    """The account with a number, with its groups; one of no name has its own group alone."""
+    """Returns the account with this number and its groups. A number without a name belongs only to the group of the same
+    number."""
     try:
         found = pwd.getpwuid(uid)
     except KeyError:
@@ -38,12 +39,12 @@ def account_of(uid: int) -> Account:
 
 
 def account_named(name: str) -> Account:
-    """The account of a name or a number. Raises KeyError."""
+    """Returns the account with this name or number. Raises KeyError."""
     return account_of(int(name)) if name.isdigit() else account_of(pwd.getpwnam(name).pw_uid)
 
 
 def owner_of(folder: str) -> Account:
-    """Who owns a folder: the user of the unit, if it has it from the unit or the package. Raises OSError."""
+    """Returns the owner of a folder: the server's user, if the unit or the package made the folder. Raises OSError."""
     return account_of(os.stat(folder).st_uid)
 
 
@@ -84,13 +85,14 @@ def tried_as(account: Account, path: str, seconds: float = SYNC_SECONDS) -> Tria
 
 
 def let_go(writer: int) -> None:
-    """Closes all that was open here but one descriptor: while a process waits for a disk, it keeps nobody's pipe open."""
+    """Closes everything open in this process except one descriptor, so that a process that waits for a disk keeps nobody's pipe
+    open."""
     os.closerange(0, writer)
     os.closerange(writer + 1, os.sysconf("SC_OPEN_MAX"))
 
 
 def become(account: Account) -> None:
-    """Gives up this process's rights for those of the user."""
+    """Changes this process's rights to those of the user."""
     if os.geteuid() == 0:
         os.setgroups(account.groups)
         os.setresgid(account.gid, account.gid, account.gid)

@@ -29,7 +29,7 @@ CREDENTIALS: Mapping[str, str] = {
 
 
 class Address(Protocol):
-    """One address. Its text is unchanged."""
+    """One address. Its string form is the one that was given."""
 
     is_front: bool  # whether it is a front, which also reports changes
 
@@ -37,7 +37,7 @@ class Address(Protocol):
         """Opens a connection, each answer of which may take this many seconds. Raises Away and Untrusted."""
 
     def refusal(self) -> Untrusted | None:
-        """Why a front ends each connection without an answer, if it is this client's certificate."""
+        """Returns why a front ends each connection without an answer, if the reason is this client's certificate."""
 
 
 @dataclass(frozen=True)
@@ -111,8 +111,8 @@ class Tls:
             raise untrusted(self, fault) or away(self, fault) from fault
 
     def refusal(self) -> Untrusted | None:
-        """In TLS 1.3 a front judges the client's certificate when the client takes the handshake for done, and what the
-        client then sends may hide the alert: so this connection sends nothing. A front that has taken a certificate sends
+        """In TLS 1.3 a front checks the client's certificate after the client considers the handshake complete, and anything that
+        the client then sends may hide the alert: so this connection sends nothing. A front that has accepted a certificate sends
         a ticket; one that ends a connection without a ticket and without an alert has not."""
         try:
             with self.connect(CONNECT_SECONDS) as connection:
@@ -132,8 +132,8 @@ class Tls:
 
 @dataclass(frozen=True)
 class Credentials:
-    """What a client of TLS shows and trusts, as paths of PEM files: its certificate, its key, and the certificate of the
-    authority that signs those of fronts."""
+    """The credentials of a TLS client, as paths of PEM files: its certificate, its key, and the certificate of the authority that
+    signs those of fronts."""
 
     certificate: str = ""
     key: str = ""
@@ -149,7 +149,7 @@ class Credentials:
             name: environment.get(f"RESETD_{name.upper()}", "") or in_file.get(name, "") for name in CREDENTIALS})
 
     def over(self, **given: str | None) -> Credentials:
-        """A copy with the given values in place of these."""
+        """Returns a copy with the given values replaced."""
         return replace(self, **{name: path for name, path in given.items() if path})
 
     def context(self) -> ssl.SSLContext:
@@ -219,7 +219,7 @@ def host_and_port(text: str) -> tuple[str, int]:
 
 
 def default_address() -> str:
-    """The front's socket if it is there, else the server's port."""
+    """Returns the front's socket if it exists, else the server's port."""
     try:
         is_there = stat.S_ISSOCK(os.stat(FRONT_SOCKET).st_mode)
     except OSError:
@@ -228,7 +228,7 @@ def default_address() -> str:
 
 
 def connected_to(host: str, port: int, seconds: float) -> socket.socket:
-    """A TCP connection."""
+    """Opens a TCP connection."""
     connection = socket.create_connection((host, port), timeout=min(seconds, CONNECT_SECONDS))
     connection.settimeout(seconds)
     connection.setsockopt(socket.IPPROTO_TCP, socket.TCP_NODELAY, 1)
@@ -240,7 +240,7 @@ def away(address: Address, fault: OSError) -> Away:
 
 
 def untrusted(address: Address, fault: OSError) -> Untrusted | None:
-    """What a fault of a TLS connection says of certificates, if it does."""
+    """Returns the certificate error of a failed TLS connection, or None if the failure has another cause."""
     if isinstance(fault, ssl.SSLCertVerificationError):
         return Untrusted(f"{address}: its certificate is not accepted: {fault.verify_message}")
     reason = getattr(fault, "reason", None) if isinstance(fault, ssl.SSLError) else None

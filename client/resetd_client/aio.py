@@ -29,7 +29,7 @@ from .orders import warn
 
 
 class Member:
-    """A `resetd_client.Member` for the coroutines of one event loop, which is the one that runs when it is made."""
+    """A `resetd_client.Member` for the coroutines of the event loop that runs when it is created."""
 
     def __init__(self, port: Port, orders: Orders | AtFront, node: int, begun: int | None, begin: Callable[[int], Awaitable[None]], *,
                  word: str = "", told: Callable[[str], None] = warn, work: Work = Work.PARTS, generation: int = 0) -> None:
@@ -70,7 +70,7 @@ class Member:
             raise
 
     def stop(self) -> None:
-        """Ends `follow`, from any thread or a signal's handler."""
+        """Ends `follow`. May be called from any thread and from a signal handler."""
         self._member.stop()
 
     @asynccontextmanager
@@ -86,8 +86,8 @@ class Member:
             leave.set()
 
     def _hold(self, tag: str | None, wait: float, entered: asyncio.Future[Run], leave: threading.Event) -> None:
-        """In a thread: waits for a run, says that it is there, and keeps all others out until the body is left. If its
-        coroutine was cancelled meanwhile, or its loop is closed, it comes in and leaves at once."""
+        """Runs in a thread: waits for a run, reports that it has one, and keeps all others out until the body ends. If its
+        coroutine was cancelled meanwhile, or its loop is closed, it enters and leaves at once."""
         with suppress(RuntimeError):  # the loop is closed
             try:
                 with self._member.in_run(tag, wait) as run:
@@ -97,7 +97,7 @@ class Member:
                 self._loop.call_soon_threadsafe(set_fault, entered, fault)
 
     def _begin_in_loop(self, epoch: int) -> None:
-        """In the thread that follows: has the loop begin, and waits until it has."""
+        """Runs in the following thread: has the loop begin, and waits until it has."""
         async def begin() -> None:
             await self._begin(epoch)
         asyncio.run_coroutine_threadsafe(begin(), self._loop).result()

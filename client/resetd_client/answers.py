@@ -38,7 +38,7 @@ class Refusal(enum.IntEnum):
 
 
 class Fault(enum.Enum):
-    """The faults of lines that are no request, or not allowed, and out of memory."""
+    """The faults of lines that are not requests or not allowed, and of lack of memory."""
 
     UNFINISHED = "Unfinished"
     TOO_LONG = "TooLong"
@@ -55,8 +55,8 @@ PASSING_REFUSALS = frozenset({Refusal.STOPPED, Refusal.OUT_OF_MEMORY, Refusal.PE
 
 
 class Away(ResetdError):
-    """No answer came, or one that says "not now": send the same line again. The order may have been carried out or
-    not; sent again with the same number it is carried out once. Needs no person, unless it lasts."""
+    """No answer came, or one that says "not now": send the same line again. The order may have been carried out; sent again with
+    the same number it is carried out only once. Needs no person, unless it lasts."""
 
     needs_person = False
 
@@ -88,8 +88,8 @@ class Refused(NotTaken):
 
 
 class Faulted(NotTaken):
-    """The line was no request, or is not allowed, and nothing was carried out. `fault` is None if this library does not
-    know the name; then something may have been carried out. Needs a person."""
+    """The line was not a request, or is not allowed, and nothing was carried out. `fault` is None if this library does not know
+    the name; then something may have been carried out. Needs a person."""
 
     def __init__(self, name: str) -> None:
         super().__init__(name)
@@ -120,8 +120,8 @@ Outcome = Reply | NotTaken
 
 
 def members_of(line: str, where: str = "what answers") -> dict[str, Any]:
-    """The members of an answer line that is no refusal and no fault; `where` names who said it. Raises NotNow,
-    Refused, Faulted, Garbled."""
+    """Returns the members of an answer line that is neither a refusal nor a fault; `where` names the sender. Raises NotNow,
+    Refused, Faulted and Garbled."""
     try:
         answer = json.loads(line)
     except ValueError:

@@ -24,8 +24,8 @@ LOST_COUNT = frozenset({Refusal.OUT_OF_TURN, Refusal.NUMBER_REUSED})  # the fron
 
 
 class EarlierFront(NotTaken):
-    """The front does not know orders without a number, or a reset that names an epoch: it is of an earlier version than this library.
-    Needs a person: who upgrades the front first."""
+    """The front does not know orders without a number, or resets that name an epoch: it is older than this library. Needs a
+    person: upgrade the front first."""
 
     name = "EarlierFront"
 
@@ -34,8 +34,8 @@ class EarlierFront(NotTaken):
 
 
 class AtFront:
-    """What a Member or a Gateway takes in the place of Orders, and as its wake-ups too. The thread that follows uses it alone.
-    Its folder has the member's own files, and one process at a time holds it."""
+    """Replaces Orders for a Member or a Gateway, and also brings its wake-ups. Only the following thread uses it. Its folder has
+    the member's own files, and one process at a time holds it."""
 
     def __init__(self, port: Port, folder: str, *, held_seconds: float = 0.0) -> None:
         """Waits at most `held_seconds` for another process to release the folder. Raises BadWords if an address is not a front's,
@@ -96,14 +96,14 @@ class AtFront:
     # as a look
 
     def take(self) -> View | None:
-        """The newest view that was pushed, once, if it is of after this member's last order. Without a connection it connects, and
-        waits a little for the first view."""
+        """Returns the newest pushed view once, if it is newer than this member's last order. Without a connection it connects,
+        and waits briefly for the first view."""
         if self._watched.descriptors() is None:
             self._watched.wait(FIRST_VIEW_SECONDS)
         return self._watched.take()
 
     def await_view(self, seconds: float) -> None:
-        """Waits until such a view has been pushed, at most so long."""
+        """Waits at most this many seconds until such a view has been pushed."""
         self._watched.await_view(seconds)
 
 

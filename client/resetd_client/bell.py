@@ -8,7 +8,7 @@ from contextlib import suppress
 
 
 class Bell:
-    """Rings until it is hushed. Its descriptor can be read while it rings."""
+    """Rings until it is silenced. Its descriptor is readable while it rings."""
 
     def __init__(self) -> None:
         self._reader, self._writer = os.pipe()

@@ -35,7 +35,7 @@ class Changes:
         return [self._inotify.fileno()] if self._inotify and self._is_told else None
 
     def take(self) -> list[str]:
-        """The files that have changed since the last call; at the first one those that are there."""
+        """Returns the files that have changed since the last call; the first call returns those that exist."""
         changed = self._inotify.take() if self._inotify and self._is_told else None
         if changed is None:
             self._watch_all()

@@ -63,8 +63,8 @@ def read_address(text: str) -> str:
 
 
 def peers(host: str, port: int) -> list[Peer]:
-    """Who has a connection to a server there, the one that is served first. A socket that the server has not accepted yet
-    has no inode."""
+    """Returns who has a connection to a server at this address, the served one first. A socket that the server has not accepted
+    yet has no inode."""
     table, here = rows(), written(host, port)
     clients = {(row.remote, row.local): row for row in table}
     found = []

@@ -10,7 +10,7 @@ LONGEST = 20.0  # seconds of a command
 
 
 def said(*words: str) -> str:
-    """What a command prints, or why it prints nothing."""
+    """Returns what a command prints, or why it prints nothing."""
     try:
         done = subprocess.run(words, stdin=subprocess.DEVNULL, capture_output=True, encoding="utf-8", errors="replace",
                               timeout=LONGEST, check=False)
@@ -42,7 +42,7 @@ def devices_of(path: str) -> list[str]:
 
 
 def file_system(path: str) -> str:
-    """The mount, the space, the devices and whether each answers before it has stored."""
+    """Describes the mount, the space and the devices, and whether each device has a volatile write cache."""
     space = os.statvfs(path)
     lines = [mount_of(path), f"blocks of {space.f_frsize} bytes: {space.f_blocks}, {space.f_bavail} free; "
              f"inodes: {space.f_files}, {space.f_favail} free"]

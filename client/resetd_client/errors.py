@@ -34,8 +34,8 @@ class Unreadable(ResetdError, ValueError):
 
 
 class Untrusted(ResetdError):
-    """One end of a TLS connection does not take the other one's certificate, or one that it needs is missing. Needs a
-    person: who gives out certificates."""
+    """One end of a TLS connection does not accept the other end's certificate, or a required one is missing. Needs a person: who
+    issues the certificates."""
 
 
 class InLoop(ResetdError, RuntimeError):

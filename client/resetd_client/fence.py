@@ -33,7 +33,7 @@ class StoreWentBack(ResetdError):
 
 
 def count_of(generation: int, settled: int) -> int:
-    """The count of a fence: that of a later generation is greater, however many steps were settled."""
+    """Returns the count of a fence. A later generation has a greater count, however many steps were settled."""
     return (generation << STEPS_BITS) + settled
 
 

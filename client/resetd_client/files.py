@@ -56,8 +56,8 @@ def sync_folder(path: str) -> None:
 
 
 def empty(path: str) -> None:
-    """Takes all text out of a file, if it is there; when it returns, that is on the disk. A cut before leaves the text of
-    before, or nothing: so it takes one sync, and none of the folder."""
+    """Empties a file, if it exists; when it returns, that is on the disk. A power cut before leaves the earlier text, or nothing:
+    so it takes one sync, and none of the folder."""
     try:
         descriptor = os.open(path, os.O_WRONLY | os.O_CLOEXEC | os.O_NOFOLLOW)
     except FileNotFoundError:

@@ -40,7 +40,7 @@ def check_every(seconds: float) -> None:
 
 
 class Following:
-    """Looks, waits for a wake-up, and looks again. A subclass says how to look, and for how long to wait."""
+    """Looks, waits for a wake-up, and looks again. A subclass defines how to look, and how long to wait."""
 
     port: Port
 
@@ -85,8 +85,8 @@ class Following:
         return None
 
     def _find_out(self) -> None:
-        """Asks for one reset of a node that it serves, since an address that carries that out shows no past. An old coordinator
-        carries out nothing, and then the answer is awaited no longer than the port waits."""
+        """Asks for one reset of a node that it serves: an address that carries that out does not show the past. An old
+        coordinator carries out nothing, and then the answer is awaited only as long as the port waits."""
         node = self._served_node()
         self._told(f"node {node}: every address that answers shows fewer steps than were seen: a reset is asked for, to find out "
                    "which of them serves the store")
@@ -94,7 +94,7 @@ class Following:
             raise_unless(self.orders.order_all([{"op": "reset", "node": node}]), {Refusal.UNKNOWN_NODE})
 
     def _served_node(self) -> int:
-        """A node that it orders for."""
+        """Returns a node that it orders for."""
         raise NotImplementedError
 
     def _wait(self, wakes: Wakes, seconds: float, sooner: Callable[[float], float] = lambda began: math.inf,
@@ -123,7 +123,7 @@ class Following:
         return every if is_through else min(every, FIRST_WAIT * 1.3 ** self._waits)
 
     def _view(self) -> View:
-        """The view that a front has pushed after the last order, if there is one that was not looked at yet, else a look."""
+        """Returns the view that a front has pushed after the last order, if it has not been used yet, else queries one."""
         view = self._front.take() if self._front else None
         if view is None or view.settled < self._settled:
             view = self.port.show()
@@ -131,15 +131,15 @@ class Following:
         return view
 
     def _await_view(self) -> None:
-        """After an order: a front pushes a view that has it."""
+        """Waits, after an order, until a front has pushed a view that includes it."""
         if self._front:
             self._front.await_view(PUSH_SECONDS)
 
     def _confirm(self, epochs: Mapping[int, int], foresee: Callable[[View], None], view: View) -> None:
-        """Confirms epochs of nodes, however long the coordinator is away, and calls `foresee` while the confirms are on their
-        way: with the view that led to them, and with each that a front pushes meanwhile. It is no fault if an epoch was
-        confirmed before, or if a node has gone or went back meanwhile: the next look sees it. Raises Refused for all
-        else, and Stopped."""
+        """Confirms epochs of nodes, however long the coordinator is away. While the confirms are on their way it calls `foresee`
+        with the view that led to them, and with each view that a front pushes meanwhile. It is not a fault if an epoch was
+        confirmed before, or if a node has gone or went back meanwhile: the next look sees it. Raises Refused for all else, and
+        Stopped."""
         orders: list[Order] = [{"op": "confirm", "node": node, "epoch": epoch} for node, epoch in epochs.items()]
         if not orders:
             return
@@ -164,7 +164,7 @@ class Following:
             self._order(self.orders, [{"op": "reset", "node": node}], passed)
 
     def _order(self, book: Orders, orders: list[Order], passed: set[Refusal]) -> None:
-        """Carries out orders of one count; goes on after these refusals."""
+        """Carries out numbered orders of one client; continues after these refusals."""
         while orders:
             outcomes = patiently(lambda: self._unless_stopped(book.order_all, orders))
             raise_unless(outcomes, passed)
@@ -172,7 +172,7 @@ class Following:
 
     def _order_at_front(self, front: AtFront, orders: list[Order], passed: set[Refusal],
                         on_view: Callable[[View], None] = lambda view: None, view: View | None = None) -> None:
-        """Carries out orders without numbers; goes on after these refusals."""
+        """Carries out orders without numbers; continues after these refusals."""
         outcomes = patiently(lambda: self._unless_stopped(lambda sent: front.order_all(sent, on_view=on_view, view=view), orders))
         raise_unless(outcomes, passed)
 
@@ -183,7 +183,7 @@ class Following:
 
 
 def raise_unless(outcomes: Sequence[Outcome], passed: set[Refusal]) -> None:
-    """Raises the first outcome that is no reply, and none of these refusals."""
+    """Raises the first outcome that is neither a reply nor one of these refusals."""
     for outcome in outcomes:
         if isinstance(outcome, NotTaken) and not (isinstance(outcome, Refused) and outcome.refusal in passed):
             raise outcome

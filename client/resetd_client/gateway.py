@@ -46,14 +46,14 @@ class Desk:
         return self._shelf.told(self.node)
 
     def due(self, view: View, row: Node) -> Due:
-        """What a view with the node's row asks for."""
+        """Returns the action that a view with the node's row requires."""
         self.starts.work = begun = self._begun()
         if begun is not None and self.starts.begun != begun:
             self.starts.note_begun(begun)
         return Due.WAIT if self._is_told(row) else self.starts.due(view, row)
 
     def has_begun(self, row: Node) -> bool:
-        """Whether all members have begun this process's last instruction, and that is kept, so that it is due to be confirmed."""
+        """Whether all members have begun as this process instructed, and that is stored, so that it can be confirmed."""
         return self._is_told(row) and self.starts.begun == row.epoch
 
     def awaits_begin(self) -> bool:
@@ -61,13 +61,13 @@ class Desk:
         return self.telling is not None and self._begun() is None
 
     def note_begin(self, epoch: int) -> None:
-        """All members are to begin an epoch."""
+        """Notes that all members are to begin an epoch."""
         number = 1 + max([self._least, number_of(self.told), *(seat.number for seat in self.seats)])
         self.starts.note_begin(told=f"{epoch} {number}\n")
         self.telling = epoch
 
     def note_confirmed(self) -> None:
-        """The epoch that the members were instructed to begin, and have begun, was confirmed."""
+        """Notes that the epoch that the members were instructed to begin, and have begun, was confirmed."""
         self.telling = None
 
     def lines(self, boot: str) -> str:
@@ -76,7 +76,7 @@ class Desk:
         return "".join(f"{seat.name} {self.told.strip()}{run}\n" for seat in self.seats) if self.told else ""
 
     def is_parted(self) -> bool:
-        """Whether a member, which talks now, has refused a tag that will not come to be its own."""
+        """Whether a talking member has refused a tag that will never equal its own."""
         refused = [tag for seat in self.seats if (tag := seat.take_refused())]
         return any(are_parted(self.tag or "", tag) for tag in refused)
 
@@ -89,7 +89,7 @@ class Desk:
 
 
 class Judged(NamedTuple):
-    """A node's members, its row, and what that asks for."""
+    """A node's members, its row, and the action that the row requires."""
 
     desk: Desk
     row: Node
@@ -103,8 +103,8 @@ class Gateway(Following):
 
     def __init__(self, port: Port, orders: Orders | AtFront, members: Mapping[int, Iterable[str]], folder: str, *,
                  word: str = "", told: Callable[[str], None] = warn) -> None:
-        """`orders` are an AtFront if every address of the port is a front's. Raises Unreadable if a file of its own does not
-        read, and BadWords at an invalid name of a member."""
+        """`orders` are an AtFront if every address of the port is a front's. Raises Unreadable if a file of its own can't be
+        read, and BadWords for an invalid name of a member."""
         super().__init__(orders, told)
         self.port, self._word, self._boot = port, word, boot_name()
         os.makedirs(folder, exist_ok=True)
@@ -139,7 +139,7 @@ class Gateway(Following):
             self._written = set()
 
     def _look_at_last(self) -> View | None:
-        """Judges by the last view once more, since members have begun and the front has pushed no other. None if that is not so, or
+        """Judges the last view once more, since members have begun and the front has pushed no other. None if that is not so, or
         the coordinator is away."""
         if self._front is None or self._last is None or not self._front.descriptors():
             return None
@@ -188,7 +188,7 @@ class Gateway(Following):
         return judged
 
     def _tell_members(self, view: View, judged: list[Judged]) -> None:
-        """Publishes in which run members may talk, and what they are to begin."""
+        """Publishes in which run members may talk, and which epochs they must begin."""
         talking = {each.desk.node for each in judged if each.due is Due.TALK}
         self._asked -= talking
         for desk in self.desks:
@@ -214,7 +214,7 @@ class Gateway(Following):
         return self.desks[0].node
 
     def _foresee(self, view: View) -> None:
-        """Puts the parties that are shown into the history, while confirms are on their way."""
+        """Adds the shown parties to the history while confirms are on their way."""
         for desk in self.desks:
             desk.starts.foresee(view)
         self._shelf.write()

@@ -28,7 +28,7 @@ class Level(enum.IntEnum):
 
 @dataclass(frozen=True)
 class Bounds:
-    """For how many seconds something may last before it is reported."""
+    """How many seconds each condition may last before it is reported."""
 
     steps: float = 5.0
     wave: float = 5.0
@@ -65,7 +65,7 @@ def check(port: Port, since: Since, bounds: Bounds, patience: float = 0.0, signa
 
 
 class Comparison:
-    """The coordinator's store beside the one on a file, if there is one to compare with: read before and after a view."""
+    """Compares the coordinator's store with the one in a file, if there is one: reads the file before and after a view."""
 
     def __init__(self, path: str | None) -> None:
         self._path = path
@@ -76,7 +76,7 @@ class Comparison:
             pass  # the reading after the view says so
 
     def differs(self, view: View) -> bool | None:
-        """Whether the store is another one; None where that is not known."""
+        """Whether the store is another one; None if unknown."""
         level = self.judged(view)[0] if self._path else Level.UNKNOWN
         return None if level is Level.UNKNOWN else level is Level.CRITICAL
 
@@ -108,8 +108,8 @@ def findings(view: View, since: Since, bounds: Bounds) -> list[str]:
 
 
 def oldest_wait(view: View, since: Since) -> float:
-    """For how long the oldest step that waits for the disk has waited at least. Each look notes the step that was accepted
-    last; the oldest of these notes that is not settled yet counts."""
+    """Returns the least time for which the oldest step that waits for the disk has waited. Each look notes the last accepted
+    step; the oldest of these notes that is not settled yet gives the time."""
     noted = {int(thing.split()[1]) for thing in since.things("accepted")} | {view.accepted}
     return max(since.seconds(f"accepted {step}") for step in noted if view.settled < step <= view.accepted)
 
@@ -137,7 +137,7 @@ def still_waves(view: View, since: Since, bounds: Bounds) -> list[str]:
 
 
 def missing_signals(view: View, signals: Signals, since: Since, bounds: Bounds) -> list[str]:
-    """What the file of signals has lacked for longer than its bound."""
+    """Reports the signals that the file of signals has lacked for longer than its bound."""
     try:
         lacking = signals.lacking(view)
     except OSError as fault:
@@ -152,8 +152,8 @@ def missing_signals(view: View, signals: Signals, since: Since, bounds: Bounds) 
 
 
 def metrics(view: View | None, is_stopped: bool, differs: bool | None = None) -> str:
-    """A text for the collector of text files of node_exporter. `differs`: the store is not the one on its file, None where
-    that is not known."""
+    """Formats the metrics for node_exporter's textfile collector. `differs`: the store is not the one in its file; None if
+    unknown."""
     rows = [("resetd_up", "gauge", "1 if the server answers", [("", int(view is not None or is_stopped))]),
             ("resetd_stopped", "gauge", "1 if the server answers Stopped", [("", int(is_stopped))])]
     if differs is not None:

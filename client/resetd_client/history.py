@@ -13,9 +13,9 @@ LINES = re.compile(rb"(?:[0-9a-f]{64}\n)*")
 
 
 class History:
-    """A file of one digest a line, in 64 hexadecimal digits. An added digest counts, and is on disk, after the next `keep`. It is
-    never truncated: a store may be restored from any copy. A last line that a power cut tore was of a start that never talked, so
-    it is skipped, and the next one takes its place."""
+    """A file with a digest of 64 hexadecimal digits on each line. An added digest counts, and is on disk, after the next `keep`.
+    It is never truncated: a store may be restored from any copy. A last line that a power cut tore belongs to a start that never
+    talked, so it is skipped, and the next one takes its place."""
 
     def __init__(self, path: str) -> None:
         """Raises Unreadable if the file can't be read."""

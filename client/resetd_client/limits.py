@@ -37,6 +37,6 @@ def said(limits: range) -> str:
 
 
 def shown(value: object) -> str:
-    """A value as a message shows it, be it as long as it may."""
+    """Formats a value for a message, shortened if it is long."""
     text = repr(value) if not isinstance(value, int) or value.bit_length() < 1_000 else "a number of 1,000 bits or more"
     return text if len(text) <= 40 else f"{text[:40]}.."

@@ -44,8 +44,8 @@ class Run:
 
 
 class Heard(NamedTuple):
-    """What a member heard of others between two looks: the tags that it refused, and the nodes and the greatest count of the fences
-    for which resources refused its own."""
+    """What a member heard about others between two looks: the tags that it refused, and the nodes and the greatest count of the
+    fences that made resources refuse its own."""
 
     tags: set[str]
     takers: set[int]
@@ -61,7 +61,7 @@ class Work(enum.Enum):
 
 
 class OutOfRun(ResetdError):
-    """No run is on, or the message is of another one: don't take it, and close its connection. Needs no person."""
+    """There is no run, or the message belongs to another one: don't accept it, and close its connection. Needs no person."""
 
     needs_person = False
 
@@ -149,8 +149,8 @@ class Member(Following):
             yield run
 
     def reset(self, why: str) -> None:
-        """Has the thread that looks ask for a reset of the member's node, at once or with its next look. From any thread
-        or a signal's handler; several calls before that are one."""
+        """Makes the looking thread ask for a reset of the member's node, at once or with its next look. May be called from any
+        thread and from a signal handler; several calls before that count as one."""
         self._why = why
         self._bell.ring()
 
@@ -229,14 +229,14 @@ class Member(Following):
         self._bell.ring()
 
     def _ask_wanted_reset(self) -> bool:
-        """Asks for the reset that somebody wants, if its node is still at the epoch of the last view. Whether one was asked for."""
+        """Asks for the wanted reset, if its node is still at the epoch of the last view. Returns whether it asked."""
         why, self._why = self._why, None
         if why is not None:
             self._ask_reset(self.node, why, self._epoch)
         return why is not None
 
     def _advance(self, view: View, row: Node) -> bool:
-        """Does what the view asks for. Answers whether to look again."""
+        """Does what the view requires. Returns whether to look again."""
         due = self._starts.due(view, row)
         self._shelf.keep()
         run = self._run_in(view, row) if due is Due.TALK else None
@@ -264,7 +264,7 @@ class Member(Following):
         return Run(row.epoch, self._starts.tag(view, self._word), self._starts.fence(self._word, self._generation))
 
     def _begin_anew(self, view: View, row: Node) -> None:
-        """No run is on: no work `in_run` is under way, and none begins."""
+        """Ends the run: no work `in_run` is in progress, and none begins."""
         self._starts.note_begin()
         if self._work is Work.PARTS or self._work is Work.WHOLE and self._shelf.may_say_begun(row.epoch):
             self._shelf.keep(is_synced=True)
@@ -274,18 +274,18 @@ class Member(Following):
         self._confirm({self.node: row.epoch}, self._foresee, view)
 
     def _foresee(self, view: View) -> None:
-        """Puts the party that is shown into the history, while it waits for others or for its confirm."""
+        """Adds the shown party to the history while it waits for others or for its confirm."""
         self._starts.foresee(view)
         self._shelf.write()
         self._shelf.keep()
 
     def _check_store(self, view: View, count: int) -> None:
-        """Raises StoreWentBack. A view that was pushed may be of before the look that brought the count: then it looks anew."""
+        """Raises StoreWentBack. A pushed view may be older than the look that brought the count: then it looks again."""
         if count > count_of(self._generation, view.settled):
             check_store(count, self._generation, self.port.show().settled)
 
     def _set_run(self, run: Run | None) -> Heard:
-        """Says which run is on. Answers what was heard of others since the last look."""
+        """Sets the present run. Returns what was heard about others since the last look."""
         with self._changes:
             before, self._run = self._run, run
             heard = Heard(self._refused, self._takers, self._taken)
@@ -309,5 +309,5 @@ class Member(Following):
 
 
 def is_one_run(before: Run, after: Run) -> bool:
-    """Whether a member is in the same run as before, though others may have gone."""
+    """Whether a member is in the same run as before, even if others have left."""
     return before.epoch == after.epoch and (before.takes(after.tag) or before.tag == after.tag == "")

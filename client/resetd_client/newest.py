@@ -37,7 +37,8 @@ class Newest:
             self._note(address, view.settled)
 
     def note_order(self, address: Address, step: int) -> None:
-        """Accepts an address that has carried out an order as this step, if the step is new there: it serves the store now."""
+        """Accepts an address that has carried out an order as this step, if no earlier order had that step: it serves the store
+        now."""
         with self._turn:
             if step > self._past.get(address, self._settled):
                 self._note(address, step)

@@ -33,11 +33,11 @@ class CountLost(Refused):
 
 
 class CountNotFound(ResetdError):
-    """The number of a client's last order was not found among those that were tried. Needs a person."""
+    """None of the tried numbers is the client's last one. Needs a person."""
 
 
 def warn(text: str) -> None:
-    """The default of `told`: a warning of the logger `resetd_client`."""
+    """The default of `told`: logs a warning with the logger `resetd_client`."""
     LOGGER.warning("%s", text, stacklevel=2)
 
 
@@ -78,10 +78,10 @@ class Orders:
 
     def __init__(self, port: Port, client: int, folder: str, *, recovers: bool = False, held_seconds: float = 0.0,
                  told: Callable[[str], None] = warn) -> None:
-        """`client` is 1 to 16. With `recovers`, if the count was lost, it finds it and sends the order once more: for orders that
-        do no harm when they are carried out twice. `held_seconds`: how long another process may still hold the folder. `told`
-        receives messages for a person, by default the logger `resetd_client`. Raises BadWords, Held, and Unreadable if the
-        folder's file does not read."""
+        """`client` is 1 to 16. With `recovers`, it recovers a lost number and sends the order once more: for orders that do no
+        harm when they are carried out twice. `held_seconds`: how long another process may still hold the folder. `told` receives
+        messages for a person, by default the logger `resetd_client`. Raises BadWords, Held, and Unreadable if the folder's file
+        can't be read."""
         if client not in CLIENTS:
             raise BadWords(f"{client} is not a client: clients are 1 to {CLIENTS[-1]}")
         self.port, self.client, self.recovers, self.told = port, client, recovers, told
@@ -112,7 +112,7 @@ class Orders:
         return list(self._kept.pending)
 
     def close(self) -> None:
-        """Lets the folder go, after the call that another thread is in."""
+        """Releases the folder, after any call in progress in another thread."""
         with self._turn:
             self._lock.close()
 
@@ -170,18 +170,18 @@ class Orders:
             return series.outcomes[before:]
 
     def recover(self, most: int = MOST_TRIED, node: int | None = None) -> int:
-        """Finds the number of this client's last order, writes it down, and answers it. It gives up an order without
-        an answer: `show` shows whether that was carried out. `node` is one that the client may name (a front's policy may
-        allow it no other). Raises CountNotFound, Away, Garbled and Untrusted."""
+        """Finds the number of this client's last order, writes it down, and returns it. It gives up an order without an answer:
+        `show` tells whether that was carried out. `node` is one that the client may name (a front's policy may allow it no
+        other). Raises CountNotFound, Away, Garbled and Untrusted."""
         with self._turn:
             number = find_count(self.port, self.client, self.number, most, node)
             if self._is_known and number != self.number:
-                self.told(f"client {self.client}: the last order had number {number}, and not {self.number}")
+                self.told(f"client {self.client}: the last order had number {number}, not {self.number}")
             self._note(number, [])
             return number
 
     def _go_on(self, series: Series, above: int) -> None:
-        """Sends the next orders of a series, once a count is known and no other orders are without an answer."""
+        """Sends the next orders of a series, once the number is known and no other orders are without an answer."""
         if not self._is_known:
             self.recover(node=series.rest[0].get("node"))
         rest = series.rest[:AT_ONCE if self._is_proved else 1]
@@ -197,11 +197,11 @@ class Orders:
             if not self.recovers or series.recoveries >= MOST_RECOVERIES:
                 raise
             series.recoveries += 1
-            self.told(f"client {self.client}: number {self._kept.number + 1}{had_no_answer} is {lost}: its count is looked for")
+            self.told(f"client {self.client}: order {self._kept.number + 1}{had_no_answer} was refused ({lost}): looking for the number of the last order")
             self.recover(node=series.wanted[0].get("node"))
 
     def _settle_others(self) -> None:
-        """Sends earlier orders again. If one is refused it says so, and gives it up."""
+        """Sends earlier orders again. If one is refused, it logs that and gives it up."""
         others, number = self.unanswered, self._kept.number + 1
         try:
             for outcome in self.settle():
@@ -214,9 +214,9 @@ class Orders:
             self.recover(node=others[0].get("node"))
 
     def _send(self, series: Series, above: int) -> None:
-        """Sends the orders that are written down, and notes the result of each. If an order, or one after it, gets another answer
-        than OutOfTurn, its number was used: so an OutOfTurn before that answer is of an order that was carried out before. A
-        rejected order leaves its number, and those after it, free."""
+        """Sends the orders that are written down, and notes the result of each. If an order, or a later one, gets another answer
+        than OutOfTurn, its number was used: so an earlier OutOfTurn belongs to an order that was carried out before. A rejected
+        order frees its number and those after it."""
         (number, pending), done = self._kept, list[Outcome]()
         requests = [self._request(number + 1 + place, order) for place, order in enumerate(pending)]
         try:
@@ -242,7 +242,7 @@ class Orders:
         return {**order, "client": self.client, "number": number}
 
     def _note(self, number: int, pending: list[Order]) -> None:
-        """Writes down the number of the last order that was taken, and the orders after it that are sent."""
+        """Writes down the number of the last accepted order, and the orders after it that are sent."""
         is_new = not self._is_known or (number, pending) != self._kept
         self._kept, self._is_known = Kept(number, pending), True
         if not pending:
@@ -281,10 +281,10 @@ def outcome_of(answer: dict[str, Any] | NotTaken, above: int) -> Outcome:
 
 
 def find_count(port: Port, client: int, near: int = 0, most: int = MOST_TRIED, named: int | None = None) -> int:
-    """The number of a client's last order, 0 for none, found without harm: the order to confirm epoch 0 is refused whatever its
-    number is, as NumberReused if it is the last one's, as BadEpoch (or UnknownNode) if it is the next one, else as OutOfTurn.
-    Numbers are tried from `near` outwards, at most this many, and none above the count of steps. Raises CountNotFound, Away,
-    Garbled and Untrusted."""
+    """Finds the number of a client's last order, 0 for none, without harm: the order to confirm epoch 0 is always refused, as
+    NumberReused if its number is the last order's, as BadEpoch (or UnknownNode) if it is the next one, else as OutOfTurn. Numbers
+    are tried from `near` outwards, at most this many, and none above the number of steps. Raises CountNotFound, Away, Garbled and
+    Untrusted."""
     view = port.show_any()  # it gives only a node and a bound
     node = named or (view.nodes[0].node if view.nodes else 1)
     greatest = view.accepted + 1

@@ -17,37 +17,37 @@ BETWEEN = "-"  # the two digests of a tag
 
 @lru_cache(maxsize=16)  # all members of a gateway ask for the same ones
 def digest_of(party: Party, word: str = "") -> str:
-    """The SHA-256 of the party's text in 64 hexadecimal digits. `word`, if it is not empty, is the text's first line."""
+    """Returns the SHA-256 of the party's text in 64 hexadecimal digits. `word`, if not empty, is the first line of the text."""
     lines = [word] * bool(word) + sorted(party)
     return hashlib.sha256("".join(f"{line}\n" for line in lines).encode()).hexdigest()
 
 
 def is_alone(party: Party) -> bool:
-    """Whether it is of one node, connected with nobody."""
+    """Whether the party is one node, connected with nobody."""
     return len(party) == 1
 
 
 def nodes_of(party: Party) -> frozenset[int]:
-    """The nodes that it has lines of."""
+    """Returns the nodes of the party."""
     return frozenset(int(words[0]) for line in party if len(words := line.split()) == 2)
 
 
 def tag_of(first: Party, shown: Party, word: str = "") -> str:
-    """The tag of a start that first talked with `first` and is shown `shown` now: 32 digits of either's digest with `-`
-    between. A start that was alone has none: the empty text."""
+    """Returns the tag of a start that first talked with `first` and now sees `shown`: 32 digits of each one's digest, with `-`
+    between. Empty for a start that was alone."""
     if is_alone(first):
         return ""
     return digest_of(first, word)[:TAG_DIGITS] + BETWEEN + digest_of(shown, word)[:TAG_DIGITS]
 
 
 def is_same_run(tag: str, other: str) -> bool:
-    """Whether a message with the tag `other` belongs to the run of `tag`, which is its receiver's. A receiver without a
-    tag takes no message."""
+    """Whether a message with the tag `other` belongs to the run of `tag`, the receiver's. A receiver without a tag accepts no
+    message."""
     return tag != "" and _run(tag) == _run(other)
 
 
 def are_parted(tag: str, other: str) -> bool:
-    """Whether two starts refuse each other for ever: they talk in two runs, though the same was shown to both last."""
+    """Whether two starts will always refuse each other: they talk in two runs, although both saw the same last."""
     return "" not in (tag, other) and _run(tag) != _run(other) and _shown(tag) == _shown(other)
 
 

@@ -25,7 +25,7 @@ REPLY_SECONDS = 20.0  # a server serves one connection at a time, and ends one t
 
 
 class TooLong(BadWords):
-    """A request that no line can hold: it was not sent. Needs a person: who wrote the words."""
+    """The request does not fit into a line and was not sent. Needs a person: the caller's author."""
 
 
 class Port:
@@ -41,8 +41,8 @@ class Port:
     """
 
     def __init__(self, addresses: str, seconds: float = REPLY_SECONDS, credentials: Credentials | None = None) -> None:
-        """`seconds` is how long one answer may take. `credentials` are for `tls:`, by default those of the environment.
-        Raises BadWords at no address, and Unreadable of a file of credentials."""
+        """`seconds` is how long one answer may take. `credentials` are for `tls:`, by default those of the environment. Raises
+        BadWords for an invalid address, and Unreadable for a credentials file."""
         self.addresses = addresses_of(addresses, credentials)
         self.seconds = seconds
         self._last = 0
@@ -54,8 +54,8 @@ class Port:
         return any(address.is_front for address in self.addresses)
 
     def ask(self, request: Request) -> dict[str, Any]:
-        """The members of the answer to one request. Raises Away (NotNow is one), NotTaken (Refused, Faulted or Garbled),
-        TooLong and Untrusted, as all below do that ask."""
+        """Returns the members of the answer to one request. Raises Away (NotNow is one), NotTaken (Refused, Faulted or Garbled),
+        TooLong and Untrusted, as do all methods below that send requests."""
         return self._at_one(lambda address: self._members(address, request))
 
     def _members(self, address: Address, request: Request) -> dict[str, Any]:
@@ -64,16 +64,16 @@ class Port:
         return answer
 
     def raw(self, request: Request) -> str:
-        """The line that answers one request, whatever it says. Raises Away if none came, TooLong and Untrusted."""
+        """Returns the line that answers one request, whatever it says. Raises Away if none came, TooLong and Untrusted."""
         return self._at_one(lambda address: self._answer(address, request))
 
     def show(self) -> View:
-        """The nodes and links, as far as they are on the disk. Raises Garbled too, and Past (an Away) if every address that
+        """Returns the nodes and links, as far as they are on disk. Raises Garbled too, and Past (an Away) if every address that
         answers shows an earlier moment than the last view."""
         return self._at_one(self._newest_view)
 
     def show_any(self) -> View:
-        """The same, but as any address shows it, which may be the past: only for what does not depend on the moment."""
+        """The same as `show`, from any address, which may show the past: only for uses that do not depend on the moment."""
         return self._at_one(self._view)
 
     def _newest_view(self, address: Address) -> View:
@@ -102,7 +102,7 @@ class Port:
             raise Garbled(json.dumps(answer)) from fault
 
     def close(self) -> None:
-        """Ends the server in order: everything accepted is settled first. Raises Garbled too."""
+        """Shuts the server down; everything accepted is settled first. Raises Garbled too."""
         if self.ask({"op": "close"}).get("kind") != "closed":
             raise Garbled("close")
 
@@ -118,7 +118,7 @@ class Port:
                 yield answer
 
     def _answers(self, address: Address, requests: Sequence[Request]) -> list[dict[str, Any] | NotTaken]:
-        """The answers over one connection, at least one, as far as they come and are not "not now"."""
+        """Returns the answers over one connection, at least one, up to the first that is missing or "not now"."""
         answers: list[dict[str, Any] | NotTaken] = []
         try:
             for line in self._lines(address, requests):
@@ -156,8 +156,8 @@ class Port:
                         if is_silent else "it ended the connection without an answer"))
 
     def _at_one(self, call: Callable[[Address], T]) -> T:
-        """What a call gives at the first address that answers. If none does, raises "not now" if one of them said so,
-        else what the last one raised."""
+        """Returns the result of a call at the first address that answers. If none does, raises "not now" if one of them said so,
+        else the error of the last one."""
         fault: Away = Away("no address")
         for turn in range(len(self.addresses)):
             place = (self._last + turn) % len(self.addresses)
@@ -175,8 +175,7 @@ class Port:
 
 
 def spoken(connection: socket.socket, requests: Sequence[Request]) -> Iterator[str]:
-    """Sends requests at once and gives the lines that come in answer, as many as come whole. Raises TooLong, and the
-    connection's OSError."""
+    """Sends requests at once and returns the complete answer lines that arrive. Raises TooLong, and the connection's OSError."""
     connection.sendall(b"".join(line_of(request) for request in requests))
     rest, came = b"", 0
     until = time.monotonic() + (connection.gettimeout() or REPLY_SECONDS) * (1 + len(requests) / AT_ONCE)

@@ -48,7 +48,7 @@ def has_open(process: int, found: os.stat_result) -> bool:
 
 
 def commanded(process: int) -> str:
-    """The words with which a process was started, on one line, where they can be known; of very many the first."""
+    """Returns the command line of a process on one line, if it can be known; only its beginning if it is very long."""
     try:
         with open(f"/proc/{process}/cmdline", "rb") as file:
             words = " ".join(file.read().replace(b"\0", b" ").decode("utf-8", "replace").split())
@@ -88,7 +88,7 @@ def has_other_network(process: int) -> bool:
 
 
 def join_network(process: int) -> None:
-    """This thread goes on in the network namespace of another process, for good. Raises OSError; it takes root."""
+    """Moves this thread into the network namespace of another process, for good. Raises OSError; needs root."""
     with open(f"/proc/{process}/ns/net", "rb") as file:
         if ctypes.CDLL(None, use_errno=True).setns(file.fileno(), NETWORK) != 0:
             raise OSError(ctypes.get_errno(), os.strerror(ctypes.get_errno()))
@@ -99,7 +99,7 @@ def processes() -> list[int]:
 
 
 def opened(process: int) -> list[str]:
-    """The numbers of what a process has open, as far as this user may see them."""
+    """Returns the numbers of the descriptors that a process has open, as far as this user may see them."""
     try:
         return os.listdir(f"/proc/{process}/fd")
     except OSError:
@@ -107,7 +107,7 @@ def opened(process: int) -> list[str]:
 
 
 def links_of(process: int) -> Iterator[str]:
-    """The names of its open files."""
+    """Returns the names of a process's open files."""
     for name in opened(process):
         try:
             yield os.readlink(f"/proc/{process}/fd/{name}")
@@ -154,13 +154,13 @@ def reads(process: int, name: str) -> bool:
 
 
 def flags_of(process: int, number: str) -> int:
-    """With which flags a process has opened a descriptor."""
+    """Returns the flags with which a process has opened a descriptor."""
     with open(f"/proc/{process}/fdinfo/{number}", encoding="utf-8") as lines:
         return next(int(line.split()[1], 8) for line in lines if line.startswith("flags:"))
 
 
 class Condition(enum.Enum):
-    """What keeps a process from its work."""
+    """Why a process makes no progress."""
 
     STOPPED = "stopped"
     IN_A_CALL = "in a call"
@@ -168,8 +168,8 @@ class Condition(enum.Enum):
 
 
 def condition_of(process: int, seconds: float = LOOK_SECONDS) -> Condition | None:
-    """Whether a process is stopped by a signal; or for this many seconds one of its threads is in one call that can't be
-    interrupted, as a sync, or never rests. None if it is none of these, or can't be seen."""
+    """Whether a process is stopped by a signal, or one of its threads has for this many seconds been in one uninterruptible call,
+    such as a sync, or has never slept. None if none of these is so, or it can't be seen."""
     first = threads_of(process)
     if any(state in "Tt" for state, _ in first.values()):
         return Condition.STOPPED
@@ -180,7 +180,7 @@ def condition_of(process: int, seconds: float = LOOK_SECONDS) -> Condition | Non
 
 
 def threads_of(process: int) -> dict[str, tuple[str, int]]:
-    """The threads of a process, each with its state, a letter, and how often it has gone to rest."""
+    """Returns the threads of a process, each with its state, a letter, and how often it has gone to sleep."""
     found = {}
     try:
         for thread in os.listdir(f"/proc/{process}/task"):
@@ -202,7 +202,7 @@ class Program:
 
 
 def program_of(process: int) -> Program | None:
-    """None if this user may not see it."""
+    """Returns the program of a process; None if this user may not see it."""
     link = f"/proc/{process}/exe"
     try:
         path = os.readlink(link).removesuffix(" (deleted)")

@@ -17,9 +17,9 @@ LOOK_SECONDS = 0.05
 
 
 def renew(port: Port, orders: Orders, seconds: float) -> str:
-    """Asks for a reset in each group of linked nodes, waits until the epoch of every node has risen, and says so. It finds the
-    client's count first, which a restore changes. It may be repeated. Raises Away if a node's epoch has not risen within this
-    many seconds."""
+    """Asks for a reset in each group of linked nodes, waits until the epoch of every node has risen, and returns a message. It
+    first finds the client's number, which a restore changes. It may be repeated. Raises Away if a node's epoch has not risen
+    within this many seconds."""
     patiently(orders.recover, seconds)
     view = first = patiently(port.show, seconds)
     until = time.monotonic() + seconds
@@ -36,18 +36,18 @@ def renew(port: Port, orders: Orders, seconds: float) -> str:
 
 
 def reset(orders: Orders, node: int, accepted: int, seconds: float) -> None:
-    """One reset. Its step is above those that were accepted before."""
+    """Asks for one reset, whose step must be above those accepted before."""
     patiently(lambda: orders.order("reset", above=accepted, node=node), seconds)
 
 
 def not_risen(first: View, view: View) -> frozenset[int]:
-    """The nodes whose epoch is not above the one that they had, of those that are still there."""
+    """Returns the nodes whose epoch has not risen since, among those that still exist."""
     epochs = {node.node: node.epoch for node in first.nodes}
     return frozenset(node.node for node in view.nodes if node.epoch <= epochs.get(node.node, -1))
 
 
 def groups(view: View) -> list[tuple[Node, ...]]:
-    """The nodes in groups, each of which a reset of one of its nodes reaches."""
+    """Returns the nodes in groups: a reset of one node reaches its whole group."""
     found: list[tuple[Node, ...]] = []
     rest = {node.node for node in view.nodes}
     while rest:

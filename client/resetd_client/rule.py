@@ -39,8 +39,8 @@ class Kept:
 
 
 class Shown(NamedTuple):
-    """What a view says to the member of one node: the node's epoch and the last one that was confirmed; whether all that
-    are connected are through; whether no reset is at any of them; and who they are."""
+    """What a view shows the member of one node: the node's epoch and the last confirmed one; whether all connected nodes are
+    through; whether none of them is in a reset; and which they are."""
 
     epoch: int
     confirmed: int
@@ -59,7 +59,7 @@ class Judged(NamedTuple):
 
 
 def shown_to(view: View, row: Node) -> Shown:
-    """What a view says to the member of a node that is there."""
+    """Returns what a view shows the member of a node in it."""
     part = view.part(row.node)
     return Shown(row.epoch, row.confirmed, part.is_through, part.is_quiet, part.party)
 

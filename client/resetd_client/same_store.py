@@ -10,7 +10,7 @@ from .view import View
 
 
 class NotCompared(Exception):
-    """The file may be the store or not: this user may not read it, or each look at it met a checkpoint."""
+    """It can't be known whether the file is the store: this user may not read it, or each attempt met a checkpoint."""
 
 
 @dataclass(frozen=True)
@@ -34,9 +34,9 @@ def reading(path: str) -> Reading:
 
 
 def difference(before: Reading, view: View, after: Reading) -> str:
-    """The reason why a file is not the store of a coordinator that answered with this view between the two readings; empty if it
-    may be the one. The settled steps of the view are in the file since then, and the file never has a step that was not accepted.
-    A flight in progress may be in the file before it is settled."""
+    """Returns why a file is not the store of a coordinator that answered with this view between the two readings; empty if it may
+    be the one. By then the file has the view's settled steps, and it never has a step that was not accepted. A flight in progress
+    may be in the file before it is settled."""
     if after.count is None:
         return after.why_not
     if after.count < view.settled:

@@ -42,13 +42,13 @@ def board_in(folder: str) -> str:
 
 
 def line_of(text: str | None) -> str:
-    """The first line of a text, with its end; the empty text for none."""
+    """Returns the first line of a text, with its line feed; empty if there is none."""
     line, end, _ = (text or "").partition("\n")
     return line + end
 
 
 def number_of(text: str | None) -> int:
-    """The number of the first line of `begun`, or of the last instruction; 0 for one that is missing or does not read."""
+    """Returns the number in the first line of `begun`, or of the last instruction; 0 if it is missing or can't be read."""
     found = BEGUN.fullmatch(line_of(text))
     return int(found.group(1)) if found else 0
 
@@ -69,7 +69,7 @@ class Cached:
 
 
 class Board:
-    """The file of a gateway's instructions to its members."""
+    """The file in which a gateway instructs its members."""
 
     def __init__(self, folder: str) -> None:
         self._path = board_in(folder)
@@ -89,7 +89,7 @@ class Seat:
     """A member's folder, as the gateway sees it."""
 
     def __init__(self, folder: str) -> None:
-        """Raises BadWords at a name that no line can have."""
+        """Raises BadWords for a name that no line can have."""
         self.folder, self.name = folder, os.path.basename(folder)
         if self.name == BOARD or not NAME.fullmatch(self.name):
             raise BadWords(f"{self.name!r} can't be a member's name: a name has no blanks, and is not {BOARD!r}")
@@ -111,12 +111,11 @@ class Seat:
         return line_of(self._begun.read()) == told
 
     def has_lost(self, told: str) -> bool:
-        """Whether the member says that the instructed work is gone."""
+        """Whether the member reports that the instructed work is gone."""
         return line_of(self._begun.read()) == f"lost {told}"
 
     def take_refused(self) -> str | None:
-        """The tag that the member refused last, since the last call. The file is renamed before it is read, so that a tag that replaces it
-        meanwhile is left for the next call."""
+        """Returns the tag that the member refused last, since the last call."""
         path = os.path.join(self.folder, "refused")
         with suppress(FileNotFoundError):
             os.rename(path, f"{path}.taken")
@@ -179,8 +178,8 @@ class Served:
             files.keep(os.path.join(self._folder, "begun"), f"lost {line_of(begun)}")
 
     def tag(self) -> str | None:
-        """The tag of the run that the group is in; None while somebody is not through, and for a member that is connected
-        with nobody. It is the sender's to give: whether a message is taken says `takes`."""
+        """Returns the tag of the run that the group is in; None while somebody is not through, and for a member that is connected
+        with nobody. A sender uses it; `takes` decides whether to accept a message."""
         _, number, tag, boot = self._line()
         begun = self._begun.read()
         if number != number_of(begun) or begun.startswith("lost") or boot != boot_name():

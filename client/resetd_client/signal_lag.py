@@ -26,7 +26,7 @@ class Mark:
 
 
 class Signals:
-    """The lines that a file of signals lacks. A kill may lose a line, and so may a file that was moved away or truncated; but
+    """The lines that a file of signals lacks. A line may be lost by a kill, or when the file is moved away or truncated; but
     after a mark, within one run of the server and one file, no line is lost this way. So each epoch that has risen since the mark
     must have its line there. If all have it, the mark is set again, so that little is read each time."""
 

@@ -19,11 +19,11 @@ class Wake(enum.Enum):
 
 
 class Wakes(Protocol):
-    """Where wake-ups come from. What also has `descriptors` (as those below) is waited for together with others: a list of
-    what can be read once something may be new after the last wait, or None if it has to be asked again and again."""
+    """Where wake-ups come from. A source with `descriptors` (as below) can be waited for together with others: a list of
+    descriptors that are readable once something may be new after the last wait, or None if it has to be polled."""
 
     def wait(self, seconds: float) -> Wake:
-        """Waits until something may be new, at most so long. All that came meanwhile is one wake-up."""
+        """Waits until something may be new, at most this long. Everything that comes meanwhile is one wake-up."""
 
 
 class Stream:
@@ -49,8 +49,7 @@ class Stream:
 
 
 class Follower:
-    """The file of signals, followed over its growth, its cutting and its replacement. It need not be there yet,
-    and it may go."""
+    """The file of signals, followed while it grows, is truncated or is replaced. It need not exist yet, and it may disappear."""
 
     def __init__(self, path: str) -> None:
         self._changes = Changes([path])
@@ -63,7 +62,7 @@ class Follower:
 
 
 class Clock:
-    """No wake-up but the time that passes."""
+    """No wake-up except the passing of time."""
 
     def wait(self, seconds: float) -> Wake:
         time.sleep(max(seconds, 0.0))

@@ -17,8 +17,8 @@ class Seen(NamedTuple):
 
 
 class Since:
-    """Since when each thing that was seen has lasted, kept in a file from one check to the next. Times are of one boot of
-    the machine, by a clock that nobody sets."""
+    """Since when each observed condition has lasted, kept in a file from one check to the next. Times are of one boot of the
+    machine, by a clock that nobody sets."""
 
     def __init__(self, path: str, now: float, boot: str = "") -> None:
         self._path, self._now, self._boot = path, now, boot
@@ -34,7 +34,7 @@ class Since:
         return max(steps - self._seen(thing, steps).steps, 0)
 
     def things(self, kind: str) -> list[str]:
-        """What the check before this one has seen of a kind: that is a thing's first word."""
+        """Returns what the previous check saw of a kind, which is the first word of a condition."""
         return [thing for thing in self._old if thing.startswith(f"{kind} ")]
 
     def keep(self) -> None:
@@ -58,7 +58,7 @@ class Since:
 
 
 def boot_clock() -> float:
-    """Seconds since the machine started, with those that it slept: nobody sets this clock."""
+    """Returns the seconds since the machine started, including those when it slept: nobody sets this clock."""
     return time.clock_gettime(time.CLOCK_BOOTTIME)
 
 

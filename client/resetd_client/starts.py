@@ -39,7 +39,8 @@ class Shelf:
         self._sync_what_was_read()
 
     def _take_over_epochs(self) -> None:
-        """The oldest files have the greatest epoch that was ever begun, and its party: that start does not go on."""
+        """Reads the oldest form of files, which have the greatest epoch that was ever begun, and its party: that start does not
+        continue."""
         for row in self._rows.values():
             if row.floor is not None and row.kept.party and not is_alone(row.kept.party):
                 self.history.add(digest_of(row.kept.party))
@@ -110,7 +111,7 @@ class Shelf:
             self._write(is_synced)
 
     def _write(self, is_synced: bool) -> None:
-        """Writes it. Only where "nothing begun" is to be on the disk it is emptied: that takes one sync."""
+        """Writes the file. Only if "nothing begun" must be on disk is it emptied, which takes one sync."""
         if is_synced and all(row.is_empty for row in self._rows.values()):
             files.empty(self._path)
         else:
@@ -142,7 +143,7 @@ class Shelf:
 
 
 class Barred:
-    """The parties that a start must not talk with, in the form that the rule takes."""
+    """The parties that a start must not talk with, in the form that the rule expects."""
 
     def __init__(self, shelf: Shelf) -> None:
         self._shelf = shelf
@@ -152,22 +153,23 @@ class Barred:
 
 
 class Starts:
-    """The starts of one node's member, beside its work. The caller calls `shelf.keep` after `due`, after `note_begin`
-    and after `note_begun`, before it acts on them."""
+    """The starts of one node's member, stored beside its work. The caller calls `shelf.keep` after `due`, after `note_begin` and
+    after `note_begun`, before it acts on them."""
 
     def __init__(self, shelf: Shelf, node: int, begun: int | None) -> None:
-        """`begun` is the epoch that stands with the work in hand, None for no work."""
+        """`begun` is the epoch that is stored with the work in hand, None for no work."""
         self._shelf, self._node = shelf, node
         self.work = begun
         self._floor = shelf.floor(node)
 
     @property
     def begun(self) -> int | None:
-        """The epoch of the work in hand; None for no work, and for work that is not that of the start that is kept."""
+        """The epoch of the work in hand; None for no work, and for work that does not belong to the stored start."""
         return self.work if self.work == self._kept.begun else None
 
     def due(self, view: View, row: Node) -> Due:
-        """The action that a view with the row of the member's node requires. It puts the state to store into the shelf."""
+        """Returns the action that a view with the row of the member's node requires, and puts the state to store into the
+        shelf."""
         if self._floor is not None and row.epoch <= self._floor:
             return self._take_over(view, row)
         self._floor = None
@@ -177,9 +179,9 @@ class Starts:
         return judged.due
 
     def foresee(self, view: View) -> None:
-        """Puts the party with which the begun start will talk, if nothing changes, into the history in advance: then it need not
-        wait for the disk later. No start has talked with that party yet, so it may still; this process knows that, and the next
-        one unless the power was cut. One that does not know it asks for a reset when this party is shown."""
+        """Adds the party with which the begun start will talk, if nothing changes, to the history in advance, so that it need not
+        wait for the disk later. No start has talked with that party yet, so it still may; this process knows that, and so does
+        the next one unless the power was cut. One that does not know it asks for a reset when this party is shown."""
         row, part = view.node(self._node), view.part(self._node)
         if row is None or row.epoch != self.begun or self._kept.party is not None or not part.is_quiet or is_alone(part.party):
             return
@@ -193,9 +195,9 @@ class Starts:
         return tag_of(party, view.party(self._node), word) if party is not None else ""
 
     def fence(self, word: str = "", generation: int = 0) -> Fence | None:
-        """The fence of a start that has first talked. None if an earlier version of the library fixed its party: the next reset
-        brings one. A start that was alone shares its run with nobody, and may come again with the same party: so its tag has the
-        count in it. `generation` is greater after each restore of the coordinator's store."""
+        """Returns the fence of a start that has first talked. None if an earlier version of the library fixed its party: the next
+        reset brings one. A start that was alone shares its run with nobody, and may come again with the same party: so its tag
+        includes the count. `generation` is greater after each restore of the coordinator's store."""
         party, settled = self._kept.party, self._shelf.count(self._node)
         if party is None or settled is None:
             return None
@@ -204,7 +206,7 @@ class Starts:
         return Fence(count, digest[:TAG_DIGITS], nodes_of(party))
 
     def why(self, row: Node) -> str:
-        """Why a reset is due, in words."""
+        """Describes why a reset is due."""
         if row.epoch > row.confirmed:
             return f"at epoch {row.epoch} all that are connected are as they were for an earlier start"
         if row.epoch == self.begun:
@@ -213,8 +215,8 @@ class Starts:
         return f"epoch {row.epoch} is shown and confirmed, and {work} here"
 
     def note_begin(self, told: str | None = None) -> None:
-        """A start begins: call this, and `keep`, before any work of the previous one is dropped. That one no longer talks,
-        whatever becomes of its work."""
+        """Notes that a start begins: call this, and `keep`, before any work of the previous one is dropped. That one no longer
+        talks, whatever happens to its work."""
         self._shelf.put(self._node, Kept(), told=told)
 
     def note_begun(self, epoch: int) -> None:
@@ -230,7 +232,7 @@ class Starts:
         return judge(Kept(self.begun, self._kept.party), Barred(self._shelf), shown_to(view, row))
 
     def _take_over(self, view: View, row: Node) -> Due:
-        """A file of an earlier version knows a greater epoch, or this one: a reset is asked for, once."""
+        """Handles a file of an earlier version with this epoch or a greater one: it asks for a reset, once."""
         if any(node.mode != "ready" for node in view.connected(row.node)):
             return Due.WAIT
         self._floor = None

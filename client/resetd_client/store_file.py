@@ -30,15 +30,15 @@ class NoStore(ResetdError):
 
 
 class Restless(ResetdError):
-    """Each pass over a served store met a checkpoint: the same call may end otherwise. Needs no person, unless it lasts."""
+    """Each pass over a served store met a checkpoint: the same call may succeed later. Needs no person, unless it lasts."""
 
     needs_person = False
 
 
 @dataclass(frozen=True)
 class Half:
-    """What one half of a store reads as: its version, its snapshot, and the bodies after open gates. `start` is the
-    half's place in the file, `places` are those of the bodies."""
+    """The content of one half of a store: its version, its snapshot, and the bodies after open gates. `start` is the half's
+    offset in the file, `places` are those of the bodies."""
 
     size: int
     index: int
@@ -64,7 +64,7 @@ class Half:
         return places
 
     def file(self) -> bytes:
-        """The bytes of a store that holds just this, in its first half."""
+        """Returns the bytes of a store with only this, in its first half."""
         parts = [b"\0", MAGIC, self.size.to_bytes(8, "big"), bytes([self.version]), len(self.snapshot).to_bytes(4, "big"),
                  self.snapshot]
         for body in self.bodies:
@@ -74,7 +74,7 @@ class Half:
 
 @dataclass(frozen=True)
 class Store:
-    """A half: its snapshot spells a world, and its bodies spell batches that go on from there."""
+    """A half whose snapshot encodes a world, and whose bodies encode batches that continue from there."""
 
     half: Half
     world: World
@@ -87,7 +87,7 @@ class Store:
 
 
 def store_of(half: Half) -> Store:
-    """The store that a half spells. `resetd check` looks whether the world takes the steps. Raises NoStore."""
+    """Returns the store that a half encodes. `resetd check` tells whether the world accepts the steps. Raises NoStore."""
     if half.version not in VERSIONS:
         raise NoStore("BadSnapshot", half.start, f"version {half.version} is not known")
     try:
@@ -108,8 +108,8 @@ def store_of(half: Half) -> Store:
 
 
 def read_half(read: Read, is_other: bool = False) -> Half:
-    """The half that is selected, or the other one, as it stood at one moment of this call, also while the store is
-    served. Every order that was answered before the call is in it. Raises NoStore and Restless."""
+    """Returns the selected half, or the other one, as it was at one moment of this call, even while the store is served. Every
+    order that was answered before the call is in it. Raises NoStore and Restless."""
     head = read(0, HEADER)
     size = int.from_bytes(head[9:], "big")
     if len(head) < HEADER or head[1:9] != MAGIC or size not in HALVES:
@@ -143,7 +143,7 @@ def one_pass(read: Read, size: int, is_other: bool) -> Half | None:
 
 
 def selected(read: Read) -> int:
-    """Which half the selector names."""
+    """Returns which half the selector names."""
     return read(0, 1)[0] % 2
 
 
@@ -190,7 +190,8 @@ def reader_of(descriptor: int) -> Read:
 
 
 def open_store(path: str) -> int:
-    """A descriptor of a store's file. It refuses a path that is not a regular file, and never blocks. Raises OSError."""
+    """Opens a store's file and returns its descriptor. It refuses a path that is not a regular file, and never blocks. Raises
+    OSError."""
     descriptor = os.open(path, os.O_RDONLY | os.O_NONBLOCK | os.O_CLOEXEC)
     if not stat.S_ISREG(os.fstat(descriptor).st_mode):
         os.close(descriptor)

@@ -21,7 +21,7 @@ T = TypeVar("T")
 
 
 class NotSpelled(Exception):
-    """Bytes spell nothing: Short, BadByte or Extra, and the place of the first fault."""
+    """The bytes can't be decoded: Short, BadByte or Extra, and the place of the first fault."""
 
     def __init__(self, kind: str, place: int) -> None:
         super().__init__(f"{kind} at {place}")
@@ -29,13 +29,13 @@ class NotSpelled(Exception):
 
 
 class Reader:
-    """Bytes that are read from the left. Each call raises NotSpelled."""
+    """Reads bytes from the left. Each call raises NotSpelled."""
 
     def __init__(self, data: bytes) -> None:
         self.data, self.place = data, 0
 
     def number(self, size: int, least: int, most: int) -> int:
-        """A number of this many bytes, within limits."""
+        """Decodes a number of this many bytes, within limits."""
         if self.place + size > len(self.data):
             raise NotSpelled("Short", len(self.data))
         value = int.from_bytes(self.data[self.place:self.place + size], "big")
@@ -51,7 +51,7 @@ class Reader:
         return self.number(8, least, most)
 
     def counted(self, most: int, item: Callable[[], T]) -> list[T]:
-        """As many items as a byte says."""
+        """Decodes as many items as a byte says."""
         return [item() for _ in range(self.byte(0, most))]
 
     def end(self) -> None:
@@ -140,7 +140,8 @@ class Session:
 
 @dataclass(frozen=True)
 class World:
-    """What a person may ask of a snapshot: how many steps it has, its nodes with their modes, links and sessions."""
+    """The parts of a snapshot that a person may ask for: how many steps it has, its nodes with their modes, links and
+    sessions."""
 
     count: int
     modes: dict[int, str]
@@ -149,7 +150,7 @@ class World:
 
 
 def batch_of(body: bytes, version: int) -> Batch:
-    """The batch that a body spells. Raises NotSpelled."""
+    """Decodes the batch of a body. Raises NotSpelled."""
     reader = Reader(body)
     first = reader.word(1, MOST_STEPS_EVER)
     steps = tuple(step_of(reader, version) for _ in range(reader.number(2, 1, MOST_IN_BATCH)))
@@ -184,7 +185,7 @@ def message_of(reader: Reader, version: int, most_distance: int) -> str:
 
 
 def world_of(snapshot: bytes, version: int) -> World:
-    """The world that a snapshot spells. Raises NotSpelled."""
+    """Decodes the world of a snapshot. Raises NotSpelled."""
     reader = Reader(snapshot)
     count = reader.word(0, MOST_STEPS_EVER)
     rows = Rows(reader, version, count)
@@ -196,7 +197,7 @@ def world_of(snapshot: bytes, version: int) -> World:
 
 
 class Rows:
-    """The rows of a world's lists, each of which is in its range and above the one before."""
+    """Decodes the rows of a world's lists, each of which is in its range and above the one before."""
 
     def __init__(self, reader: Reader, version: int, count: int) -> None:
         self.reader, self.version, self.count = reader, version, count

@@ -18,8 +18,8 @@ Pair = tuple[int, int]
 
 
 class BadTopology(ResetdError):
-    """The file is no topology, or one that no network can have. `name` is what `resetd init` calls that. Needs a person:
-    who wrote it."""
+    """The file is not a topology, or not one that a network can have. `name` is how `resetd init` names the fault. Needs a
+    person: the file's author."""
 
     def __init__(self, name: str, text: str) -> None:
         super().__init__(f"{name}: {text}")
@@ -65,7 +65,7 @@ class Order:
 
 
 def read_topology(text: bytes) -> Network:
-    """The network of a topology file. It checks keys before values, and values before the rows, like `resetd init`. Raises
+    """Reads the network of a topology file. It checks keys before values, and values before the rows, like `resetd init`. Raises
     BadTopology."""
     if len(text) > MOST_BYTES:
         raise BadTopology("NotToml", f"over {MOST_BYTES} bytes")
@@ -110,13 +110,13 @@ def add_link(network: Network, a: int, b: int) -> None:
 
 
 def tables(top: dict[str, Any], key: str) -> Iterator[dict[str, Any]]:
-    """The tables directly in an array; other items are skipped."""
+    """Returns the tables directly in an array; other items are skipped."""
     rows = top.get(key, [])
     return (row for row in (rows if isinstance(rows, list) else []) if isinstance(row, dict))
 
 
 def tables_alone(top: dict[str, Any], key: str) -> Iterator[dict[str, Any]]:
-    """The tables of an array. Raises BadTopology if it is no array, or has anything else."""
+    """Returns the tables of an array. Raises BadTopology if it is not an array, or has anything else."""
     rows = top.get(key, [])
     if not isinstance(rows, list) or not all(isinstance(row, dict) for row in rows):
         raise BadTopology("BadValue", f"{key} must be written as [[{key}]]")
@@ -124,7 +124,7 @@ def tables_alone(top: dict[str, Any], key: str) -> Iterator[dict[str, Any]]:
 
 
 def check_keys(table: dict[str, Any], required: set[str], optional: set[str], where: str) -> None:
-    """Raises BadTopology if a table lacks a key, or has one that means nothing."""
+    """Raises BadTopology if a table lacks a key, or has an unknown one."""
     if missing := required - set(table):
         raise BadTopology("BadKey", f"{where} lacks {' and '.join(sorted(missing))}")
     if extra := set(table) - required - optional:
@@ -173,7 +173,7 @@ def plan(have: Network, want: Network) -> list[Order]:
 
 
 def rooms(now: Network, want: Network, link: Pair) -> list[Pair]:
-    """Which of the links that are to go have to be dropped before a link can be joined."""
+    """Returns which of the links to drop must be dropped before a link can be joined."""
     going, chosen = now.links - want.links, set[Pair]()
     for end in link:
         if now.degree(end) - sum(end in other for other in chosen) >= MOST_LINKS_AT_NODE:

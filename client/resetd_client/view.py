@@ -11,9 +11,8 @@ from .party import Party, tag_of
 
 
 class Node(NamedTuple):
-    """A node's row. `mode` is `ready`, or `abort` or `converge` while a reset is at the node; `parent` is 0 for
-    none; `epoch` counts the node's signals, and `confirmed` is the last epoch of which a service said that it
-    has begun it."""
+    """A node's row. `mode` is `ready`, or `abort` or `converge` while the node is in a reset; `parent` is 0 for none; `epoch`
+    counts the node's signals, and `confirmed` is the last epoch that a service has confirmed."""
 
     node: int
     group: int
@@ -24,7 +23,7 @@ class Node(NamedTuple):
 
     @property
     def is_begun(self) -> bool:
-        """No reset is at the node, and its service has confirmed the present epoch."""
+        """Whether the node is in no reset, and its service has confirmed the present epoch."""
         return self.mode == "ready" and self.epoch == self.confirmed
 
 
@@ -38,20 +37,20 @@ class Link(NamedTuple):
 
 @dataclass(frozen=True)
 class Part:
-    """Nodes that links connect with each other, in ascending order, and those links: a reset of one node reaches all. What
-    follows from them is found once, since all members of a gateway ask for it."""
+    """Nodes that links connect with each other, in ascending order, and those links: a reset of one node reaches all. Derived
+    values are computed once, since all members of a gateway ask for them."""
 
     nodes: tuple[Node, ...] = ()
     links: tuple[Link, ...] = ()
 
     @cached_property
     def is_through(self) -> bool:
-        """No reset is at any of them, and all have begun."""
+        """Whether none of them is in a reset, and all have begun."""
         return all(node.is_begun for node in self.nodes)
 
     @cached_property
     def is_quiet(self) -> bool:
-        """No reset is at any of them."""
+        """Whether none of them is in a reset."""
         return all(node.mode == "ready" for node in self.nodes)
 
     @cached_property
@@ -72,7 +71,7 @@ class View:
 
     @staticmethod
     def of(answer: Mapping[str, Any]) -> View:
-        """The view of an answer's members. It leaves out what a later version adds to a row."""
+        """Returns the view of an answer's members. It ignores what a later version adds to a row."""
         return View(
             int(answer["accepted"]), int(answer["settled"]),
             tuple(Node(int(n), int(g), str(mode), int(parent), int(e), int(c))
@@ -80,7 +79,7 @@ class View:
             tuple(Link(int(a), int(b), int(inc)) for a, b, inc, *_ in answer["links"]))
 
     def members(self) -> dict[str, Any]:
-        """The members of the answer that this is the view of."""
+        """Returns the members of the answer that gives this view."""
         return {"accepted": self.accepted, "links": [list(link) for link in self.links],
                 "nodes": [list(node) for node in self.nodes], "settled": self.settled}
 
@@ -89,20 +88,21 @@ class View:
         return next((node for node in self.nodes if node.node == number), None)
 
     def part(self, number: int) -> Part:
-        """The node, and all that links connect with it. None if the node is not there."""
+        """Returns the part of a node; None if the node does not exist."""
         return self._parts.get(number, Part())
 
     def connected(self, number: int) -> tuple[Node, ...]:
-        """The rows of the node and of all that links connect with it, in ascending order: a reset of one of them reaches
-        all. None if the node is not there."""
+        """Returns the rows of a node and of all nodes that links connect with it, in ascending order: a reset of one of them
+        reaches all. None if the node does not exist."""
         return self.part(number).nodes
 
     def awaited(self, number: int) -> tuple[Node, ...]:
-        """Of the connected nodes, those that are not through: in a reset, or begun and not confirmed."""
+        """Returns the connected nodes that are not through: in a reset, or not confirmed yet."""
         return tuple(node for node in self.connected(number) if not node.is_begun)
 
     def party(self, number: int) -> Party:
-        """Who is connected with a node, each with its epoch, and by which links: what names a run (party.py)."""
+        """Returns which nodes are connected with a node, each with its epoch, and by which links: the party that names a run
+        (party.py)."""
         return self.part(number).party
 
     @cached_property
@@ -124,7 +124,7 @@ class View:
         return {node.node: parts[first[node.node]] for node in self.nodes}
 
     def tag(self, number: int, word: str = "") -> str:
-        """The tag of a start of this node that first talks where this view is shown (party.py); empty if it is alone.
-        `word` is one that the whole group shares."""
+        """Returns the tag of a start of this node that first talks with this view (party.py); empty if it is alone. `word` is
+        shared by the whole group."""
         party = self.party(number)
         return tag_of(party, party, word)

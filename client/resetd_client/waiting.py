@@ -70,7 +70,7 @@ def request_of(entry: Entry) -> Entry:
 
 
 def read_entries(path: str) -> tuple[list[Entry], str]:
-    """The entries of an audit, and why there are none."""
+    """Returns the entries of an audit file, and why there are none."""
     entries: list[Entry] = []
     try:
         with open(path, encoding="utf-8", errors="replace") as lines:

@@ -27,7 +27,7 @@ MOST_BYTES = 1 << 20  # of a line: 64 nodes and 128 links take some ten thousand
 
 
 class Pushed:
-    """One connection to a front, over which views come."""
+    """One connection to a front, which pushes views over it."""
 
     def __init__(self, address: Address, seconds: float) -> None:
         """`seconds` is how long it may take to connect. Raises Away and Untrusted."""
@@ -68,7 +68,7 @@ class Pushed:
         return [view_of(line, str(self.address)) for line in self._lines(seconds)]
 
     def newest(self, seconds: float) -> View | None:
-        """The same, but only the last one of them, since the others are of the past by now."""
+        """The same, but only the newest one, since the others are out of date by then."""
         lines = self._lines(seconds)
         for line in lines[:-1]:
             if not line.startswith(VIEW):
@@ -93,7 +93,7 @@ class Pushed:
         return [line.decode("utf-8", "replace") for line in lines]
 
     def _takes(self, line: bytes, place: int) -> bool:
-        """Takes the answer to an order. The first line of all is the answer to `watch`."""
+        """Accepts the answer to an order. The very first line is the answer to `watch`."""
         if line.startswith(VIEW.encode()) or not self.awaited or not (self._is_answered or place):
             return False
         self.awaited -= 1
@@ -101,7 +101,7 @@ class Pushed:
         return True
 
     def _is_ready(self, seconds: float) -> bool:
-        """Whether something can be read; TLS may hold what the system has given already."""
+        """Whether something can be read; TLS may buffer what the system has already delivered."""
         if isinstance(self._connection, ssl.SSLSocket) and self._connection.pending():
             return True
         return bool(select.select([self._connection], [], [], seconds)[0])
@@ -138,27 +138,27 @@ class Watched:
         self._is_untold = False  # whether it came since the last wait
 
     def take(self) -> View | None:
-        """The newest view, once, if it is of after all orders that were sent over the connection."""
+        """Returns the newest view, once, if it is newer than all orders that were sent over the connection."""
         view = self._new if self.has_view else None
         self._new, self._is_untold = None, False
         return view
 
     @property
     def has_view(self) -> bool:
-        """Whether there is a view to be taken, which is of after all orders that were sent over the connection."""
+        """Whether there is a view to take that is newer than all orders that were sent over the connection."""
         return self._new is not None and self._pushed is not None and self._new.settled >= self._pushed.least
 
     def await_view(self, seconds: float) -> None:
-        """Waits until there is a view to be taken, at most so long, and not for a connection."""
+        """Waits at most this long until there is a view to take; does not wait for a connection."""
         until = time.monotonic() + seconds
         while self._pushed is not None and not self.has_view and (left := until - time.monotonic()) > 0:
             self._wait_for_view(left)
 
     def ask_many(self, requests: Sequence[Request], on_view: Callable[[View], None] = lambda view: None,
                  view: View | None = None) -> list[str]:
-        """The answers to orders that go over this connection, in their sequence. While they are on their way `on_view` is
-        called, with `view` and with each view that is pushed. Raises Away, and what `wait` raises; then an order was
-        carried out or not."""
+        """Returns the answers to orders that go over this connection, in their sequence. While they are on their way it calls
+        `on_view` with `view` and with each pushed view. Raises Away, and whatever `wait` raises; then an order was carried out or
+        not."""
         try:
             pushed = self._connected()
             pushed.send(requests)
@@ -199,7 +199,7 @@ class Watched:
         self._note(view)
 
     def _note(self, view: View) -> None:
-        """Takes a view that is another one than the last."""
+        """Stores a view that differs from the last."""
         if view != self._seen:
             self._seen = self._new = view
             self._is_untold = True
@@ -267,7 +267,7 @@ class Watched:
             self._pushed = Pushed(self._front, self._seconds)
 
     def _put_off(self) -> None:
-        """The front was away: the next one is tried, after a growing pause, and its first view counts as new."""
+        """Notes that the front was away: the next one is tried, after a growing pause, and its first view counts as new."""
         self._turn += 1
         self._seen = self._new = None
         self._is_untold = False

@@ -48,7 +48,7 @@ def of_file(path: str, account: Account | None = None) -> Iterator[Finding]:
 
 
 def of_absence(path: str, fault: OSError) -> Finding:
-    """There is no file, or this user can't see it."""
+    """Describes a file that does not exist, or that this user can't see."""
     if fault.errno != errno.ENOENT:
         return Finding("file", f"{fault.strerror}", "Device")
     if os.path.islink(path):
@@ -64,7 +64,7 @@ def of_folder(folder: str) -> Iterator[Finding]:
 
 
 def owned(found: os.stat_result) -> str:
-    """The mode and the owners, as `ls` has them."""
+    """Formats the mode and the owners as `ls` does."""
     try:
         group = grp.getgrgid(found.st_gid).gr_name
     except KeyError:
@@ -73,7 +73,7 @@ def owned(found: os.stat_result) -> str:
 
 
 def of_access(path: str, account: Account) -> Iterator[Finding]:
-    """Whether the server's user may use the file and its folder, and whether the disk takes a sync."""
+    """Reports whether the server's user may use the file and its folder, and whether the disk completes a sync."""
     if not may_try_as(account):
         yield Finding("access", f"only root can check whether {account.name} may open it (sudo)",
                       left_out=f"whether {account.name} may open it")
@@ -93,7 +93,7 @@ def of_access(path: str, account: Account) -> Iterator[Finding]:
 
 
 def of_lock(found: os.stat_result) -> Iterator[Finding]:
-    """Who has the file locked."""
+    """Reports who has locked the file."""
     holders = lock_holders(found)
     for process in holders:
         yield Finding("lock", f"held by process {process}{commanded(process)}: a second start is refused", "Device")
@@ -104,14 +104,14 @@ def of_lock(found: os.stat_result) -> Iterator[Finding]:
 
 
 def of_program(process: int) -> Iterator[Finding]:
-    """Which program a process runs: its path and checksum distinguish one build of the server from another."""
+    """Reports which program a process runs, which distinguishes one build of the server from another."""
     if program := program_of(process):
         yield Finding("program", f"process {process} runs {program.path}, SHA-256 {program.checksum}" + (
             "" if program.is_there else "; the file at that path has changed: the process runs the old one until it is restarted"))
 
 
 def of_output(process: int) -> Iterator[Finding]:
-    """A server whose output is a pipe ends only once all its lines were taken."""
+    """Reports a server's output to a pipe: the server ends only once all its lines have been read."""
     pipe = output_pipe(process)
     if pipe is not None:
         read = ", ".join(f"process {each}{commanded(each)}" for each in pipe.readers) or "no process"
@@ -138,7 +138,7 @@ def of_store(store: Store) -> Iterator[Finding]:
 
 
 def of_space(path: str, found: os.stat_result) -> Iterator[Finding]:
-    """Whether the file may grow to its full length."""
+    """Reports whether the file may grow to its full length."""
     space, full = os.statvfs(path), HEADER + 2 * half_size(path)
     free, lacks = space.f_bavail * space.f_frsize, max(full - found.st_blocks * 512, 0)
     yield Finding("space", f"{free:,} bytes are free, and the file may take {lacks:,} more",
@@ -152,7 +152,7 @@ def of_space(path: str, found: os.stat_result) -> Iterator[Finding]:
 
 
 def half_size(path: str) -> int:
-    """The size of a half, or the least one if the file does not tell."""
+    """Returns the size of a half, or the least possible one if the file does not have it."""
     try:
         with open(path, "rb") as file:
             size = int.from_bytes(file.read(HEADER)[9:], "big")

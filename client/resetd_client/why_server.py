@@ -26,8 +26,8 @@ CONDITIONS = {
 
 
 def of_address(text: str, seconds: float, path: str, audit: str = AUDIT) -> Iterator[Finding]:
-    """What listens at an address, whether a server could, whether a coordinator there has the store on this file, and for which
-    members its groups wait, by the times of a front's audit."""
+    """Reports what listens at an address, whether a server could, whether a coordinator there has the store in this file, and
+    which members its groups wait for, with the times of a front's audit."""
     yield from of_network(path)
     try:
         host, port = host_and_port(text)
@@ -49,7 +49,8 @@ def of_address(text: str, seconds: float, path: str, audit: str = AUDIT) -> Iter
 
 
 def of_network(path: str) -> Iterator[Finding]:
-    """A server whose unit has PrivateNetwork= is in a private network: the following checks then run inside it."""
+    """Reports a private network: a server whose unit has PrivateNetwork= is in one, and the following checks then run inside
+    it."""
     for process in filter(has_other_network, holders_of(path)):
         try:
             join_network(process)
@@ -61,7 +62,7 @@ def of_network(path: str) -> Iterator[Finding]:
 
 
 def of_answer(address: str, seconds: float, path: str, listeners: list[int], audit: str) -> Iterator[Finding]:
-    """What answers at an address."""
+    """Reports what answers at an address."""
     fault = "" if listeners else "Socket"
     before = read_if_allowed(path)
     try:
@@ -90,7 +91,7 @@ def read_if_allowed(path: str) -> Reading | None:
 
 
 def of_store_behind(path: str, before: Reading | None, view: View) -> Iterator[Finding]:
-    """Whether a coordinator has the store on this file."""
+    """Reports whether a coordinator has the store in this file."""
     after = read_if_allowed(path)
     if not before or not after:
         text = "whether the coordinator has the store on this file"
@@ -108,7 +109,7 @@ def holders_of(path: str) -> list[int]:
 
 
 def of_silence(address: str, servers: list[int]) -> Iterator[Finding]:
-    """Why a server that listens does not answer: its own state, and who has its one connection."""
+    """Reports why a listening server does not answer: its own state, and who has its one connection."""
     for process in servers:
         if condition := condition_of(process):
             text, later = CONDITIONS[condition]
@@ -123,7 +124,7 @@ def of_silence(address: str, servers: list[int]) -> Iterator[Finding]:
 
 
 def told_peer(peer: Peer) -> str:
-    """A client: its processes, and its user where they can't be seen."""
+    """Describes a client: its processes, or its user if they can't be seen."""
     if peer.processes:
         return " and ".join(f"process {each}{commanded(each)}" for each in peer.processes) + (
             f" of {user_name(peer.user)}" if peer.user is not None else "")

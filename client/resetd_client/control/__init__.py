@@ -56,7 +56,7 @@ def parser() -> argparse.ArgumentParser:
 
 
 def is_within(path: str, folder: str) -> bool:
-    """Whether a path is this folder or stands below it."""
+    """Whether a path is this folder or is inside it."""
     return os.path.join(path, "").startswith(os.path.join(folder, ""))
 
 
@@ -68,7 +68,7 @@ def default_state() -> str:
 
 
 def main(arguments: list[str] | None = None) -> int:
-    """Runs one command, and answers its exit status."""
+    """Runs one command and returns its exit status."""
     top = parser()
     words = top.parse_args(arguments)
     try:

@@ -16,7 +16,7 @@ Entry = Mapping[str, Any]
 
 
 def log(control: Control) -> int:
-    """Prints each line of the file, or those that are asked for."""
+    """Prints the lines of the file that match the arguments."""
     words = control.words
     if words.file == "-":
         print_entries(sys.stdin, words)
@@ -36,12 +36,13 @@ def print_entries(lines: Iterable[str], words: argparse.Namespace) -> None:
 
 
 def printable(text: str) -> str:
-    """A text that does nothing to a terminal, whatever a client has put into its line or its certificate."""
+    """Returns the text without anything that would control a terminal, whatever a client has put into its line or its
+    certificate."""
     return "".join(each if each.isprintable() else repr(each)[1:-1] for each in text)
 
 
 def entry_of(line: str) -> Entry | None:
-    """The members of a line; None if it is none of a front."""
+    """Returns the members of a line; None if a front did not write it."""
     try:
         entry = json.loads(line)
     except (ValueError, RecursionError):
@@ -50,7 +51,7 @@ def entry_of(line: str) -> Entry | None:
 
 
 def is_asked_for(entry: Entry, words: argparse.Namespace) -> bool:
-    """Whether an entry passes all that the words ask for."""
+    """Whether an entry matches the arguments."""
     request = line_of(entry)
     return ((not words.reset or is_reset(entry))
             and (words.node is None or words.node in (request.get("node"), request.get("a"), request.get("b")))
@@ -67,7 +68,7 @@ def is_reset(entry: Entry) -> bool:
 
 
 def line_of(entry: Entry) -> Entry:
-    """The request of an entry; nothing if it was none."""
+    """Returns the request of an entry; empty if there was none."""
     line = entry.get("line")
     return line if isinstance(line, dict) else {}
 

@@ -42,7 +42,7 @@ def no_words(_: argparse.ArgumentParser) -> None:
 
 @dataclass(frozen=True)
 class Command:
-    """A row of the table of commands. `is_look`: it only reads, and so waits for at most 2 s."""
+    """A row of the table of commands. `is_look`: the command only reads, and so waits for at most 2 s."""
 
     name: str
     about: str
@@ -69,7 +69,7 @@ class Control:
             print(text, flush=True)
 
     def patient(self, call: Callable[[], T]) -> T:
-        """Repeats a call until it is answered or the time is over, and reports at once that it waits."""
+        """Repeats a call until it is answered or the time is over; reports at once that it is waiting."""
         with told_after(SILENCE_SECONDS, f"waits for an answer of {self.words.address}") as timer:
             def tell(away: Away) -> None:
                 timer.cancel()
@@ -80,7 +80,7 @@ class Control:
         return self.patient(self.port.show)
 
     def orders(self) -> Orders:
-        """The orders of the client. They find its count again if another person has ordered as the same client."""
+        """Returns the client's orders. They recover its number if another person has ordered as the same client."""
         folder = os.path.join(self.folder, f"client-{self.words.client}")
         return Orders(self.port, self.words.client, folder, recovers=True, held_seconds=10.0, told=complain)
 
@@ -98,14 +98,14 @@ class Control:
             self.patient(book.recover)
 
     def carry_out(self, book: Orders, op: str, **members: int) -> Reply:
-        """One order. If its reply has a step that was there before, that is another order's: the count is wrong."""
+        """Carries out one order. A reply with an older step belongs to another order: then the client's number is wrong."""
         self._asked = {"op": op, **members}
         accepted = self.show().accepted
         return self.patient(lambda: book.order(op, above=accepted, **members))
 
     def carry_out_all(self, book: Orders, orders: list[Order], above: int) -> Iterator[Reply]:
-        """The replies to orders that are sent together, of steps above this one. At the first that was not taken, raises
-        its answer."""
+        """Returns the replies to orders that are sent together, all with steps above this one. Raises the first answer that is
+        not a reply."""
         for order, outcome in zip(orders, self.patient(lambda: book.order_all(orders, above=above))):
             if isinstance(outcome, NotTaken):
                 self._asked = order
@@ -148,5 +148,5 @@ def told_order(order: Mapping[str, Any]) -> str:
 
 
 def told_reply(reply: Reply) -> str:
-    """A reply as a line; without its step if the reply was lost with a connection."""
+    """Formats a reply as a line; without its step if the reply was lost with a connection."""
     return f"{reply.kind} {reply.step}" if reply.step else reply.kind

@@ -28,7 +28,7 @@ def order(control: Control) -> int:
 
 
 def say_what_becomes_of_files(control: Control, nodes: list[int]) -> None:
-    """Says what the services of nodes that were removed do with their files."""
+    """Prints what the services of removed nodes should do with their files."""
     if nodes and not control.words.quiet:
         complain(f"removed: {', '.join(map(str, nodes))}. A service may keep its files: if its node is added again it asks for one "
                  "reset. When it is removed for good, remove its files too")
@@ -40,7 +40,7 @@ def resend(control: Control) -> int:
 
 
 def close(control: Control) -> int:
-    """Ends the server. That it answers Stopped to all else does not matter here."""
+    """Shuts the server down, even if it answers Stopped to everything else."""
     control.port.close()
     control.tell("closed")
     return DONE
@@ -57,7 +57,7 @@ def count(control: Control) -> int:
 
 
 def topology_of(control: Control) -> Network:
-    """What the topology file says. Raises BadTopology."""
+    """Returns the network of the topology file. Raises BadTopology."""
     try:
         with open(control.words.topology, "rb") as file:
             return read_topology(file.read())
@@ -66,7 +66,7 @@ def topology_of(control: Control) -> Network:
 
 
 def wanted(control: Control, view: View) -> list[Order]:
-    """The orders that make the network what the topology file wants. Raises BadTopology."""
+    """Returns the orders that make the network match the topology file. Raises BadTopology."""
     return plan(Network.of(view), topology_of(control))
 
 
@@ -82,7 +82,7 @@ def diff(control: Control) -> int:
 
 
 def check_topology(control: Control) -> int:
-    """Says what a topology file makes, without a store and without a server."""
+    """Prints the size of a topology file's network, without a store and without a server."""
     network = topology_of(control)
     groups = len(set(network.groups.values()))
     print(f"legal: {len(network.groups)} nodes in {groups} groups, {len(network.links)} links")
@@ -90,7 +90,8 @@ def check_topology(control: Control) -> int:
 
 
 def apply(control: Control) -> int:
-    """Makes the orders, each once, all but the first together. If it is stopped in between, the same command goes on."""
+    """Carries out the orders, each once; all but the first are sent together. After an interruption the same command
+    continues."""
     with control.orders() as book:
         control.settle(book)
         view = control.show()

@@ -64,7 +64,7 @@ class Option(NamedTuple):
 
 
 def options(parser: argparse.ArgumentParser) -> Iterator[Option]:
-    """What a parser takes, but for its commands."""
+    """Returns a parser's options, without its commands."""
     for action in parser._actions:
         if isinstance(action, argparse._SubParsersAction):
             continue

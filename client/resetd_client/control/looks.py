@@ -33,7 +33,7 @@ def show(control: Control) -> int:
 
 
 def table(view: View) -> str:
-    """A view for people's eyes."""
+    """Formats a view for a person."""
     near: dict[int, list[int]] = {}
     for link in view.links:
         near.setdefault(link.a, []).append(link.b)
@@ -50,8 +50,8 @@ def table(view: View) -> str:
 
 
 def watch(control: Control) -> int:
-    """Draws the mode of each node, in place, as it changes; if the output is no terminal, it writes a line with the time
-    for each change. A front pushes each change; a server's port is asked again and again."""
+    """Draws the mode of each node, in place, as it changes; if the output is not a terminal, it writes a line with the time for
+    each change. A front reports changes; a server's port is queried repeatedly."""
     until = math.inf if control.words.for_seconds is None else time.monotonic() + control.words.for_seconds
     is_terminal = sys.stdout.isatty()
     wakes = wakes_of(control.port)

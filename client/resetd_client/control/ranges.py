@@ -32,7 +32,7 @@ def some_seconds(text: str) -> float:
 
 
 def of(name: str) -> Callable[[str], int]:
-    """A number as the member of this name takes it."""
+    """Parses a number of this name within its limits."""
     def number(text: str) -> int:
         value: int | str = int(text) if is_number(text, RANGES[name][-1]) else text
         try:
@@ -77,7 +77,7 @@ def is_number(text: str, most: int) -> bool:
 
 
 def account(text: str) -> Account:
-    """A user of this machine, by name or number."""
+    """Parses the name or number of a user of this machine."""
     try:
         return account_named(text)
     except KeyError:

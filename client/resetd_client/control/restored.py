@@ -16,7 +16,7 @@ def add_words(parser: argparse.ArgumentParser) -> None:
 
 
 def restored(control: Control) -> int:
-    """A reset in each group of linked nodes, and every node at a new epoch."""
+    """Asks for a reset in each group of linked nodes, and waits until every node has a new epoch."""
     count = control.words.fence
     if count is not None:
         check_generation(generation_of(count) + 1)

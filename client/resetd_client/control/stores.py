@@ -38,14 +38,15 @@ def why(control: Control) -> int:
 
 
 def looked_at(path: str, user: Account | None, address: str | None, seconds: float, audit: str = AUDIT) -> Iterator[Finding]:
-    """The findings about a store's file, and about the server at an address, if one is given."""
+    """Yields the findings about a store's file, and about the server at an address, if one is given."""
     yield from of_file(path, user)
     if address:
         yield from of_address(address, seconds, path, audit)
 
 
 def told_start(findings: list[Finding]) -> str:
-    """With which fault a start of the server would end now, and which a running server will meet; empty if there is none."""
+    """Returns the fault with which a start of the server would end now, and the one that a running server will meet; empty if
+    there is none."""
     faults = sorted((finding for finding in findings if finding.fault), key=lambda finding: finding.fault != "Usage")
     told = [f"a start now would end with {finding.fault}: {finding.about}: {finding.text}" for finding in faults[:1]]
     told += [f"a running server will meet {finding.later}: {finding.about}: {finding.text}" for finding in findings if finding.later]
@@ -53,7 +54,7 @@ def told_start(findings: list[Finding]) -> str:
 
 
 def steps(control: Control) -> int:
-    """Prints the steps of a store, each with its batch, the steps of which were settled together."""
+    """Prints the steps of a store, each with the batch in which it was settled."""
     store = read_store(control.words.file, control.words.before)
     if control.words.json:
         print_json(store_members(store))
@@ -101,7 +102,7 @@ def backup(control: Control) -> int:
 
 
 def why_not(out: str, source: os.stat_result) -> str:
-    """The reason why a copy may not be put here: only an absent or empty file or another copy is replaced."""
+    """Returns why a copy may not replace this file: only an absent or empty file or another copy is replaced."""
     try:
         descriptor = open_store(out)
     except FileNotFoundError:
