@@ -1,4 +1,4 @@
--- What the program's arguments ask for.
+-- The request of the program's arguments.
 use Rattle.std.specs.Prelude.{ℕ, ◌==◌, length, List, codes, bytes_eq, Option, Some, None, true, if◌then◌else◌, option_and_then, option_map}
 use Rattle.clap.specs.Words.{App, Row, Rule, Text, first_of, new_app, new_rule, subcommand_of, with_rule, with_subcommand}
 use Rattle.clap.specs.Simple.{on_top}
@@ -15,7 +15,7 @@ pub data AskedCommand : Type 0 where
   init : Text → Text → AskedCommand
   serve : Text → Text → AskedCommand
 
--- what a task is
+-- the request of a task
 abbrev pub asked_of : Task → AskedCommand
 asked_of task.Drill = drill
 asked_of (task.Check file) = check file.now
@@ -24,7 +24,7 @@ asked_of (task.Migrate file) = migrate file.now
 asked_of (task.Init file topology) = init file.now topology.now
 asked_of (task.Serve file address) = serve file.now address.now
 
--- how many arguments ask for it, with the program's name
+-- the number of arguments, including the program's name
 abbrev pub arguments_for : AskedCommand → ℕ
 arguments_for drill = 2
 arguments_for (check file) = 3
@@ -47,17 +47,17 @@ asked_of_file name file rows =
     else (if bytes_eq name (codes "serve") then option_map (serve file) (first_of (codes "address") rows)
     else None))))
 
--- what the command of a name asks for, with the first values of its arguments
+-- the request of the named command, with the first value of each of its arguments
 abbrev pub asked_of_name : Text → List Row → Option AskedCommand
 asked_of_name name rows =
     if bytes_eq name (codes "drill") then Some drill
     else option_and_then (λ file. asked_of_file name file rows) (first_of (codes "file") rows)
 
--- an argument that has to be there
+-- a required argument
 abbrev pub argument_named : Text → Rule
 argument_named id = record (new_rule id) { action = Some Set; required = true }
 
--- the program as it is described to `clap`: arguments that it refuses are no request
+-- the command-line grammar given to `clap`: arguments that it refuses are no request
 abbrev pub resetd : App
 resetd =
     with_subcommand

@@ -7,7 +7,7 @@ use Rattle.coord_commands.specs.Streams.{Streams}
 use Rattle.coord_commands.specs.declared.fault.Fault.{Fault}
 use Rattle.coord_commands.specs.declared.fault.Fault.TheVariants.{Write, OutOfMemory}
 
--- a text that has P is printed, and nothing else
+-- a text that satisfies P is printed, and nothing else
 abbrev pub PrintsOne : (List ℕ → Type 0) → Option (List ℕ) → Option (List ℕ) → Type 0
 PrintsOne P old new = (text : List ℕ) × P text × Appends old new text
 
@@ -17,17 +17,17 @@ IsOfWriting Write = Unit {0}
 IsOfWriting OutOfMemory = Unit {0}
 IsOfWriting fault = ⊥
 
--- the output is left alone, unless its writer fails: then it has a first part of a text that has P
+-- the output is unchanged, unless its writer fails: then it has a prefix of a text that satisfies P
 abbrev pub OutputCutShort : (List ℕ → Type 0) → Option (List ℕ) → Option (List ℕ) → Fault → Type 0
 OutputCutShort P old new fault = Keeps old new ⊎ (IsOfWriting fault × ((text : List ℕ) × P text × WritesFirstPart old new text))
 
--- a command is done: a text that has P is printed, and standard error is left alone
+-- a command succeeds: a text that satisfies P is printed, and standard error is unchanged
 pub record Succeeds (P : List ℕ → Type 0) (status : ℕ) (old new : Streams) : Type 0 where
   pub number : status ≡ 0
   pub printed : PrintsOne P old.output new.output
   pub silent : Keeps old.errors new.errors
 
--- a command ends with a fault that has Q: of the fault's line a first part is printed on standard error
+-- a command ends with a fault that satisfies Q: a prefix of the fault's line is printed on standard error
 pub record CommandFails (Q : Fault → Type 0) (P : List ℕ → Type 0) (status : ℕ) (old new : Streams) : Type 0 where
   pub fault : Fault
   pub possible : Q fault
@@ -35,6 +35,6 @@ pub record CommandFails (Q : Fault → Type 0) (P : List ℕ → Type 0) (status
   pub answered : WritesFirstPart old.errors new.errors (fault_line fault)
   pub cut : OutputCutShort P old.output new.output fault
 
--- one of both
+-- one of the two
 abbrev pub CommandEnds : (Fault → Type 0) → (List ℕ → Type 0) → ℕ → Streams → Streams → Type 0
 CommandEnds Q P status old new = Succeeds P status old new ⊎ CommandFails Q P status old new

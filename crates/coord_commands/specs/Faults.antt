@@ -29,7 +29,7 @@ fault_text (Store fault) = store_name fault
 fault_text (Refused refusal) = refusal_text refusal
 fault_text (NotClosed fault) = close_name fault
 
--- the line that is printed of a fault
+-- the printed line of a fault
 abbrev pub fault_line : Fault → List ℕ
 fault_line fault = codes "resetd: " ++ (fault_text fault ++ codes "\n")
 
@@ -67,7 +67,7 @@ fault_of_server of_server.Device = Store of_store.Device
 fault_of_server of_server.Write = Write
 fault_of_server (of_server.NotClosed fault) = NotClosed fault
 
--- a commit is refused for lack of memory, or since the device fails or has failed
+-- a commit is refused for lack of memory, or because the device fails or has failed
 abbrev pub fault_of_commit : CommitFault → Fault
 fault_of_commit of_commit.OutOfMemory = OutOfMemory
 fault_of_commit fault = Store of_store.Device

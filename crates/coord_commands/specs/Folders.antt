@@ -8,7 +8,7 @@ use Rattle.coord_commands.specs.declared.memory.Named.{Named}
 abbrev pub known_of : {D : Type 0} → DiskModel D → D → Option Present
 known_of model disk = if model.keeps_model disk then Some (model.present disk) else None
 
--- the bytes as a read gives them, where they are known
+-- the bytes that a read returns, if they are known
 abbrev pub reads : Option Present → Option (List ℕ)
 reads = option_map (λ known. known.read)
 
@@ -16,7 +16,7 @@ reads = option_map (λ known. known.read)
 abbrev pub bytes_of : {D : Type 0} → DiskModel D → D → Option (List ℕ)
 bytes_of model disk = reads (known_of model disk)
 
--- the bytes of the first text of this name
+-- the bytes of the first text with this name
 abbrev pub text_under : List Named → List ℕ → Option (List ℕ)
 text_under [] name = None
 text_under (text ∷ rest) name = if bytes_eq (string_bytes text.name) name then Some text.bytes.items else text_under rest name

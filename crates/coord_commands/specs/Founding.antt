@@ -15,7 +15,7 @@ use Rattle.coord_types.specs.Table.{get}
 use Rattle.coord_world.specs.Facade.{Legal, accepts, fold, last_number, no_world}
 use Rattle.coord_commands.specs.declared.founding.Founding.{Founding}
 
--- the client that orders them
+-- the client of these orders
 abbrev pub founder : ℕ
 founder = 16
 
@@ -37,7 +37,7 @@ numbered n (x ∷ xs) = Order founder n x ∷ numbered (n + 1) xs
 abbrev pub orders : Content → List Step
 orders topology = numbered 1 (commands topology)
 
--- the first of the steps that an empty store does not take, and why
+-- the first step that an empty store refuses, and the refusal
 pub record IsRefusedBy (steps : List Step) (refusal : Refusal) : Type 0 where
   pub front : List Step
   pub refused : Step
@@ -46,7 +46,7 @@ pub record IsRefusedBy (steps : List Step) (refusal : Refusal) : Type 0 where
   pub fresh : AllFresh (no_world 2) (no_world 2) front
   pub why : accepts (fold (no_world 2) front) (no_world 2) refused ≡ Err refusal
 
--- A store cannot begin with the steps: one of them is refused, or they are too many for one commit.
+-- A store can't begin with these steps: one of them is refused, or there are too many for one commit.
 abbrev pub RefusesToBegin : List Step → Refusal → Type 0
 RefusesToBegin steps refusal = IsRefusedBy steps refusal ⊎ ((refusal ≡ PendingFull) × (MAX_BATCH_STEPS < length steps))
 

@@ -1,4 +1,4 @@
--- What `check` and `show` print of the store on a disk, and what may end them.
+-- The lines that `check` and `show` print for the store on a disk, and their faults.
 use Rattle.std.specs.Prelude.{◌≡◌, ◌⊎◌, ℕ, List, Option, IfSome}
 use Rattle.coord_check.specs.declared.violation.Violation.{Violation}
 use Rattle.coord_store.specs.Facade.{IsOpenFault, Recovered, RefusesOpen}
@@ -11,14 +11,14 @@ use Rattle.coord_commands.specs.declared.fault.Fault.{Fault}
 use Rattle.coord_commands.specs.declared.fault.Fault.TheVariants.{Write, OutOfMemory, Store}
 use Rattle.std.specs.Io.KnownBytes.{Keeps}
 
--- these bytes of a disk, where they are known, give a legal world, of which this is the line
+-- the bytes of a disk, if they are known, encode a legal world, and this is its line
 pub record IsLegalLine (bytes : Option (List ℕ)) (line : List ℕ) : Type 0 where
   pub world : World
   pub legal : Legal world
   pub given : IfSome bytes (λ known. Recovered known world)
   pub counted : line ≡ legal_line world.count
 
--- the world of their snapshot violates a predicate, of which this is the line
+-- the world of their snapshot violates a predicate, and this is its line
 pub record IsViolatedLine (bytes : Option (List ℕ)) (line : List ℕ) : Type 0 where
   pub violation : Violation
   pub refused : IfSome bytes (λ known. RefusesOpen known (Violated violation))
@@ -27,13 +27,13 @@ pub record IsViolatedLine (bytes : Option (List ℕ)) (line : List ℕ) : Type 0
 abbrev pub IsCheckedLine : Option (List ℕ) → List ℕ → Type 0
 IsCheckedLine bytes line = IsLegalLine bytes line ⊎ IsViolatedLine bytes line
 
--- the bytes give a world, of which these are the lines
+-- the bytes encode a world, and these are its lines
 pub record IsShown (bytes : Option (List ℕ)) (lines : List ℕ) : Type 0 where
   pub world : World
   pub given : IfSome bytes (λ known. Recovered known world)
   pub answered : lines ≡ shown world
 
--- output cannot be written, there is no memory, or a device of these bytes is refused so
+-- output can't be written, memory runs out, or opening a device of these bytes fails with this fault
 abbrev pub IsOfOpening : Option (List ℕ) → Fault → Type 0
 IsOfOpening bytes Write = Unit {0}
 IsOfOpening bytes OutOfMemory = Unit {0}
@@ -46,10 +46,10 @@ pub record IsViolated (bytes : Option (List ℕ)) (status : ℕ) (old new : Stre
   pub printed : PrintsOne (IsViolatedLine bytes) old.output new.output
   pub silent : Keeps old.errors new.errors
 
--- what `check` does, where these are the bytes of the disk
+-- the effect of `check` on a disk of these bytes
 abbrev pub Checks : Option (List ℕ) → ℕ → Streams → Streams → Type 0
 Checks bytes status old new = Succeeds (IsLegalLine bytes) status old new ⊎ (IsViolated bytes status old new ⊎ CommandFails (IsOfOpening bytes) (IsCheckedLine bytes) status old new)
 
--- what `show` does, where these are the bytes of the disk
+-- the effect of `show` on a disk of these bytes
 abbrev pub ShowsStore : Option (List ℕ) → ℕ → Streams → Streams → Type 0
 ShowsStore bytes status old new = CommandEnds (IsOfOpening bytes) (IsShown bytes) status old new

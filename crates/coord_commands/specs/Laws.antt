@@ -4,7 +4,7 @@ use Rattle.clap.specs.Words.{Text, takes}
 use Rattle.coord_commands.specs.Arguments.{AskedCommand, resetd, task_of}
 use Rattle.coord_commands.specs.Arguments as asked
 
--- `clap` takes the arguments, and they ask for this
+-- `clap` accepts the arguments, and this is their request
 abbrev pub AreTakenAs : List Text → AskedCommand → Type 0
 AreTakenAs arguments asked = (takes resetd arguments ≡ true) × (task_of arguments ≡ Some asked)
 
@@ -17,5 +17,5 @@ pub record CommandsAreTaken : Type 0 where
   pub show : (name file : Text) → AreTakenAs (name ∷ codes "show" ∷ (47 ∷ file) ∷ []) (asked.show (47 ∷ file))
   pub migrate : (name file : Text) → AreTakenAs (name ∷ codes "migrate" ∷ (47 ∷ file) ∷ []) (asked.migrate (47 ∷ file))
   pub serve : (name file address : Text) → AreTakenAs (name ∷ codes "serve" ∷ (47 ∷ file) ∷ (49 ∷ address) ∷ []) (asked.serve (47 ∷ file) (49 ∷ address))
-  -- `clap` takes `--` before a file, and the arguments then ask for nothing
+  -- `clap` accepts `--` before a file, and the arguments then are no request
   pub behind_dashes : (name file : Text) → (takes resetd (name ∷ codes "check" ∷ codes "--" ∷ file ∷ []) ≡ true) × (task_of (name ∷ codes "check" ∷ codes "--" ∷ file ∷ []) ≡ None)

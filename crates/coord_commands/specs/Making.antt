@@ -1,4 +1,4 @@
--- What `init` makes.
+-- The effect of `init`.
 use Rattle.std.specs.Prelude.{◌≡◌, ◌⊎◌, ℕ, ◌<◌, List, length, take, Option, IfSome, Ok, Err}
 use Rattle.coord_config.specs.Topology.{Content}
 use Rattle.coord_config.specs.declared.fault.ConfigFault.{ConfigFault}
@@ -19,12 +19,12 @@ use Rattle.coord_commands.specs.declared.fault.Fault.TheVariants.{Read, Write, O
 abbrev pub begun : Content → World
 begun topology = fold (no_world 2) (orders topology)
 
--- the bytes of a store of this world, with halves of the size that the topology says
+-- the bytes of a store of this world, with halves of the topology's size
 pub record IsStore (topology : Content) (w : World) (bytes : List ℕ) : Type 0 where
   pub gives : Recovered bytes w
   pub halves : HasHalves topology.half bytes
 
--- A store of this world, for a topology, was made on a disk, as far as its bytes before and after are known.
+-- A store of this world, for a topology, was created on a disk, as far as its bytes before and after are known.
 pub record IsFounded (topology : Content) (w : World) (before after : Option (List ℕ)) : Type 0 where
   pub empty : IfSome before (λ bytes. length bytes ≡ 0)
   pub made : IfSome after (IsStore topology w)
@@ -33,22 +33,22 @@ pub record IsFounded (topology : Content) (w : World) (before after : Option (Li
 abbrev pub Says : Option (List ℕ) → Content → Type 0
 Says file topology = IfSome file (λ bytes. said_by (take MOST_BYTES bytes) ≡ Ok topology)
 
--- the line of such a store, where this is the topology file
+-- the line of such a store, with this topology file
 pub record IsCreatedLine (file before after : Option (List ℕ)) (line : List ℕ) : Type 0 where
   pub topology : Content
   pub said : Says file topology
   pub is_made : IsFounded topology (begun topology) before after
   pub counted : line ≡ created_line (begun topology).count
 
--- known bytes have stayed
+-- known bytes are unchanged
 abbrev pub StaysKnown : Option (List ℕ) → Option (List ℕ) → Type 0
 StaysKnown before after = IfSome before (λ old. IfSome after (λ new. new ≡ old))
 
--- bytes that were there have stayed
+-- a disk that was not empty is unchanged
 abbrev pub KeepsTaken : Option (List ℕ) → Option (List ℕ) → Type 0
 KeepsTaken before after = IfSome before (λ old. 0 < length old → IfSome after (λ new. new ≡ old))
 
--- What out of memory leaves: bytes that were there stay, and a disk that was empty is so still, or has the store of a
+-- The disk after running out of memory: unchanged if it was not empty; otherwise empty, or with the store of a
 -- topology without any step.
 pub record LeavesWithoutMemory (topology : Content) (before after : Option (List ℕ)) : Type 0 where
   pub taken : KeepsTaken before after
@@ -66,19 +66,19 @@ abbrev pub RefusesFile : Option (List ℕ) → ConfigFault → Type 0
 RefusesFile file of_topology.OutOfMemory = Unit {0}
 RefusesFile file reason = IfSome file (λ bytes. said_by (take MOST_BYTES bytes) ≡ Err reason)
 
--- why the store of a topology is not made on a disk; if one of its orders is refused, it was made without any step
+-- the reasons for which the store of a topology is not created; if one of its orders is refused, it is created without any step
 abbrev pub RefusesStore : Option (List ℕ) → Option (List ℕ) → Content → Fault → Type 0
 RefusesStore before after topology OutOfMemory = LeavesWithoutMemory topology before after
 RefusesStore before after topology (Store fault) = RefusesDisk before after topology fault
 RefusesStore before after topology (Refused refusal) = RefusesToBegin (orders topology) refusal × IsFounded topology (no_world 2) before after
 RefusesStore before after topology fault = ⊥
 
--- the topology file, if it is known, contains a topology, and memory to make its store, or to print its line, ran out
+-- the topology file, if it is known, contains a topology, and memory to create its store or to print its line ran out
 abbrev pub LacksMemoryToMake : Option (List ℕ) → Option (List ℕ) → Option (List ℕ) → Type 0
 LacksMemoryToMake file before after = (topology : Content) × Says file topology × (LeavesWithoutMemory topology before after ⊎ IsFounded topology (begun topology) before after)
 
--- The faults of `init`, other than those of its arguments. The topology file is judged first: it contains a topology
--- if its store is not made. If the line cannot be written, the store was made.
+-- The faults of `init`, other than those of its arguments. The topology file is checked first: it contains a topology
+-- if its store is not created. If the line can't be written, the store was created.
 abbrev pub IsOfMaking : Option (List ℕ) → Option (List ℕ) → Option (List ℕ) → Fault → Type 0
 IsOfMaking file before after Read = StaysKnown before after
 IsOfMaking file before after Write = (topology : Content) × Says file topology × IsFounded topology (begun topology) before after
@@ -88,7 +88,7 @@ IsOfMaking file before after (Store fault) = (topology : Content) × Says file t
 IsOfMaking file before after (Refused refusal) = (topology : Content) × Says file topology × RefusesStore before after topology (Refused refusal)
 IsOfMaking file before after fault = ⊥
 
--- the faults of the topology file, which is read and judged before the disk is opened
+-- the faults of the topology file, which is read and checked before the disk is opened
 abbrev pub IsOfFile : Fault → Type 0
 IsOfFile Read = Unit {0}
 IsOfFile (Topology fault) = Unit {0}

@@ -14,37 +14,37 @@ use Rattle.coord_commands.specs.Streams.{Streams}
 use Rattle.coord_commands.specs.declared.fault.Fault.{Fault}
 use Rattle.coord_commands.specs.declared.fault.Fault.TheVariants.{Write, OutOfMemory, Store}
 
--- a disk reads as before
+-- a disk reads unchanged
 abbrev pub ReadsAsBefore : Option Present → Option Present → Type 0
 ReadsAsBefore before after = IfSome before (λ old. IfSome after (λ new. new.read ≡ old.read))
 
--- The world that it gave is now given in version 2. A disk that gave one of version 2 reads as before.
+-- The disk encodes its world in version 2 now. A disk that had version 2 is unchanged.
 pub record IsRaised (before after : Option Present) (world : World) : Type 0 where
   pub given : IfSome before (λ old. Recovered old.read world)
   pub raised : IfSome after (λ new. Recovered new.read (risen world))
   pub again : world.version ≡ 2 → ReadsAsBefore before after
 
--- the line of a store that was raised
+-- the line of a migrated store
 pub record IsMigratedLine (before after : Option Present) (line : List ℕ) : Type 0 where
   pub world : World
   pub is_raised : IsRaised before after world
   pub counted : line ≡ migrated_line world.count
 
--- what a crash could have left before, or what gives the world that the disk gave, in one version or the other
+-- bytes that a crash could have left before, or that encode the disk's world in one version or the other
 abbrev pub IsEitherVersion : Present → List ℕ → Type 0
 IsEitherVersion old image = IsImage old image ⊎ ((w : World) × Recovered old.read w × GivesEither w (risen w) image)
 
--- a crash then leaves nothing else
+-- a crash leaves nothing else
 abbrev pub GivesEitherVersion : Option Present → Option Present → Type 0
 GivesEitherVersion before after = IfSome before (λ old. IfSome after (λ new. (image : List ℕ) → IsImage new image → IsEitherVersion old image))
 
--- a raising: at no moment from the one disk to the other does a crash leave anything else, and the device has failed so
--- often meanwhile
+-- a migration: at no moment from the one disk to the other does a crash leave anything else, and this is the number of device
+-- failures meanwhile
 pub record Raises {D : Type 0} (model : DiskModel D) (failed : ℕ) (old new : D) : Type 0 where
   pub any_moment : model.keeps_model old ≡ true → LeavesOnly model old new (IsEitherVersion (model.present old))
   pub failures : model.failures new ≡ model.failures old + failed
 
--- a raising of the disk of a name, which was taken and put back
+-- a migration of the named disk, which was taken and put back
 pub record RaisesNamed {D : Type 0} (model : DiskModel D) (failed : ℕ) (before after : Option Present) : Type 0 where
   pub taken : D
   pub back : D
@@ -52,14 +52,14 @@ pub record RaisesNamed {D : Type 0} (model : DiskModel D) (failed : ℕ) (before
   pub is : IfSome after (λ known. known_of model back ≡ Some known)
   pub raises : Raises model failed taken back
 
--- this is the least node in a reset of the world that it gives, and it reads as before
+-- this is the lowest node in a reset of the disk's world, and the disk is unchanged
 pub record IsNotQuiet (before after : Option Present) (node : ℕ) : Type 0 where
   pub world : World
   pub given : IfSome before (λ old. Recovered old.read world)
   pub refuses : RefusesMigration world (NotQuiet node)
   pub unchanged : ReadsAsBefore before after
 
--- the faults of a store that is not raised: but for those of the device it reads as before
+-- the faults of a store that is not migrated: except for those of the device, the disk is unchanged
 abbrev pub IsOfRaising : Option Present → Option Present → Fault → Type 0
 IsOfRaising before after OutOfMemory = ReadsAsBefore before after
 IsOfRaising before after (Store Device) = GivesEitherVersion before after
@@ -73,7 +73,7 @@ IsOfMigrating before after Write = (w : World) × IsRaised before after w
 IsOfMigrating before after OutOfMemory = ReadsAsBefore before after ⊎ ((w : World) × IsRaised before after w)
 IsOfMigrating before after fault = IsOfRaising before after fault
 
--- how often the device has failed if the store is not migrated
+-- the number of device failures if the store is not migrated
 abbrev pub failed_in_migration : Fault → ℕ
 failed_in_migration (Store fault) = failed_in_store fault
 failed_in_migration fault = 0
@@ -87,12 +87,12 @@ abbrev pub EndsRaising : {D : Type 0} → DiskModel D → Option Present → Opt
 EndsRaising model before after fault =
     ((fault ≡ Store Device) × (after ≡ before)) ⊎ RaisesNamed model (failed_in_migration fault) before after
 
--- how `migrate` ends, and what a crash may have left of the disk of the name at each moment of it
+-- the end of `migrate`, and the bytes that a crash may have left on the named disk at each moment of it
 abbrev pub EndsMigrating : {D : Type 0} → DiskModel D → Option Present → Option Present → ℕ → Streams → Streams → Type 0
 EndsMigrating model before after =
     CommandEnds (λ fault. IsOfMigrating before after fault × EndsRaising model before after fault) (λ line. IsMigratedLine before after line × RaisesNamed model 0 before after)
 
--- why an opened store of a world is not raised
+-- the reasons for which an opened store is not migrated
 abbrev pub RefusesRaising : World → Fault → Type 0
 RefusesRaising w OutOfMemory = Unit {0}
 RefusesRaising w (Store fault) = RefusesMigration w fault

@@ -1,4 +1,4 @@
--- What the commands print of a store, each line ended by a line feed.
+-- The lines that the commands print for a store, each with a line feed.
 use Rattle.std.specs.Prelude.{ℕ, List, ◌++◌, codes, decimal}
 use Rattle.coord_check.specs.Names.{violation_text}
 use Rattle.coord_check.specs.declared.violation.Violation.{Violation}
@@ -6,11 +6,11 @@ use Rattle.coord_view.specs.Printed.{view_lines}
 use Rattle.coord_view.specs.Shown.{shown as view_of}
 use Rattle.coord_world.specs.protocol.NumberedWorld.{World}
 
--- with the number of steps that a store begins with
+-- with the number of steps of a new store
 abbrev pub created_line : ℕ → List ℕ
 created_line count = codes "created " ++ (decimal count ++ codes "\n")
 
--- with the number of steps of a store that was raised to version 2
+-- with the number of steps of a migrated store
 abbrev pub migrated_line : ℕ → List ℕ
 migrated_line count = codes "migrated " ++ (decimal count ++ codes "\n")
 

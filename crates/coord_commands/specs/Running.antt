@@ -1,4 +1,4 @@
--- What a run of the program does, by its arguments.
+-- The effect of a run of the program, for its arguments.
 use Rattle.std.specs.Prelude.{◌≡◌, ◌⊎◌, ℕ, true, List, Option, Some, None}
 use Rattle.std.specs.Io.KnownBytes.{IsAtEnd, Keeps}
 use Rattle.clap.specs.Words.{Text, takes}
@@ -25,7 +25,7 @@ pub record Around : Type 0 where
   pub holds : List ℕ → Option Present
   pub says : List ℕ → Option (List ℕ)
 
--- a drill over a disk in memory has carried its input out to its end
+-- a drill over a disk in memory has carried out its whole input
 pub record HasDrilled (status : ℕ) (old new : Streams) : Type 0 where
   pub number : status ≡ 0
   pub drilled : DrillsInMemory old.input new.input old.output new.output
@@ -43,7 +43,7 @@ pub record FailsToDrill (status : ℕ) (old new : Streams) : Type 0 where
 abbrev pub RunsDrill : ℕ → Streams → Streams → Type 0
 RunsDrill status old new = HasDrilled status old new ⊎ FailsToDrill status old new
 
--- around a run over files, of which nothing is known
+-- the surroundings of a run over files, of which nothing is known
 abbrev pub files_around : Streams → Around
 files_around streams = record { streams = streams; holds = λ _. None; says = λ _. None }
 
@@ -63,7 +63,7 @@ IsOfArguments arguments OutOfMemory = Unit {0}
 IsOfArguments arguments Usage = takes resetd arguments ≡ true → task_of arguments ≡ None
 IsOfArguments arguments fault = ⊥
 
--- where arguments are refused, nothing but the fault's line is printed, nothing is read, and each disk stays
+-- if arguments are refused, only the fault's line is printed, nothing is read, and each disk is unchanged
 pub record RefusesArguments (arguments : List Text) (status : ℕ) (old new : Around) : Type 0 where
   pub fails : CommandFails (IsOfArguments arguments) (λ _. ⊥) status old.streams new.streams
   pub unread : Keeps old.streams.input new.streams.input
@@ -74,7 +74,7 @@ pub record LacksArguments (fault : Fault) (status : ℕ) (old new : Around) : Ty
   pub fails : CommandFails (λ answered. answered ≡ fault) (λ _. ⊥) status old.streams new.streams
   pub unread : Keeps old.streams.input new.streams.input
 
--- the arguments are refused, or the disk of this name is raised as they ask: a crash may have left nothing else of it at any moment
+-- the arguments are refused, or the named disk is migrated as requested: at no moment may a crash have left anything else of it
 abbrev pub RunsMigrate : {D : Type 0} → DiskModel D → List Text → List ℕ → ℕ → Around → Around → Type 0
 RunsMigrate model arguments file status old new = RefusesArguments arguments status old new ⊎ EndsMigrating model (old.holds file) (new.holds file) status old.streams new.streams
 

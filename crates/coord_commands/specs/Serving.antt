@@ -1,4 +1,4 @@
--- How `serve` ends, with this argument as its address, as far as the content of the disk before and after it is
+-- The end of `serve`, with this argument as its address, as far as the content of the disk before and after it is
 -- known.
 use Rattle.std.specs.Prelude.{◌≡◌, ◌⊎◌, ℕ, ◌+◌, true, List, Option, Some, None, IfSome, Result, Ok, Err}
 use Rattle.std.specs.Io.KnownBytes.{Keeps}
@@ -30,7 +30,7 @@ use Rattle.coord_commands.specs.Migrating.{ReadsAsBefore}
 use Rattle.coord_commands.specs.declared.fault.Fault.{Fault}
 use Rattle.coord_commands.specs.declared.fault.Fault.TheVariants.{Usage, Socket, Write, OutOfMemory, Store, NotClosed}
 
--- the bytes give a world
+-- the bytes encode a world
 abbrev pub GivesWorld : Option (List ℕ) → Type 0
 GivesWorld bytes = IfSome bytes (λ known. (w : World) × Recovered known w)
 
@@ -38,7 +38,7 @@ GivesWorld bytes = IfSome bytes (λ known. (w : World) × Recovered known w)
 abbrev pub IsAddress : List ℕ → Type 0
 IsAddress argument = (address : SocketAddrV4) × IsSocketV4Text argument address
 
--- The faults of `serve` at an address, as far as the bytes of the disk say. The disk is judged, and then the socket is bound: the store is open if a fault of the socket or of serving is reported.
+-- The faults of `serve` at an address, as far as the bytes of the disk determine them. The disk is opened, and then the socket is bound: the store is open if a fault of the socket or of serving is reported.
 abbrev pub IsOfServing : Option (List ℕ) → Fault → Type 0
 IsOfServing bytes OutOfMemory = GivesWorld bytes
 IsOfServing bytes (Store fault) = IsOfOpening bytes (Store fault)
@@ -47,28 +47,28 @@ IsOfServing bytes Write = GivesWorld bytes
 IsOfServing bytes (NotClosed fault) = GivesWorld bytes
 IsOfServing bytes fault = ⊥
 
--- the fault that a server returns that ended so, if there is one
+-- the fault with which this server returns, if there is one
 abbrev pub fault_of_end : {D V W : Type 0} → ServerEnd D V W → Option ServerFault
 fault_of_end ended = fault_at_end (has_stopped ended.closed.store) ended.served (is_amiss ended.printer ended.closed.settled)
 
--- a server ran so over this store, whose clients are waited for as usual, and printed to an output of which the one and then the other was known. `gives`: which signals some steps give out, by step, node and epoch
+-- a server ran over this store, with the usual timeouts, and printed to an output whose known content was the one and then the other. `gives`: the signals of some steps, by step, node and epoch
 abbrev pub RunsWithOutput : {D : Type 0} → DiskModel D → (List Step → ℕ → ℕ → ℕ → Type 0) → Kept D → Option (List ℕ) → Option (List ℕ) → ServerEnd D Timeouts (Option (List ℕ)) → Type 0
 RunsWithOutput model gives store old new ended = HasServedUsual model (λ known. known) gives store (new_printer old store.world.count) ended × (ended.printer.output ≡ new)
 
--- the result of a server that ended so: what it left, beside the fault if there is one
+-- the result of this server: the remaining parts, beside the fault if there is one
 abbrev pub ReportedAtEnd : {D V W : Type 0} → ServerEnd D V W → Result (Closed D) (ServerFault × Closed D) → Type 0
 ReportedAtEnd ended (Ok closed) = (closed ≡ ended.closed) × (fault_of_end ended ≡ None)
 ReportedAtEnd ended (Err answered) = (answered.1 ≡ ended.closed) × (fault_of_end ended ≡ Some answered.0)
 
--- a server ran so, and returned this
+-- a server ran, and returned this
 pub record ServedWithOutput {D : Type 0} (model : DiskModel D) (gives : List Step → ℕ → ℕ → ℕ → Type 0) (store : Kept D) (old new : Option (List ℕ)) (answered : Result (Closed D) (ServerFault × Closed D)) : Type 0 where
   pub ended : ServerEnd D Timeouts (Option (List ℕ))
   pub run : RunsWithOutput model gives store old new ended
   pub reports : ReportedAtEnd ended answered
 
--- `model`: what the disks of a folder mean
+-- `model`: the meaning of a folder's disks
 module _ {D : Type 0} (model : DiskModel D) where
-  -- the disk of a name was taken and put back. In between its device has failed so often, and if never, the disk reads as before
+  -- the named disk was taken and put back. Its device failed this many times in between; if it never failed, the disk is unchanged
   pub record IsPutBack (failed : ℕ) (before after : Option Present) : Type 0 where
     pub taken : D
     pub back : D
@@ -83,7 +83,7 @@ module _ {D : Type 0} (model : DiskModel D) where
     pub named : answered ≡ Store fault
     pub why : ((fault ≡ Device) × (after ≡ before)) ⊎ (IsOfOpening (reads before) (Store fault) × IsPutBack (failed_in fault) before after)
 
-  -- a store was opened on the disk of a name, which was taken: it has the world that the bytes give, and reads as before
+  -- a store was opened on the named disk, which was taken: it has the world that the bytes encode, and the disk is unchanged
   pub record IsOpenedStore (before : Option Present) (store : Kept D) : Type 0 where
     pub taken : D
     pub was : known_of model taken ≡ before
@@ -105,20 +105,20 @@ module _ {D : Type 0} (model : DiskModel D) where
     pub run : RunsWithOutput model (GivesSignal store.world) store old new ended
     pub put : IfSome after (λ known. known_of model ended.closed.store.disk ≡ Some known)
 
-  -- there was no memory for a server to begin with: the store of the disk was opened, nobody was served, and the disk put back
+  -- memory to begin a server ran out: the store of the disk was opened, nobody was served, and the disk put back
   abbrev pub IsNotBegun : Option Present → Option Present → Fault → Type 0
   IsNotBegun before after answered = (answered ≡ OutOfMemory) × GivesWorld (reads before) × IsPutBack 0 before after
 
-  -- a server over the disk has ended with this fault
+  -- a server over the disk ended with this fault
   abbrev pub HasEnded : Option Present → Option Present → Option (List ℕ) → Option (List ℕ) → Fault → Type 0
   HasEnded before after old new answered = (is : IsServedDisk before after old new) × (fault : ServerFault) × (fault_of_end is.ended ≡ Some fault) × (answered ≡ fault_of_server fault)
 
-  -- the faults of `serve` at an address, and what then became of its output: nothing was printed before a server began, over an open store and a bound socket
+  -- the faults of `serve` at an address, and its output: nothing is printed before a server begins, over an open store and a bound socket
   abbrev pub EndsServing : Option Present → Option Present → Option (List ℕ) → Option (List ℕ) → Fault → Type 0
   EndsServing before after old new answered =
       ((IsNotOpened before after answered ⊎ (IsNotBound before after answered ⊎ IsNotBegun before after answered)) × Keeps old new) ⊎ HasEnded before after old new answered
 
--- The store of a disk was served, and no fault is returned: a line has closed it. The bytes that are put back give the world that it left.
+-- The store of a disk was served until a line closed it, without a fault. The bytes that are put back encode the world that it left.
 abbrev pub ServedWhole : {D : Type 0} → DiskModel D → Option Present → Option Present → Option (List ℕ) → Option (List ℕ) → Type 0
 ServedWhole model before after old new = (is : IsServedDisk model before after old new) × (fault_of_end is.ended ≡ None) × IfSome (reads after) (λ known. Recovered known is.ended.closed.store.world)
 
@@ -132,7 +132,7 @@ pub record ServesToEnd (argument : List ℕ) (bytes after : Option (List ℕ)) (
 
 -- `of`: the faults of `serve` at an address
 module _ (of : Fault → Type 0) where
-  -- the argument is judged first: it is no address, or it is one
+  -- the argument is checked first: it is no address, or it is one
   abbrev pub IsOfServingAt : List ℕ → Fault → Type 0
   IsOfServingAt argument answered = ((answered ≡ Usage) × ¬ IsAddress argument) ⊎ (IsAddress argument × of answered)
 

@@ -1,7 +1,7 @@
 -- The streams of a run: its input, its output, and standard error.
 use Rattle.std.specs.Prelude.{ℕ, List, ◌∷◌, Option, option_map}
 
--- the rest of the input, and the content of the output and of standard error, if that is known
+-- the rest of the input, and the contents of the output and of standard error, if they are known
 pub record Streams : Type 0 where
   pub input : Option (List ℕ)
   pub output : Option (List ℕ)

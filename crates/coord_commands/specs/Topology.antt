@@ -1,4 +1,4 @@
--- What the bytes of a topology file say.
+-- The topology in the bytes of a file.
 use Rattle.std.specs.Prelude.{ℕ, List, if◌then◌else◌, Result, Err}
 use Rattle.std.specs.Str.{is_utf8}
 use Rattle.coord_config.specs.Reading.{reading}
@@ -8,7 +8,7 @@ use Rattle.coord_config.specs.declared.fault.ConfigFault.TheVariants.{NotToml}
 use Rattle.coord_commands.specs.declared.fault.Fault.{Fault}
 use Rattle.coord_commands.specs.declared.fault.Fault.TheVariants.{Read, OutOfMemory, Topology}
 
--- bytes that are no text are no TOML either
+-- bytes that are not UTF-8 are not TOML
 abbrev pub said_by : List ℕ → Result Content ConfigFault
 said_by bytes = if is_utf8 bytes then reading bytes else Err NotToml
 

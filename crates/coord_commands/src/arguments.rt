@@ -10,10 +10,10 @@ use clap::error::ErrorKind;
 use clap::{Arg, ArgAction, ArgMatches, Command};
 use std::alloc::{AllocError, Global};
 
-/// What the arguments ask for, with the arguments after its name.
+/// A requested command, with the arguments after its name.
 #[derive(Clone, Copy)]
 pub enum Task<'a> {
-    /// Read requests from standard input, and print what becomes of each.
+    /// Read requests from standard input, and print the result of each.
     Drill,
     /// Check the store on a file.
     Check { file: &'a str },
@@ -28,7 +28,7 @@ pub enum Task<'a> {
 }
 
 impl Task<'_> {
-    /// How many arguments ask for it, with the program's name.
+    /// Returns the number of arguments that it takes, including the program's name.
     fn arguments(&self) -> usize
         ensures { result ≡ arguments_for (asked_of self.now) }
     {
@@ -40,9 +40,9 @@ impl Task<'_> {
     }
 }
 
-/// What the program's arguments ask for, the first of which is its own name: `drill`, `check FILE`,
-/// `show FILE`, `migrate FILE`, `init FILE TOPOLOGY` or `serve FILE ADDRESS`. All else, and what
-/// `clap` refuses, is refused: `help`, `--help`, `-h` and `--version` too.
+/// Returns the command that the program's arguments request; the first is the program's name. The
+/// commands are `drill`, `check FILE`, `show FILE`, `migrate FILE`, `init FILE TOPOLOGY` and
+/// `serve FILE ADDRESS`. Everything else is refused, also `--help` and `--version`.
 pub fn read_arguments<'a>(alloc: Global, arguments: &'a [String]) -> Result<Task<'a>, Fault>
     ensures ok { IfOk result (λ task. task_of (map string_bytes arguments.now) ≡ Some (asked_of task)) }
     ensures err { IfErr result (λ fault. (fault ≡ OutOfMemory)
@@ -59,7 +59,7 @@ pub fn read_arguments<'a>(alloc: Global, arguments: &'a [String]) -> Result<Task
     }
 }
 
-/// The program as it is described to `clap`.
+/// Returns the command-line grammar for `clap`.
 fn program<'a>(alloc: Global) -> Result<Command<'a>, AllocError>
     ensures { IfOk result (λ program. app_of program ≡ resetd) }
 {
@@ -73,7 +73,7 @@ fn program<'a>(alloc: Global) -> Result<Command<'a>, AllocError>
     add_of_argument(with_serve, alloc, "migrate", "file")
 }
 
-/// The program with one more command, which has an argument after it.
+/// Adds a command with one argument.
 fn add_of_argument<'a>(
     program: Command<'a>,
     alloc: Global,
@@ -87,7 +87,7 @@ fn add_of_argument<'a>(
     program.subcommand(command)
 }
 
-/// The program with one more command, which has two arguments after it.
+/// Adds a command with two arguments.
 fn add_of_two_arguments<'a>(
     program: Command<'a>,
     alloc: Global,
@@ -105,7 +105,7 @@ fn add_of_two_arguments<'a>(
     program.subcommand(command)
 }
 
-/// An argument after a command, which has to be there.
+/// Returns a required argument of a command.
 fn argument_named(alloc: Global, id: &str) -> Arg<'_>
     ensures rule { rule_of result ≡ argument_named id.now }
     ensures local { result.global ≡ false }
@@ -127,7 +127,7 @@ fn task_in<'a>(matches: &ArgMatches<'a>, count: usize) -> Option<Task<'a>>
     }
 }
 
-/// What the command of a name asks for, with the first values of its arguments.
+/// Returns the request of the named command, with the first value of each of its arguments.
 fn task_named<'a>(name: &str, matches: &ArgMatches<'a>) -> Option<Task<'a>>
     ensures { option_map asked_of result ≡ asked_of_name name.now (rows_of (found_of matches.now)) }
 {
@@ -138,7 +138,7 @@ fn task_named<'a>(name: &str, matches: &ArgMatches<'a>) -> Option<Task<'a>>
     task_of_file(name, file, matches)
 }
 
-/// What the command of a name asks for with a file.
+/// Returns the request of the named command for a file.
 fn task_of_file<'a>(name: &str, file: &'a str, matches: &ArgMatches<'a>) -> Option<Task<'a>>
     ensures { option_map asked_of result
         ≡ asked_of_file name.now file.now (rows_of (found_of matches.now)) }

@@ -22,8 +22,8 @@ use std::sync::Wait;
 use std::thread::Threads;
 use std::time::Clock;
 
-/// Carries out what the program's arguments ask for, and answers the exit status. Nothing but `serve`
-/// waits for anybody.
+/// Carries out the command that the program's arguments request, and returns the exit status. Only
+/// `serve` may wait.
 pub fn run<
     S: Files<File = File> + Net + Threads + Wait + Clock + Sync + AllocGlobal,
     R: Read,
@@ -37,7 +37,7 @@ pub fn run<
     carry_out(rt, &mut folder, arguments, streams)
 }
 
-/// Carries out what the program's arguments ask for in a folder, and answers the exit status.
+/// Carries out the requested command in a folder, and returns the exit status.
 fn carry_out<
     S: Net + Threads + Wait + Clock + Sync + AllocGlobal,
     F: Folder,
@@ -63,9 +63,9 @@ fn carry_out<
     }
 }
 
-/// Makes a store on a file that is not there yet, or empty, with the nodes and links of a topology
-/// file, prints how many steps it has, and answers the exit status. The topology is read and judged
-/// before the file is opened.
+/// Creates a store in an absent or empty file, with the nodes and links of a topology file, prints its
+/// number of steps, and returns the exit status. The topology is read and checked before the file is
+/// opened.
 pub fn init<S: Files<File = File> + AllocGlobal, R: Read, W: Write, E: Write>(
     rt: &S,
     file: &str,
@@ -96,8 +96,8 @@ pub fn migrate<S: Files<File = File> + AllocGlobal, R: Read, W: Write, E: Write>
     migrate_in(rt.alloc(), &mut folder, file, streams)
 }
 
-/// Prints whether the store on a file is legal, and how many steps it has, or else the first
-/// predicate that its snapshot violates, and answers the exit status, which is 1 for the latter.
+/// Prints that the store in a file is legal, with its number of steps, or the first predicate that its
+/// snapshot violates, and returns the exit status: 1 for a violation.
 pub fn check<S: Files<File = File> + AllocGlobal, R: Read, W: Write, E: Write>(
     rt: &S,
     file: &str,
@@ -109,7 +109,7 @@ pub fn check<S: Files<File = File> + AllocGlobal, R: Read, W: Write, E: Write>(
     check_in(rt.alloc(), &FileFolder::new(rt), file, streams)
 }
 
-/// Prints the nodes and links of the store on a file, and answers the exit status.
+/// Prints the nodes and links of the store in a file, and returns the exit status.
 pub fn show<S: Files<File = File> + AllocGlobal, R: Read, W: Write, E: Write>(
     rt: &S,
     file: &str,

@@ -1,4 +1,4 @@
-//! Making the store of a topology on a disk.
+//! Creates the store of a topology on a disk.
 
 ghost use Rattle.std.specs.Prelude.{◌≡◌, ◌≢◌, ◌⊎◌, ◌+◌, ◌<◌, true, length, IfErr, IfOk, MatchResult, None};
 ghost use Rattle.coord_commands.specs.Creation.{IsOfCreation, LeavesNoStep, RefusesCommitted, failures_at};
@@ -20,8 +20,8 @@ use coord_disk::{Disk, Takable};
 use coord_store::Store;
 use std::alloc::Global;
 
-/// Makes a store on an empty disk, which begins with the nodes and links of a topology, committed
-/// at once. If one of them is refused, the store is left empty.
+/// Creates a store on an empty disk and commits the nodes and links of a topology at once. If one of
+/// them is refused, the store is left empty.
 pub fn create_store<D: Disk + Takable>(
     alloc: Global,
     disk: D,

@@ -1,4 +1,4 @@
-//! Why a command ends before its work is done.
+//! The faults that end a command early.
 
 ghost use Rattle.std.specs.Prelude.{◌≡◌, ◌≢◌, ◌<◌};
 ghost use Rattle.std.specs.IoError.{error_kind};
@@ -14,7 +14,7 @@ use std::alloc::AllocError;
 use std::fmt;
 use std::io::{Error, ErrorKind};
 
-/// What ends a command early. Each has a name, printed on standard error, and an exit status.
+/// A fault that ends a command early. Each has a name, printed on standard error, and an exit status.
 #[derive(Clone, Copy, Debug, PartialEq, Eq)]
 pub enum Fault {
     /// The arguments were refused.
@@ -25,22 +25,22 @@ pub enum Fault {
     Write,
     /// A socket could not be bound or listened to.
     Socket,
-    /// The end of the input was not met within the reads that a command makes.
+    /// The input did not end within the number of reads that a command makes.
     TooManyReads,
     /// There was not enough memory.
     OutOfMemory,
     /// The topology file was refused.
     Topology(ConfigFault),
-    /// The store was not made, opened or raised to version 2, or its device failed.
+    /// The store was not created, opened or migrated, or its device failed.
     Store(StoreFault),
     /// An order of the topology file was refused.
     Refused(Refusal),
-    /// The engine of the server was not taken apart.
+    /// An engine refused to be closed.
     NotClosed(CloseFault),
 }
 
 impl Fault {
-    /// Why the program's arguments could not be read: out of memory, or else `Usage`.
+    /// Returns the fault of arguments that could not be read: out of memory, or else `Usage`.
     pub fn of_arguments(error: &Error) -> Fault
         ensures memory { error_kind error.now ≡ ErrorKind.OutOfMemory → result ≡ Fault.OutOfMemory }
         ensures other { error_kind error.now ≢ ErrorKind.OutOfMemory → result ≡ Fault.Usage }
@@ -48,8 +48,7 @@ impl Fault {
         Fault::or_memory(error, Fault::Usage)
     }
 
-    /// The fault of a call that failed: out of memory if the error says so, else the fault that is
-    /// given here.
+    /// Returns the fault of a failed call: out of memory if the error says so, else `other`.
     pub(crate) fn or_memory(error: &Error, other: Fault) -> Fault
         ensures memory { error_kind error.now ≡ ErrorKind.OutOfMemory → result ≡ Fault.OutOfMemory }
         ensures other { error_kind error.now ≢ ErrorKind.OutOfMemory → result ≡ other }

@@ -1,4 +1,4 @@
-//! The places of named disks and texts.
+//! Folders of named disks and texts.
 
 ghost use Rattle.std.specs.Prelude.{◌≡◌, Option, List, ℕ, Some, None, IfErr, IfOk, IfSome};
 ghost use Rattle.coord_commands.specs.Folders.{bytes_of, known_of, reads};
@@ -10,9 +10,8 @@ use std::io;
 use std::io::Read;
 use std::rt::Files;
 
-/// Where disks and texts are found by their names. `holds` is what the disk of a name holds, and
-/// `says` are the bytes of the text of a name, where they are known. Of real files nothing is
-/// known, of disks in memory all.
+/// A folder of named disks and texts. `holds` is the content of a named disk, and `says` the bytes of
+/// a named text, if they are known. Nothing is known of real files, everything of disks in memory.
 pub trait Folder {
     /// A disk under a name.
     type Disk: Disk + Send + Takable;
@@ -24,28 +23,28 @@ pub trait Folder {
 
     ghost says: { Self → List ℕ → Option (List ℕ) };
 
-    /// Opens the disk of a name, to read it alone.
+    /// Opens the named disk for reading only.
     fn open_to_read(&self, name: &str) -> Result<Self::Disk, DiskFault>
         ensures { IfOk result (λ disk. bytes_of Self.Disk.model disk ≡
             reads (holds self.now name.now)) };
 
-    /// Takes the disk of a name, to read and write it. Nobody else has it until it is put back.
+    /// Takes the named disk, to read and write it. Nobody else has it until it is put back.
     fn open(&mut self, name: &str) -> Result<Self::Disk, DiskFault>
         ensures taken { IfOk result (λ disk. known_of Self.Disk.model disk ≡
             holds self.old name.now) }
         ensures refused { IfErr result (λ _. holds self.new name.now ≡ holds self.old name.now) };
 
-    /// Puts the disk of a name back.
+    /// Puts the named disk back.
     fn close(&mut self, name: &str, disk: Self::Disk)
         ensures { IfSome (holds self.new name.now) (λ known.
             known_of Self.Disk.model disk ≡ Some known) };
 
-    /// Opens the text of a name.
+    /// Opens the named text.
     fn read(&self, name: &str) -> io::Result<Self::Text>
         ensures { IfOk result (λ text. Self.Text.remaining text ≡ says self.now name.now) };
 }
 
-/// The files of the system, by their paths. It claims nothing of them.
+/// The files of the system, by their paths. Nothing is known of them.
 #[derive(Drop)]
 pub struct FileFolder<'a, S> {
     rt: &'a S,

@@ -17,12 +17,12 @@ use coord_types::{Client, Command, MAX_BATCH_STEPS, Refusal, Step, Version};
 use coord_world::{Verdict, World};
 use std::alloc::{AllocError, Global};
 
-/// The version of the world that a store begins with.
+/// Returns the version of a new store's world.
 pub const VERSION: u8 = 2;
 
-/// The steps of a store that begins with a topology: the founder's orders, numbered from 1, of which
-/// an empty store takes each after those before it. The first refusal ends it; more than 256 steps,
-/// which no store can take, are refused as `PendingFull`.
+/// Returns the first steps of a store with a topology: the founder's orders, numbered from 1, each
+/// fresh after those before it in an empty store. Returns the first refusal otherwise; more than 256
+/// steps, which no store takes at once, are `PendingFull`.
 pub fn founding_steps(alloc: Global, topology: &Topology) -> Result<Vec<Step>, Fault>
     ensures steps { IfOk result (λ steps. steps.items ≡ orders (content topology.now)) }
     ensures fresh { IfOk result (λ steps. AllFresh (no_world 2) (no_world 2) steps.items) }
@@ -35,8 +35,8 @@ pub fn founding_steps(alloc: Global, topology: &Topology) -> Result<Vec<Step>, F
     submit_all(alloc, &commands)
 }
 
-/// The commands of a topology: its nodes are added, and then its links joined, in the order of the
-/// file.
+/// Returns the commands that build a topology: an Add for each node, then a Join for each link, in the
+/// order of the file.
 fn commands(alloc: Global, topology: &Topology) -> Result<Vec<Command>, AllocError>
     ensures { IfOk result (λ list. list.items ≡ commands (content topology.now)) }
 {
@@ -134,7 +134,7 @@ fn version() -> Version
     Version::new(VERSION).unwrap()
 }
 
-/// The client that orders what a store begins with.
+/// Returns the client of the first orders of a store.
 fn founder() -> Client
     ensures { result ≡ founder }
 {

@@ -1,4 +1,4 @@
-//! Looking at the store on a disk.
+//! Inspects the store on a disk.
 
 ghost use Rattle.std.specs.Prelude.{◌≡◌, false, true, IfErr, IfOk, OnOk, string_bytes};
 ghost use Rattle.coord_commands.specs.Ending.{OutputCutShort, PrintsOne};
@@ -18,9 +18,9 @@ use coord_world::World;
 use std::alloc::{AllocError, Global};
 use std::io::{Read, Write};
 
-/// Prints whether the store on the disk of a name is legal, and how many steps it has, or else the
-/// first predicate that its snapshot violates, and answers the exit status, which is 1 for the
-/// latter. The disk is opened to read it alone.
+/// Prints that the store on the named disk is legal, with its number of steps, or the first predicate
+/// that its snapshot violates, and returns the exit status: 1 for a violation. The disk is opened for
+/// reading only.
 pub fn check_in<F: Folder, R: Read, W: Write, E: Write>(
     alloc: Global,
     folder: &F,
@@ -58,8 +58,8 @@ fn check_at<F: Folder, W: Write>(
     check_store(alloc, disk, output)
 }
 
-/// Prints the nodes and links of the store on the disk of a name, and answers the exit status. The
-/// disk is opened to read it alone.
+/// Prints the nodes and links of the store on the named disk, and returns the exit status. The disk is
+/// opened for reading only.
 pub fn show_in<F: Folder, R: Read, W: Write, E: Write>(
     alloc: Global,
     folder: &F,
@@ -92,8 +92,8 @@ fn show_at<F: Folder, W: Write>(
     show_store(alloc, disk, output)
 }
 
-/// Opens the store on a disk, and prints that it is legal with the number of its steps, or else the
-/// first predicate that its snapshot violates. Answers whether it is legal.
+/// Opens the store on a disk, and prints that it is legal, with its number of steps, or the first
+/// predicate that its snapshot violates. Returns whether it is legal.
 pub fn check_store<D: Disk, W: Write>(alloc: Global, disk: D, output: &mut W) -> Result<bool, Fault>
     ensures legal { IfOk result (λ legal. legal ≡ true →
         PrintsOne (IsLegalLine (bytes_of D.model disk)) (W.contents output.old)
@@ -150,7 +150,7 @@ pub fn show_store<D: Disk, W: Write>(alloc: Global, disk: D, output: &mut W) -> 
     }
 }
 
-/// The lines that show the world of a store.
+/// Returns the lines that show the world of a store.
 fn shown_text(alloc: Global, world: &World) -> Result<String, AllocError>
     ensures { IfOk result (λ text. string_bytes text ≡ shown world.now) }
 {

@@ -5,13 +5,13 @@ ghost use Rattle.coord_journal.specs.declared.layout.TheConstants.{MAX_HALF as G
 ghost use Rattle.coord_config.specs.declared.values.TheConstants.{MAX_HALF, MIN_HALF};
 ghost use Rattle.coord_commands.specs.Laws.{CommandsAreTaken};
 
-/// The arguments of each command are taken, and ask for it with the arguments after its name.
+/// The arguments of each command are accepted, and request it with the arguments after its name.
 #[tactic(auto, using(crate::proofs::CommandsTaken::commands_are_taken))]
 pub fn commands_are_taken()
     ensures { CommandsAreTaken }
 {}
 
-/// What a topology file may ask for is what a journal takes: the least half and the greatest one.
+/// The range of `half` in a topology file is the range of a journal's half.
 pub fn halves_are_the_same()
     ensures least { MIN_HALF ≡ LEAST }
     ensures greatest { MAX_HALF ≡ GREATEST }

@@ -1,10 +1,10 @@
-//! An output that is lent.
+//! An output lent to a server.
 
 use coord_server::TakableOutput;
 use std::io;
 use std::io::Write;
 
-/// An output that is lent to a server. The bytes that contracts see begin with the number that
+/// An output lent to a server. The bytes that contracts see begin with the number that
 /// identifies this output: so if a server returns one that holds the lent bytes, and more after
 /// them, it is exactly this output.
 #[derive(Drop)]

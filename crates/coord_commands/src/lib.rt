@@ -1,4 +1,4 @@
-//! The program's commands: each a function that answers its exit status.
+//! The program's commands: each is a function that returns its exit status.
 //!
 //! `specs/Arguments.antt` defines the request of the program's arguments, `specs/Faults.antt` the
 //! name, the status and the printed line of each fault, and `specs/Printed.antt` the lines of a
@@ -13,12 +13,12 @@
 //! The input, the output and standard error of a run are passed as one value, `Streams`. A contract
 //! sees the three and their known contents (`specs/Streams.antt`).
 //!
-//! Beneath them are functions over any disk: `create_store`, whose store begins with the orders of
+//! Below them are functions over any disk: `create_store`, whose store begins with the orders of
 //! a topology (`specs/Founding.antt`), `check_store` and `show_store` (`specs/Inspection.antt`),
 //! `migrate_store` (`specs/Migrating.antt`), and `serve_store` of coord_server. The main theorems
 //! are the contracts of `run_in` and `serve_in`: which line is printed for the world that the bytes
-//! of the named disk give, which status is answered, and which faults each command may end with, in
-//! what order (`specs/Running.antt`, `specs/Making.antt`, `specs/Migrating.antt`,
+//! of the named disk give, which status is returned, and with which faults each command may end, in
+//! which order (`specs/Running.antt`, `specs/Making.antt`, `specs/Migrating.antt`,
 //! `specs/Inspection.antt`, `specs/Serving.antt`).
 #![tactic(auto)]
 

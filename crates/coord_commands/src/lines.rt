@@ -14,7 +14,7 @@ use room::Room;
 use std::io;
 use std::io::Write;
 
-/// Writes a text whole. If that fails, exactly a prefix of it was written.
+/// Writes a whole text. If that fails, exactly a prefix of it was written.
 pub fn print<W: Write>(output: &mut W, text: &str) -> Result<(), Fault>
     ensures ok { OnOk result (Appends (W.contents output.old) (W.contents output.new) text.now) }
     ensures err { OnErr result (WritesFirstPart (W.contents output.old)

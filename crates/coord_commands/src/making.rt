@@ -1,4 +1,4 @@
-//! Making a store in a folder.
+//! Creates a store in a folder.
 
 ghost use Rattle.std.specs.Prelude.{◌≡◌, IfErr, IfOk, OnOk};
 ghost use Rattle.coord_commands.specs.Ending.{CommandEnds, OutputCutShort, PrintsOne};
@@ -18,8 +18,8 @@ use coord_disk::{Disk, Takable};
 use std::alloc::Global;
 use std::io::{Read, Write};
 
-/// Makes a store on the disk of a name, which is empty, with the nodes and links of a topology
-/// file, prints how many steps it has, and answers the exit status. The topology is read and judged
+/// Creates a store on the named disk, which must be empty, with the nodes and links of a topology
+/// file, prints its number of steps, and returns the exit status. The topology is read and checked
 /// before the disk is opened.
 pub fn init_in<F: Folder, R: Read, W: Write, E: Write>(
     alloc: Global,
@@ -71,7 +71,7 @@ fn init_at<F: Folder, W: Write>(
     print(output, &text)
 }
 
-/// Makes the store of a topology on the disk of a name, and answers how many steps it has.
+/// Creates the store of a topology on the named disk, and returns its number of steps.
 fn make<F: Folder>(
     alloc: Global,
     folder: &mut F,
@@ -91,7 +91,7 @@ fn make<F: Folder>(
     made
 }
 
-/// Makes the store of a topology on a disk, and answers how many steps it has.
+/// Creates the store of a topology on a disk, and returns its number of steps.
 fn make_on<D: Disk + Takable>(
     alloc: Global,
     disk: D,

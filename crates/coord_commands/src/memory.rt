@@ -18,8 +18,8 @@ pub struct Named {
     pub bytes: Vec<u8>,
 }
 
-/// One disk in memory, with a name, and texts. All is known of them. While somebody has taken the
-/// disk it is not there; a disk of another name can't be opened.
+/// A folder of one named disk in memory, and texts, all of them known. While the disk is taken it is
+/// absent; a disk of another name can't be opened.
 #[derive(Drop)]
 pub struct MemFolder {
     pub alloc: Global,
@@ -29,7 +29,7 @@ pub struct MemFolder {
     pub texts: Vec<Named>,
 }
 
-/// The bytes of the first text of a name.
+/// Returns the bytes of the first text with this name.
 fn text_at<'a>(texts: &'a [Named], name: &str) -> Option<&'a [u8]>
     ensures { option_copied result ≡ text_under texts.now name.now }
 {
@@ -56,7 +56,7 @@ impl Folder for MemFolder {
 
     ghost says = { λ folder. text_under folder.texts.items };
 
-    /// A copy, of which a crash leaves only the synced bytes.
+    /// Opens a copy, of which a crash leaves only the synced bytes.
     fn open_to_read(&self, name: &str) -> Result<MemDisk, DiskFault> {
         if self.name.as_str() != name {
             return Err(DiskFault);
@@ -74,7 +74,7 @@ impl Folder for MemFolder {
         self.disk.take().ok_or(DiskFault)
     }
 
-    /// A disk of another name is lost.
+    /// Drops a disk of another name.
     fn close(&mut self, name: &str, disk: MemDisk) {
         if self.name.as_str() == name {
             self.disk = Some(disk);

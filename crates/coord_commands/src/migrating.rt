@@ -1,4 +1,4 @@
-//! Raising the store on the disk of a name to version 2.
+//! Migrates the store on a named disk to version 2.
 
 ghost use Rattle.std.specs.Prelude.{◌≡◌, ◌≢◌, ◌+◌, ◌≤◌, true, None, Some, IfErr, IfOk, IsErrOf, MatchResult, OnOk, string_bytes};
 ghost use Rattle.coord_commands.specs.Ending.{OutputCutShort, PrintsOne};
@@ -66,8 +66,7 @@ fn migrate_at<F: Folder, W: Write>(
     print(output, &line)
 }
 
-/// Raises the store on the disk of a name, and answers the line that is to be printed. The disk is
-/// put back.
+/// Migrates the store on the named disk, and returns the line to print. The disk is put back.
 fn migrate_named<F: Folder>(alloc: Global, folder: &mut F, file: &str) -> Result<String, Fault>
     ensures line { IfOk result (λ line. IsMigratedLine (F.holds folder.old file.now)
         (F.holds folder.new file.now) (string_bytes line)) }
@@ -83,7 +82,7 @@ fn migrate_named<F: Folder>(alloc: Global, folder: &mut F, file: &str) -> Result
     line
 }
 
-/// Raises the store on a disk, and answers the line that is to be printed.
+/// Migrates the store on a disk, and returns the line to print.
 fn migrate_disk<D: Disk + Takable>(alloc: Global, disk: D) -> (Result<String, Fault>, D)
     ensures line { IfOk result.0 (λ line. IsMigratedLine (known_of D.model disk)
         (known_of D.model result.1) (string_bytes line)) }

@@ -1,4 +1,4 @@
-//! What arguments ask for, in a folder.
+//! Carries out the requested command in a folder.
 
 ghost use Rattle.std.specs.Prelude.{◌≡◌, ℕ, List, map, IfErr, IfOk, Some, string_bytes};
 ghost use Rattle.coord_commands.specs.Running.{RunsDrill, RunsMigrate, RunsArguments};
@@ -16,7 +16,7 @@ use coord_drill::coord_drill;
 use std::alloc::Global;
 use std::io::{Read, Write};
 
-/// A store that is to be served, and the address to serve it at.
+/// The name of a store to serve, and the address to serve it at.
 #[derive(Clone, Copy)]
 pub struct ToServe<'a> {
     pub file: &'a str,
@@ -71,7 +71,7 @@ pub fn run_in<'a, F: Folder, R: Read, W: Write, E: Write>(
     }
 }
 
-/// Reads requests from an input, prints what becomes of each, and answers the exit status.
+/// Reads requests from an input, prints the result of each, and returns the exit status.
 pub fn drill<R: Read, W: Write, E: Write>(alloc: Global, streams: &mut Streams<R, W, E>) -> u8
     ensures { RunsDrill result streams.old.known streams.new.known }
 {

@@ -1,4 +1,4 @@
-//! Serving a store in a folder.
+//! Serves a store in a folder.
 
 ghost use Rattle.std.specs.Prelude.{◌≡◌, List, [], false, IfErr, IfNone, IfOk, IfSome, None, OnOk};
 ghost use Rattle.std.specs.Io.KnownBytes.{Keeps};
@@ -34,8 +34,8 @@ use std::thread::Threads;
 use std::time::Clock;
 
 /// Serves the store on a file to the connections that come to an address, until one of them closes
-/// it, and answers the exit status. The file is locked while it is served. The address, of the form
-/// `A.B.C.D:P`, is judged before the file is opened.
+/// it, and returns the exit status. The file is locked while it is served. The address, of the form
+/// `A.B.C.D:P`, is checked before the file is opened.
 pub fn serve<
     S: Files<File = File> + Net + Threads + Wait + Clock + Sync + AllocGlobal,
     R: Read,
@@ -152,7 +152,7 @@ fn serve_open<
     serve_and_report::<D, S, A, W, Brand, R>(rt, alloc, store, listener, output, written)
 }
 
-/// Serves while signals are printed of the steps that are settled in a new history, which `O` names.
+/// Serves over a new history, which `O` names, and prints the signals of its settled steps.
 fn serve_and_report<
     'a,
     D: Disk + Send,
@@ -196,8 +196,8 @@ fn serve_and_report<
     }
 }
 
-/// A listener at an address, if a descriptor is left for a connection: without one the server would
-/// listen, and answer nobody.
+/// Returns a listener at an address if a descriptor is left for a connection: without one the server
+/// would listen, and answer nobody.
 fn listening<S: Net>(rt: &S, address: SocketAddrV4) -> io::Result<S::Listener> {
     let listener = TcpListener::bind(rt, SocketAddr::V4(address))?;
     let spare = listener.try_clone()?;
@@ -222,7 +222,7 @@ fn opened<F: Folder>(alloc: Global, folder: &mut F, file: &str) -> Result<Store<
     }
 }
 
-/// The disk of a store that was served.
+/// Returns the disk of a store that was served.
 fn left<D: Disk + Takable>(closed: Closed<D>) -> D
     ensures disk { result ≡ closed.store.disk }
     ensures bytes { has_stopped closed.store ≡ false → IfSome
@@ -231,7 +231,7 @@ fn left<D: Disk + Takable>(closed: Closed<D>) -> D
     closed.store.into_disk()
 }
 
-/// The address that an argument is: four numbers up to 255 without leading zeros, and a port.
+/// Parses an address: four numbers up to 255 without leading zeros, and a port.
 fn address_of(argument: &str) -> Option<SocketAddrV4>
     ensures some { IfSome result (IsSocketV4Text argument.now) }
     ensures none { IfNone result ((a : SocketAddrV4) → ¬ IsSocketV4Text argument.now a) }

@@ -1,4 +1,4 @@
-//! What a command answers.
+//! The exit status of a command.
 
 ghost use Rattle.std.specs.Prelude.{◌≡◌, IsOk, MatchResult};
 ghost use Rattle.std.specs.Io.KnownBytes.{Keeps};
@@ -9,8 +9,8 @@ use crate::fault::Fault;
 use crate::lines::print_fault;
 use std::io::Write;
 
-/// Prints the line of a fault, if the command ended with one, and answers the exit status. Where
-/// the line can't be printed whole, a first part of it is.
+/// Prints the line of a fault, if the command ended with one, and returns the exit status. If the
+/// write fails, a prefix of the line is printed.
 pub fn report<E: Write>(ended: Result<(), Fault>, errors: &mut E) -> u8
     ensures status { result ≡ status_of ended }
     ensures done { result ≡ 0 → IsOk ended }

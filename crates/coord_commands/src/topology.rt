@@ -1,4 +1,4 @@
-//! Reading a topology file.
+//! Reads a topology file.
 
 ghost use Rattle.std.specs.Prelude.{◌≡◌, ◌≢◌, ◌⊎◌, take, Err, IfErr, IfOk, IfSome, Ok};
 ghost use Rattle.coord_commands.specs.Topology.{IsOfText, said_by};
@@ -13,7 +13,7 @@ use std::alloc::Global;
 use std::io::Read;
 use std::str;
 
-/// One byte more than the longest topology file: the bytes after it are not read.
+/// One byte more than the longest topology file; nothing after it is read.
 const MOST_BYTES: u64 = MAX_TEXT_BYTES as u64 + 1;
 
 /// Reads a topology file.
@@ -30,7 +30,7 @@ pub fn topology_from<R: Read + Drop>(alloc: Global, reader: R) -> Result<Topolog
     topology_of(alloc, &bytes)
 }
 
-/// The bytes of a reader, as far as a topology file may have them.
+/// Reads at most that many bytes.
 fn front_of<R: Read + Drop>(alloc: Global, reader: R) -> Result<Vec<u8>, Fault>
     ensures bytes { IfOk result (λ front. IfSome (R.remaining reader) (λ bytes. front.items ≡
         take MOST_BYTES bytes)) }
@@ -43,7 +43,7 @@ fn front_of<R: Read + Drop>(alloc: Global, reader: R) -> Result<Vec<u8>, Fault>
     }
 }
 
-/// The topology that bytes say.
+/// Parses a topology.
 fn topology_of(alloc: Global, bytes: &[u8]) -> Result<Topology, Fault>
     ensures ok { IfOk result (λ topology. said_by bytes.now ≡ Ok (content topology)) }
     ensures refused { (reason : Reason) → reason ≢ OutOfMemory →
