@@ -1,2 +1,2 @@
-"""A front of the reset coordinator `resetd`: many clients side by side over one connection to its port, each with its own
-rights. Each change is pushed to them at once, and each order is written down with who gave it. docs/FRONT.md is for its operator."""
+"""A front of the reset coordinator `resetd`: it serves many clients over one connection to the server's port, gives each its own
+rights, pushes every change to them, and logs who gave which order. docs/FRONT.md is for its operator."""

@@ -1,4 +1,4 @@
-"""Further groups of a file, by its access list (acl(5)), which has a place beside the file's one group."""
+"""Gives a file more groups than its one, by its access list (acl(5))."""
 
 from __future__ import annotations
 
@@ -11,7 +11,7 @@ OWNER, OWN_GROUP, GROUP, MASK, OTHERS = 0x01, 0x04, 0x08, 0x10, 0x20  # whom an 
 
 
 def let_in(path: str, groups: Iterable[int]) -> None:
-    """Gives further groups what the file's own group has. Raises OSError, also where the file system keeps no such list."""
+    """Gives more groups the rights of the file's own group. Raises OSError, also if the file system has no access lists."""
     mode = os.stat(path).st_mode
     owner, group, others = mode >> 6 & 7, mode >> 3 & 7, mode & 7
     entries = [(OWNER, owner, NO_NUMBER), (OWN_GROUP, group, NO_NUMBER), *((GROUP, group, number) for number in sorted({*groups})),

@@ -13,7 +13,7 @@ BURSTS = {"refusals": EACH_SECOND, "begins": 100, "ends": 100}  # lines of a kin
 
 @dataclass
 class Spent:
-    """What a principal has had of one kind of lines."""
+    """The lines of one kind that a principal has used up, and those left out."""
 
     who: dict[str, Any]
     lines: int = 0  # written, less those of earlier seconds
@@ -28,7 +28,7 @@ class Allowance:
 
     @property
     def is_full(self) -> bool:
-        """Whether nobody has spent anything."""
+        """Whether nobody has used anything."""
         return not self._spent
 
     def takes(self, principal: Hashable, kind: str, who: dict[str, Any]) -> bool:
@@ -41,7 +41,7 @@ class Allowance:
         return True
 
     def second_over(self) -> list[tuple[dict[str, Any], int]]:
-        """Starts the next second, and returns who had lines left out in this one, and how many."""
+        """Starts the next second, and returns the number of lines left out in this one, by principal."""
         more = [(spent.who, spent.more) for spent in self._spent.values() if spent.more]
         for key, spent in list(self._spent.items()):
             spent.lines, spent.more = max(spent.lines - EACH_SECOND, 0), 0

@@ -1,4 +1,4 @@
-"""Who gave which order and when: a JSON line for each, written before its answer goes out."""
+"""The audit: a JSON line for each order, with who gave it and when, written before its answer is sent."""
 
 from __future__ import annotations
 
@@ -14,7 +14,7 @@ COMPLAINT_SECONDS = 60.0
 
 
 class Audit:
-    """Appends to a file or to standard output. What was noted in one turn goes out in one write."""
+    """Appends to a file or to standard output. The lines noted in one turn are written together."""
 
     def __init__(self, path: str) -> None:
         """Raises OSError."""
@@ -25,14 +25,14 @@ class Audit:
         self.lost = 0  # lines that could not be written
 
     def note(self, event: str, **members: Any) -> dict[str, Any]:
-        """Adds a line, which `write` writes, and answers its members. Those that are None are left out."""
+        """Adds a line, which `write` writes, and returns its members. Those that are None are left out."""
         told = {name: value for name, value in members.items() if value is not None}
         line = {"time": moment(), "event": event, **told}
         self._lines.append(compact(line))
         return line
 
     def write(self) -> str | None:
-        """Writes what was noted, each line whole. If that fails, answers why, once a minute."""
+        """Writes the noted lines, each whole. If that fails, returns the reason, once a minute."""
         lines, self._lines = self._lines, []
         if not lines or self._file < 0:
             return None
@@ -57,7 +57,7 @@ class Audit:
             os.close(old)
 
     def close(self) -> None:
-        """Writes no more."""
+        """Closes the file."""
         file, self._file = self._file, -1
         if file > 1:
             os.close(file)

@@ -1,4 +1,4 @@
-"""How a flight is made of the lines that wait, so that each asker's lines go in their order. Nothing here reads or writes."""
+"""Makes a flight of the waiting lines, so that each asker's lines keep their order. Nothing here reads or writes."""
 
 from __future__ import annotations
 
@@ -13,8 +13,8 @@ Asker = Hashable
 
 
 class Place(enum.IntEnum):
-    """Where a line stands in its flight. The server answers a line that is no order after all before it, so orders stand
-    first; of the front's own those last that may be refused, since a refused order leaves its number to the next one."""
+    """The place of a line in its flight. The server answers a query only after everything before it, so orders come
+    first; of the front's own, those that may be refused come last, since a refused order leaves its number to the next one."""
 
     ORDER = 0
     DOUBTFUL = 1
@@ -33,8 +33,8 @@ Verdict = Place | Hold | bytes  # bytes: this is the answer, and nothing goes to
 
 @dataclass(eq=False, slots=True)
 class Asked:
-    """A line of a connection. `since` is when it came, in seconds of the loop's clock. A text that is no request stands for
-    itself."""
+    """A line of a connection. `since` is its time of arrival, in seconds of the loop's clock. A text that is no request is kept
+    unchanged."""
 
     asker: Asker
     request: Request | bytes
@@ -48,7 +48,7 @@ Judge = Callable[[Asked], Verdict]
 
 @dataclass(eq=False, slots=True)
 class Line:
-    """A line of a flight, and those who asked for it. `number` is that of the front's own client, 0 for all others."""
+    """A line of a flight, and its askers. `number` is that of the front's own client, 0 for all others."""
 
     request: Request
     place: Place
@@ -63,7 +63,7 @@ class Line:
 
 
 class Building:
-    """A flight that is being made."""
+    """A flight under construction."""
 
     def __init__(self, judge: Judge, most: int) -> None:
         self._judge, self._room = judge, most
@@ -80,7 +80,7 @@ class Building:
         return [line for place in Place for line in self._places[place]]
 
     def takes(self, asked: Asked) -> bool:
-        """Takes an asker's next line, unless it has to wait, or would overtake a line of the same asker."""
+        """Accepts an asker's next line, unless it has to wait, or would overtake a line of the same asker."""
         request = asked.request
         assert isinstance(request, Request)
         verdict = self._judge(asked)

@@ -9,33 +9,33 @@ from typing import Protocol
 from .peers import Peer
 from .requests import MOST_BYTES
 
-MOST_WORKS = 64  # lines without an answer that was given out; then no more is read
+MOST_WORKS = 64  # lines without a sent answer; then reading stops
 
 
 class Home(Protocol):
-    """What a connection asks of the front."""
+    """The interface of the front for a connection."""
 
     def came(self, connection: Connection) -> None:
-        """The connection is there, and its peer is known."""
+        """Called when the connection is established, and its peer is known."""
 
     def works(self, connection: Connection) -> int:
-        """How many of its lines have no answer that was given out."""
+        """Returns the number of its lines whose answer was not sent."""
 
     def line(self, connection: Connection, text: bytes, fault: str) -> None:
-        """A line has come; `fault` is what was wrong with its form, if anything."""
+        """Called for each line; `fault` is the fault of its form, if any."""
 
     def stuck(self, connection: Connection) -> None:
-        """What was sent does not go out."""
+        """Called when the client takes no more bytes."""
 
     def ready(self, connection: Connection) -> None:
-        """All that was sent has gone out."""
+        """Called when all sent bytes have left."""
 
     def gone(self, connection: Connection) -> None:
-        """The connection is over."""
+        """Called when the connection has ended."""
 
 
 class Connection(asyncio.Protocol):
-    """The connection reads no further while as many lines as it may have are in the works, or its client takes no answers."""
+    """A client's connection. It stops reading while it has the most lines in progress, or its client reads no answers."""
 
     __slots__ = ("home", "number", "since", "last", "peer", "why", "stuck_since", "left", "_peer_of", "_transport", "_input",
                  "_is_long", "_is_ended", "_is_paused", "_is_reading", "_holds_open")
@@ -66,7 +66,7 @@ class Connection(asyncio.Protocol):
         self.read_on()
 
     def eof_received(self) -> bool:
-        """The client sends no more. It still gets its answers, but over TLS, where the transport then ends."""
+        """The client sends no more. It still gets its answers, except over TLS, whose transport ends then."""
         self._is_ended = True
         self.read_on()
         return self._holds_open
@@ -86,7 +86,7 @@ class Connection(asyncio.Protocol):
 
     @property
     def unsent(self) -> int:
-        """How many bytes have not gone out."""
+        """Returns the number of bytes that have not left."""
         return self._transport.get_write_buffer_size() if self._transport else 0
 
     @property
@@ -99,20 +99,20 @@ class Connection(asyncio.Protocol):
             self._transport.write(text)
 
     def push(self, line: bytes) -> bool:
-        """Sends a view, unless an earlier one has not gone out: whether it was sent."""
+        """Sends a view, unless an earlier one is still waiting. Returns whether it was sent."""
         if not self._is_paused:
             self.give(line + b"\n")
             return True
         return False
 
     def drop(self, why: str) -> None:
-        """Ends the connection. What goes out already still goes out, but for a client that takes nothing."""
+        """Ends the connection, after the bytes on their way, unless the client takes nothing."""
         self.why = self.why or why
         if self._transport:
             self._transport.abort() if self._is_paused else self._transport.close()
 
     def read_on(self) -> None:
-        """Takes lines that have come, as long as it may have more of them in the works."""
+        """Accepts the arrived lines, as long as it may have more in progress."""
         if self._is_reading or not self.is_open:
             return
         self._is_reading, begin = True, 0
@@ -129,7 +129,7 @@ class Connection(asyncio.Protocol):
         return not self._is_paused and self.home.works(self) < MOST_WORKS
 
     def _skip_long(self) -> None:
-        """A line that is too long is not kept."""
+        """Drops a line that is too long."""
         if len(self._input) > MOST_BYTES and b"\n" not in self._input:
             self._is_long, self._input = True, b""
 

@@ -1,7 +1,7 @@
-"""`resetd-front`: many clients at a coordinator side by side, each with its own rights (docs/FRONT.md).
+"""`resetd-front`: serves many clients of a coordinator at once, each with its own rights (docs/FRONT.md).
 
-Exit statuses: 0 it was ended by SIGTERM or SIGINT, or a policy is good; 1 a fault at the start, or a policy that is not
-taken; 2 wrong words.
+Exit statuses: 0 ended by SIGTERM or SIGINT, or the policy is valid; 1 a fault at the start, or an invalid policy;
+2 wrong arguments.
 """
 
 from __future__ import annotations
@@ -109,7 +109,7 @@ def check(path: str) -> int:
 
 @dataclass
 class Process:
-    """The parts of a front that serves."""
+    """The parts of a serving front."""
 
     words: argparse.Namespace
     front: Front
@@ -119,7 +119,7 @@ class Process:
         self.listeners = Listeners(self.front, self.context())
 
     def context(self) -> ssl.SSLContext | None:
-        """By the files as they are now. Raises OSError."""
+        """Returns the TLS context of the present files. Raises OSError."""
         words = self.words
         return server_context(words.certificate, words.key, words.authority) if words.tls else None
 
@@ -133,7 +133,7 @@ class Process:
             listeners.tcp(words.tcp)
 
     async def show(self) -> Page | None:
-        """The page and the metrics, as far as what they need is installed. Raises OSError, and ValueError."""
+        """Serves the page and the metrics, if their libraries are installed. Raises OSError, and ValueError."""
         try:
             metrics = Metrics(self.front)
         except ImportError:
@@ -148,7 +148,7 @@ class Process:
         return page
 
     def reload(self) -> None:
-        """What is broken is not taken, and what there was stays."""
+        """Reads the files again. A broken one is rejected, and the old one stays."""
         try:
             self.front.audit.reopen()
         except OSError as fault:
@@ -169,7 +169,7 @@ class Process:
 
 
 async def served(words: argparse.Namespace) -> None:
-    """Serves until SIGTERM or SIGINT. Raises OSError, ValueError and Held where it can't begin."""
+    """Serves until SIGTERM or SIGINT. Raises OSError, ValueError and Held if it can't start."""
     loop, ended = asyncio.get_running_loop(), asyncio.Event()
     with contextlib.ExitStack() as stack:
         rules = policy.read(words.policy) if words.policy else policy.without_policy(os.getuid(), groups_of(words))
@@ -202,7 +202,7 @@ async def served(words: argparse.Namespace) -> None:
 
 
 def groups_of(words: argparse.Namespace) -> tuple[int, ...]:
-    """The groups whose members may look where there is no policy: the socket's."""
+    """Returns the groups whose members may read without a policy: the socket's."""
     given: tuple[int, ...] = words.group
     return given or ((os.getgid(),) if words.mode & 0o060 else ())
 

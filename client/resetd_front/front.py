@@ -1,4 +1,4 @@
-"""What binds the parts: lines of connections go to the pairing, answers to the audit and then to their connections."""
+"""The front: lines of connections go to the pairing, answers to the audit and then to their connections."""
 
 from __future__ import annotations
 
@@ -32,9 +32,9 @@ STRANGERS = {"address": "several"}  # who the audit names for handshakes that it
 
 @dataclass
 class Counts:
-    """What is counted since the start."""
+    """The counts since the start."""
 
-    answers: dict[tuple[str, str], int] = field(default_factory=dict)  # by op and by what was answered
+    answers: dict[tuple[str, str], int] = field(default_factory=dict)  # by op and by answer
     connections: int = 0
     observe: Callable[[str, float], None] = lambda op, seconds: None  # of an answer: its op, and how long it took
 
@@ -48,11 +48,11 @@ def text_of(answer: dict[str, Any]) -> bytes:
 
 
 class Front(Events):
-    """All connections, and the server after them."""
+    """All connections, and the connection to the server."""
 
     def __init__(self, addresses: str, own: OwnOrders, policy: Policy, audit: Audit, patience: float, stuck: float, silent: float) -> None:
-        """`patience` is for how many seconds a line waits for its answer, `stuck` for how many a client may take nothing of
-        its answers, `silent` for how many a server may answer nothing. Raises ValueError."""
+        """`patience` is the longest wait of a line for its answer, `stuck` the longest time in which a client takes no bytes of
+        its answers, `silent` the longest silence of a server, all in seconds. Raises ValueError."""
         self._loop = asyncio.get_running_loop()
         self._own, self.audit, self._patience, self._most_stuck = own, audit, patience, stuck
         self._policy = policy
@@ -61,7 +61,7 @@ class Front(Events):
         self.upstream = Upstream(addresses, self._pairing, own, self.views, self, silent)
         self.connections: dict[int, Connection] = {}
         self.recent: deque[dict[str, Any]] = deque(maxlen=MOST_RECENT)
-        self.followers: set[Callable[[], None]] = set()  # of the page: what is called when something changed
+        self.followers: set[Callable[[], None]] = set()  # of the page: called at each change
         self._rules: dict[Connection, tuple[Rule, ...]] = {}
         self._allowance = Allowance()
         self._touched: dict[Connection, None] = {}  # who may have something to be given
@@ -142,19 +142,19 @@ class Front(Events):
     def follows(self) -> bool:
         return bool(self.watchers or self.followers)
 
-    # events of the process
+    # the calls of the process
 
     def signalled(self) -> None:
-        """The file of signals has grown."""
+        """Called when the file of signals has grown."""
         if self.follows() or self.upstream.is_holding:
             self.upstream.look()
 
     def follow(self) -> None:
-        """Somebody follows changes: from now on the server is looked at from time to time."""
+        """Registers a follower of changes: the server is asked from time to time from now on."""
         self._soon("beat", BEAT_SECONDS, self._beat)
 
     def take_policy(self, policy: Policy) -> None:
-        """From the next line on this policy counts. Who may not watch any more gets no further view."""
+        """Applies a new policy from the next line on. Watchers that it no longer allows get no more views."""
         self._policy = policy
         self._rules = {connection: policy.rules_for(connection.peer) for connection in self._rules}
         for watcher in self.watchers:
@@ -162,7 +162,7 @@ class Front(Events):
                 self._drop(watcher, "it may not watch any more")
 
     def make_room(self) -> bool:
-        """Ends the longest silent connection of the peer that has most of them: whether there was one."""
+        """Ends the longest silent connection of the peer with the most of them. Returns whether there was one."""
         idle: dict[str, list[Connection]] = {}
         for connection in self.connections.values():
             if connection.is_open and not self._pairing.works(connection):
@@ -174,7 +174,7 @@ class Front(Events):
         return True
 
     def refused_handshake(self, address: str, why: str) -> None:
-        """A connection over TLS was not let in."""
+        """Called when a TLS handshake was refused."""
         self._count("none", "handshake")
         if self._allowance.takes(None, "refusals", STRANGERS):
             self.audit.note("handshake", who={"address": address}, why=why)
@@ -189,7 +189,7 @@ class Front(Events):
     # within
 
     def _allows(self, connection: Connection, request: Request) -> bool:
-        """The front's own client is nobody else's."""
+        """Returns whether the policy allows a request; nobody may use the front's own client."""
         rules = self._rules.get(connection, ())
         return request.members.get("client") != self._own.client and any(rule.allows(request) for rule in rules)
 
@@ -209,7 +209,7 @@ class Front(Events):
         self._soon("give", 0.0, self._give)
 
     def _give(self) -> None:
-        """The audit is written; then answers go out, and connections that get none are ended."""
+        """Writes the audit, then sends the answers, and ends connections that get none."""
         if why := self.audit.write():
             complain(why)
         touched, self._touched = self._touched, {}
@@ -226,7 +226,7 @@ class Front(Events):
             connection.read_on()
 
     def _watch(self, connection: Connection, asked: Asked) -> None:
-        """A connection has its first view."""
+        """Registers a watcher once it has its first view."""
         if connection.is_open and asked.answer and asked.answer.startswith(b'{"accepted":'):
             self.watchers.add(connection)
             self.follow()
@@ -240,7 +240,7 @@ class Front(Events):
             self.follow()
 
     def _tick(self) -> None:
-        """Ends connections whose lines have had no answer for too long, and those that take no answers."""
+        """Ends connections whose lines have waited too long for an answer, and those that read no answers."""
         now = self._loop.time()
         for asker in self._pairing.late(now - self._patience):
             self._drop(asker, f"no answer came within {self._patience:g} s")
@@ -253,7 +253,7 @@ class Front(Events):
             self._soon("tick", TICK_SECONDS, self._tick)
 
     def _note_answer(self, asked: Asked, line: Line | None) -> None:
-        """Looks that were answered are counted, and not written down."""
+        """Notes an answer in the audit; answered queries are only counted."""
         assert asked.answer is not None
         op = asked.request.op if isinstance(asked.request, Request) else "none"
         seconds = self._since(asked.since)
@@ -274,7 +274,7 @@ class Front(Events):
                 self._note("unanswered", each.asker, line=told(each.request), seconds=self._since(each.since))
 
     def _note_connection(self, event: str, connection: Connection, **members: Any) -> None:
-        """Notes the begin or the end of a connection: each one of a principal that may order, a few a second of the others."""
+        """Notes the begin or the end of a connection: every one of a principal that may order, a few per second of the others."""
         may_order = any(rule.ops.difference(LOOKS) for rule in self._rules.get(connection, ()))
         if may_order or self._may_note(event, connection):
             self._note(event, connection, **members)
@@ -286,7 +286,7 @@ class Front(Events):
         return self._allowance.takes(connection.peer.principal, kind, connection.peer.named)
 
     def _second(self) -> None:
-        """Notes how many lines were left out in the last second, and of whom."""
+        """Notes the number of lines left out in the last second, by principal."""
         for who, count in self._allowance.second_over():
             self.audit.note("more", who=who, count=count)
             self._soon("give", 0.0, self._give)
@@ -312,7 +312,7 @@ class Front(Events):
         return round(self._loop.time() - moment, 6)
 
     def _soon(self, name: str, seconds: float, call: Callable[[], None]) -> None:
-        """Makes a call at the end of this turn of the loop, or after some seconds, once."""
+        """Schedules a call once, at the end of this turn of the loop or after some seconds."""
         if name in self._timers:
             return
         self._timers.add(name)
@@ -328,5 +328,5 @@ class Front(Events):
 
 
 def told(request: Request | bytes) -> Any:
-    """A line as the audit says it: an object, or the beginning of a faulty line."""
+    """Returns a line for the audit: an object, or the beginning of a faulty line."""
     return request.told() if isinstance(request, Request) else request.decode("utf-8", "replace")[:MOST_FAULTY]

@@ -1,4 +1,4 @@
-"""Where a line goes in its flight, by what the front knows at that moment. Nothing here reads or writes."""
+"""Decides the place of a line in its flight, from the front's present knowledge. Nothing here reads or writes."""
 
 from __future__ import annotations
 
@@ -21,11 +21,11 @@ class Judging:
     the end of a reset.
 
     A confirm waits a little for the end of a reset that its node takes part in. Nobody talks before all have confirmed, so
-    nothing is lost by that; and each flight with an order has two syncs of its own, for which the wave would have to wait."""
+    nothing is lost by that; and each flight with an order costs two syncs, for which the wave would have to wait."""
 
     def __init__(self, own: OwnOrders, views: Views, is_fresh: bool, now: float, confirming: dict[int, float] | None = None,
                  gather: float = LEAST_GATHER) -> None:
-        """`confirming` has the nodes of all confirms that wait, and when each came; `gather` is how long one waits for others."""
+        """`confirming` has the nodes of the waiting confirms, each with its time of arrival; `gather` is the longest wait of one for others."""
         self._own, self._views, self._is_fresh, self._now = own, views, is_fresh, now
         self._confirming, self._gather = confirming or {}, gather
         self.wants_count = self.wants_look = self.wants_end = self.wants_more = False
@@ -38,7 +38,7 @@ class Judging:
         return self._placed(request)
 
     def _is_held(self, node: int, seconds: float) -> bool:
-        """Whether a confirm that has waited so long waits on."""
+        """Whether a confirm that has waited this long keeps waiting."""
         if node in self._views.in_reset:
             self.wants_end = self.wants_end or seconds < HOLD_SECONDS
             return seconds < HOLD_SECONDS
@@ -69,7 +69,7 @@ class Judging:
         return Place.DOUBTFUL if self._is_fresh else Hold.HOLD
 
     def _of_reset(self, number: int, epoch: int) -> Verdict:
-        """A reset goes to the server only if its node has the epoch that its asker saw, and no reset will change it."""
+        """Places a reset: it goes to the server only if its node has the epoch that its asker saw, and no reset will change it."""
         if not self._is_fresh or self._views.view is None:
             self.wants_look = True
             return Hold.HOLD
@@ -86,7 +86,7 @@ class Judging:
         return Place.ORDER
 
     def _is_doubtful(self, request: Request) -> bool:
-        """Whether the server would refuse it, by the last view. That may be an old one, so then the front looks first."""
+        """Whether the server would refuse it, by the last view. That view may be old, so the front then looks first."""
         if self._views.view is None:
             return True
         node: Node | None = self._views.node(request.members["node"])

@@ -1,4 +1,4 @@
-"""Where clients come in: a Unix socket, TLS with client certificates, and loopback TCP."""
+"""The listeners: a Unix socket, TLS with client certificates, and loopback TCP."""
 
 from __future__ import annotations
 
@@ -26,7 +26,7 @@ BACKLOG = 1024
 KEPT_FREE = 48  # descriptors for the server, the audit, the page and listeners
 MOST_HANDSHAKES = 64  # under way at once, of strangers too; at most a quarter of all places
 HANDSHAKE_SECONDS = 10.0
-PAUSE_SECONDS = 0.02  # before the next try, where no connection can be taken
+PAUSE_SECONDS = 0.02  # before the next try, if no connection can be accepted
 NO_ROOM = (errno.EMFILE, errno.ENFILE, errno.ENOBUFS, errno.ENOMEM)
 PeerOf = Callable[[asyncio.Transport], Peer]
 Accept = Callable[[socket.socket], Awaitable[None]]  # the next connection of a listener
@@ -50,7 +50,7 @@ class Listeners:
         self._path: str | None = None
 
     def unix(self, path: str, mode: int, groups: Sequence[int]) -> None:
-        """Listens at a path, which a process that is gone may have left; the mode says what these groups may. Raises OSError."""
+        """Listens at a path, which an earlier process may have left; the mode gives the rights of these groups. Raises OSError."""
         listener = unix_listening(path, mode, groups)
         self._path = path
         self._begin(listener, f"unix:{path}", self._accept_client)
@@ -61,7 +61,7 @@ class Listeners:
         self._begin(listener, f"tls:{name_of(listener.getsockname())}", self._accept_stranger)
 
     def tcp(self, place: Place) -> None:
-        """Loopback alone, since whoever comes has no credentials. Raises OSError, and ValueError."""
+        """Listens on the loopback only, since its clients have no credentials. Raises OSError, and ValueError."""
         listener = listening(place)
         check_loopback(listener)
         self._begin(listener, f"tcp:{name_of(listener.getsockname())}", self._accept_client)
@@ -85,7 +85,7 @@ class Listeners:
         return task
 
     async def _accept_all(self, listener: socket.socket, accept: Accept) -> None:
-        """Accepts one connection in a turn of the loop, however many wait: whoever is connected is served in between."""
+        """Accepts one connection in each turn of the loop, so that connected clients are served in between."""
         with listener:
             while True:
                 await asyncio.sleep(0)
@@ -97,7 +97,7 @@ class Listeners:
                         await asyncio.sleep(PAUSE_SECONDS)
 
     async def _accept_client(self, listener: socket.socket) -> None:
-        """Accepts who needs no handshake, once there is a place. Raises OSError."""
+        """Accepts a client without a handshake, once there is a place. Raises OSError."""
         while self._is_full():
             self._front.make_room()
             await asyncio.sleep(PAUSE_SECONDS)
@@ -108,7 +108,7 @@ class Listeners:
             await self._connect(client, where, find)
 
     async def _accept_stranger(self, listener: socket.socket) -> None:
-        """Accepts who has to show a certificate. If all places of handshakes are taken, the oldest one ends. Raises OSError."""
+        """Accepts a client that has to show a certificate. If all places for handshakes are taken, the oldest one ends. Raises OSError."""
         client, address = await self._loop.sock_accept(listener)
         if len(self._handshakes) >= self._most_handshakes:
             oldest, where = next(iter(self._handshakes.items()))
@@ -119,7 +119,7 @@ class Listeners:
         self._handshakes[self._spawn(self._shake_hands(client, where))] = where
 
     async def _shake_hands(self, client: socket.socket, where: str) -> None:
-        """Makes a client of a stranger, or notes in the audit why not."""
+        """Completes a handshake, or notes in the audit why it failed."""
         task = asyncio.current_task()
         assert task
         this: asyncio.Task[Any] = task
@@ -138,7 +138,7 @@ class Listeners:
             self._handshakes.pop(this, None)
 
     def _is_full(self, but: int = 0) -> bool:
-        """Whether each place is taken, not counting `but` connections."""
+        """Whether all places are taken, not counting `but` connections."""
         return len(self._front.connections) - but >= self._places
 
     async def _connect(self, client: socket.socket, where: str, find: PeerOf, context: ssl.SSLContext | None = None) -> Connection:
@@ -162,7 +162,7 @@ def closed_on_error(client: socket.socket) -> Iterator[None]:
 
 
 def reason_of(fault: BaseException) -> str:
-    """Why a handshake failed, in one sentence."""
+    """Returns the reason why a handshake failed, in one sentence."""
     if isinstance(fault, ssl.SSLCertVerificationError):
         return fault.verify_message
     if isinstance(fault, ssl.SSLError):
@@ -171,7 +171,7 @@ def reason_of(fault: BaseException) -> str:
 
 
 def unix_listening(path: str, mode: int, groups: Sequence[int]) -> socket.socket:
-    """A listener at a path; the mode says what these groups may. Raises OSError."""
+    """Returns a listener at a path; the mode gives the rights of these groups. Raises OSError."""
     remove_stale(path)
     listener = socket.socket(socket.AF_UNIX)
     before = os.umask(0o177)
@@ -189,7 +189,7 @@ def unix_listening(path: str, mode: int, groups: Sequence[int]) -> socket.socket
 
 
 def listening(place: Place) -> socket.socket:
-    """A TCP listener, its own or one that was passed. Raises OSError, and ValueError."""
+    """Returns a TCP listener, a new one or a passed one. Raises OSError, and ValueError."""
     if isinstance(place, str):
         return passed_as(place.removeprefix(WORD))
     family = socket.AF_INET6 if ":" in place[0] else socket.AF_INET
@@ -197,14 +197,14 @@ def listening(place: Place) -> socket.socket:
 
 
 def place_of(text: str) -> Place:
-    """HOST:PORT, where port 0 is a free one, or fd:NAME. Raises ValueError."""
+    """Parses HOST:PORT (port 0 is any free one) or fd:NAME. Raises ValueError."""
     if text.startswith(WORD):
         return text
     return (text[:-2], 0) if text.endswith(":0") else address_of(text)
 
 
 def check_loopback(listener: socket.socket) -> None:
-    """Raises ValueError where others than processes of this host may come."""
+    """Raises ValueError unless only processes of this host can connect."""
     host = listener.getsockname()[0]
     if not ipaddress.ip_address(host).is_loopback:
         listener.close()
@@ -212,13 +212,13 @@ def check_loopback(listener: socket.socket) -> None:
 
 
 def name_of(address: object) -> str:
-    """Where a socket is; one of version 4 at a listener for both as people write it."""
+    """Returns the address of a socket; an IPv4 address at a listener for both in its usual form."""
     assert isinstance(address, tuple)
     return f"{address[0].removeprefix('::ffff:')}:{address[1]}"
 
 
 def remove_stale(path: str) -> None:
-    """Removes a socket that nobody listens at. Raises OSError if somebody does, or if it is no socket."""
+    """Removes a stale socket. Raises OSError if somebody listens there, or if it is no socket."""
     with socket.socket(socket.AF_UNIX) as trial:
         try:
             if not stat.S_ISSOCK(os.lstat(path).st_mode):
@@ -233,7 +233,7 @@ def remove_stale(path: str) -> None:
 
 
 def raised_limit() -> int:
-    """The limit of descriptors, raised as far as it goes."""
+    """Raises the limit of descriptors as far as possible, and returns it."""
     soft, hard = resource.getrlimit(resource.RLIMIT_NOFILE)
     most = hard if hard != resource.RLIM_INFINITY else 65_536
     if soft == resource.RLIM_INFINITY or soft < most:

@@ -12,10 +12,10 @@ BOUNDS = (.0005, .001, .0025, .005, .01, .025, .05, .1, .25, .5, 1, 2.5, 5, 10, 
 
 
 class Metrics:
-    """What /metrics says: the front's own counts, and all that `resetctl metrics` writes."""
+    """The content of /metrics: the front's own counts, and everything that `resetctl metrics` writes."""
 
     def __init__(self, front: Front) -> None:
-        """Raises ImportError where the library is not there."""
+        """Raises ImportError if the library is missing."""
         import prometheus_client
         from prometheus_client.core import CounterMetricFamily, GaugeMetricFamily
 

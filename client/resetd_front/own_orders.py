@@ -1,4 +1,4 @@
-"""The orders that the front gives as its own client: their numbers, and what an answer says of them.
+"""The orders that the front gives as its own client: their numbers, and the meaning of an answer for them.
 
 A file keeps the last number that was sent. It need not be right: at each start, and whenever an answer fits no more, the
 number is found by refusals, beginning at the one that is kept.
@@ -19,12 +19,12 @@ MOST_TRIES = 3  # of one order whose number was not the next: somebody else may 
 CARRIED_OUT = b'{"kind":"carried out","step":0}'  # it was carried out, and its reply was lost with a connection
 PASSING = (Refusal.STOPPED, Refusal.OUT_OF_MEMORY, Refusal.PENDING_FULL)  # they say nothing of the number
 MOST_DIGITS = 20  # of a number
-SECONDS = 5.0  # for one answer, where the number is looked for
+SECONDS = 5.0  # for one answer, while the number is searched
 
 
 @dataclass(frozen=True, slots=True)
 class Outcome:
-    """What came of a line: its answer, or None if it has to go once more, with another number."""
+    """The outcome of a line: its answer, or None if it has to be sent again with another number."""
 
     line: Line
     answer: bytes | None
@@ -40,7 +40,7 @@ class OwnOrders:
         self._lock = files.hold(folder)
         self._file = os.open(os.path.join(folder, f"client-{client}"), os.O_RDWR | os.O_CREAT | os.O_CLOEXEC, 0o600)
         self._number = kept_number(self._file)
-        self._is_free = False  # in this flight a number was refused, so that those after it are out of turn
+        self._is_free = False  # in this flight a number was refused, so the later ones are out of turn
         self._unsure: list[Line] = []  # out of turn, sent more than once: carried out if a later one is in turn
 
     def close(self) -> None:
@@ -48,15 +48,15 @@ class OwnOrders:
         self._lock.close()
 
     def find(self, addresses: str) -> int:
-        """The number of the client's last order, by the coordinator. It blocks. Raises Away, NotTaken, CountNotFound."""
+        """Asks the coordinator for the number of the client's last order. It blocks. Raises Away, NotTaken, CountNotFound."""
         return find_count(Port(addresses, SECONDS), self.client, self._number)
 
     def found(self, number: int) -> None:
         self._number, self.is_known = number, True
 
     def give_numbers(self, lines: Sequence[Line]) -> None:
-        """Numbers the own orders of a new flight, and keeps the last number before any is sent. Those that will be refused,
-        by all that is known, have one number together: a refused order leaves it to the next."""
+        """Numbers the front's own orders of a new flight, and stores the last number before any is sent. Orders that will
+        presumably be refused share one number: a refused order leaves it to the next."""
         number = self._number
         for line in lines:
             if line.request.is_unnumbered:
@@ -66,7 +66,7 @@ class OwnOrders:
             keep_number(self._file, number)
 
     def answered(self, line: Line, text: bytes, answer: dict[str, Any]) -> list[Outcome]:
-        """What an answer to a numbered line says of it, and of lines before it."""
+        """Returns the outcomes that an answer settles: of its line, and of lines before it."""
         refused = answer.get("refused")
         if refused == Refusal.OUT_OF_TURN:
             return self._out_of_turn(line, text)
@@ -83,13 +83,13 @@ class OwnOrders:
         return [*before, Outcome(line, text)]
 
     def flight_over(self) -> list[Outcome]:
-        """What is left of a flight, each of whose lines has its answer."""
+        """Returns the remaining outcomes of a flight, each of whose lines has its answer."""
         left = [self._lost(line, b"") for line in self._unsure]
         self._unsure, self._is_free = [], False
         return left
 
     def broken(self) -> None:
-        """The connection is gone: what is sent again is judged by what comes then."""
+        """The connection has ended: resent lines are judged by their new answers."""
         self._is_free = False
 
     def _out_of_turn(self, line: Line, text: bytes) -> list[Outcome]:
@@ -101,7 +101,7 @@ class OwnOrders:
         return [self._lost(line, text)]
 
     def _lost(self, line: Line, text: bytes) -> Outcome:
-        """The count is not the coordinator's. The order goes once more, some times."""
+        """The count differs from the coordinator's. The order is sent again, a few times."""
         self.is_known = False
         self._is_free = True
         is_given_up = any(asked.tries >= MOST_TRIES for asked in line.asked)

@@ -1,4 +1,4 @@
-"""A page to look at and the metrics, over HTTP on a Unix socket or the loopback, by Debian's python3-aiohttp: read only."""
+"""The status page and the metrics, read only, over HTTP on a Unix socket or the loopback, by Debian's python3-aiohttp."""
 
 from __future__ import annotations
 
@@ -15,15 +15,15 @@ from .metrics import Metrics
 
 PAGE = os.path.join(os.path.dirname(os.path.abspath(__file__)), "page.html")
 POLICY = "default-src 'none'; script-src 'unsafe-inline'; style-src 'unsafe-inline'; connect-src 'self'"
-EACH_SECONDS = 0.05  # at most this often a page gets an event
+EACH_SECONDS = 0.05  # the shortest time between two updates of a page
 LOOK_SECONDS = 2.0  # for which a page waits before the server is looked at again
 
 
 class Page:
-    """What a browser gets."""
+    """The status page."""
 
     def __init__(self, front: Front, metrics: Metrics | None) -> None:
-        """Raises ImportError where the library is not there."""
+        """Raises ImportError if the library is missing."""
         from aiohttp import web
 
         self._web, self._front, self._metrics = web, front, metrics
@@ -64,7 +64,7 @@ class Page:
         return self._web.Response(body=self._metrics.text(), headers={"Content-Type": "text/plain; version=0.0.4; charset=utf-8"})
 
     async def _events(self, request: Any) -> Any:
-        """A stream of what the page shows, at each change."""
+        """Streams the content of the page at each change."""
         response = self._web.StreamResponse(headers={"Content-Type": "text/event-stream", "Cache-Control": "no-store"})
         await response.prepare(request)
         changed = asyncio.Event()
@@ -86,7 +86,7 @@ class Page:
         return response
 
     def state(self) -> dict[str, Any]:
-        """What a page shows."""
+        """Returns the content of the page."""
         front, view = self._front, self._front.views.view
         now = moment()
         for node in view.nodes if view else ():

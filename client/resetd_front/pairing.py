@@ -1,7 +1,7 @@
-"""Which lines wait for the server, which are on their way, and whose each answer is. Nothing here reads or writes.
+"""The lines that wait for the server, those in flight, and the askers of each answer. Nothing here reads or writes.
 
-A **flight** is what goes to the server in one write; the next one goes once each of its lines has its answer. Answers come
-in the order of the lines, so the first line of a flight without an answer is the one that an answer is of.
+A **flight** is the lines that go to the server in one write; the next one goes once each of them has its answer. Answers come
+in the order of the lines, so an answer belongs to the first line of the flight without one.
 """
 
 from __future__ import annotations
@@ -16,20 +16,20 @@ class Pairing:
     """Each asker gets the answers to its own lines, in their order, and nothing else."""
 
     def __init__(self) -> None:
-        self._asked: dict[Asker, deque[Asked]] = {}  # what was not given out, in the order of the lines
-        self._waiting: dict[Asker, deque[Asked]] = {}  # of these, what is in no flight
-        self._turns: deque[Asker] = deque()  # those who have something waiting, the next one first
+        self._asked: dict[Asker, deque[Asked]] = {}  # the lines whose answer was not handed over, in order
+        self._waiting: dict[Asker, deque[Asked]] = {}  # those of them in no flight
+        self._turns: deque[Asker] = deque()  # the askers with a waiting line, the next one first
         self._flight: deque[Line] = deque()
-        self._back: list[Line] = []  # of this flight, what has to go once more, with another number
+        self._back: list[Line] = []  # the lines of this flight to send again, with another number
 
     @property
     def is_waiting(self) -> bool:
-        """Whether there is something that could go in the next flight."""
+        """Whether a line could go in the next flight."""
         return bool(self._turns or self._back)
 
     @property
     def in_flight(self) -> int:
-        """How many lines are on their way, or have to be sent again."""
+        """Returns the number of lines in flight, or to be sent again."""
         return len(self._flight)
 
     @property
@@ -38,16 +38,16 @@ class Pairing:
         return not self._asked
 
     def confirming(self) -> dict[int, float]:
-        """The nodes of the confirms that wait, and when the last one of each came."""
+        """Returns the nodes of the waiting confirms, each with the last one's time of arrival."""
         return {asked.request.members["node"]: asked.since for waiting in self._waiting.values() for asked in waiting
                 if isinstance(asked.request, Request) and asked.request.op == "confirm"}
 
     def works(self, asker: Asker) -> int:
-        """How many lines of an asker have no answer that was given out."""
+        """Returns the number of an asker's lines whose answer was not handed over."""
         return len(self._asked.get(asker, ()))
 
     def ask(self, asker: Asker, request: Request, now: float) -> Asked:
-        """A line that waits for the server."""
+        """Adds a line that waits for the server."""
         asked = self._noted(Asked(asker, request, now))
         if asker not in self._waiting:
             self._waiting[asker] = deque()
@@ -56,12 +56,12 @@ class Pairing:
         return asked
 
     def answer_here(self, asker: Asker, request: Request | bytes, answer: bytes, now: float) -> Asked:
-        """A line that the server does not get: its answer is given out after those of the lines before it."""
+        """Adds a line that the front answers itself, after the lines before it."""
         return self._noted(Asked(asker, request, now, answer))
 
     def take(self, judge: Judge, most: int = MOST_LINES) -> tuple[list[Line], list[Asked]]:
-        """The lines of the next flight, and what was answered without the server. Askers take turns, a line each. If lines
-        of the last flight have no answer, they are the flight, as they were."""
+        """Returns the lines of the next flight, and those answered without the server. Askers take turns, a line each. If lines
+        of the last flight have no answer, they are the flight, unchanged."""
         if self._flight:
             return list(self._flight), []
         self._wait_again()
@@ -82,32 +82,32 @@ class Pairing:
         return list(self._flight), building.answered
 
     def look_behind(self) -> list[Line]:
-        """The flight that was taken ends with a look, which the front alone awaits, if it has none and does not end the
-        server: its lines."""
+        """Ends the current flight with the front's own look, if it has none and does not close the server. Returns its
+        lines."""
         if not any(line.is_last or line.request.shared == SHOW.shared for line in self._flight):
             self._flight.append(Line(SHOW, Place.LOOK))
         return list(self._flight)
 
     def next_answered(self) -> Line:
-        """The line that the next answer is of; it leaves its flight. Raises IndexError where no answer is awaited."""
+        """Returns the line of the next answer, which leaves its flight. Raises IndexError if no answer is awaited."""
         return self._flight.popleft()
 
     def give(self, line: Line, answer: bytes) -> list[Asked]:
-        """A line has its answer: those who asked for it, also those who are gone."""
+        """Gives a line its answer. Returns its askers, including those that are gone."""
         for asked in line.asked:
             asked.answer = answer
         return line.asked
 
     def put_back(self, line: Line) -> list[Asked]:
-        """A line that was not carried out goes once more, ahead of what its askers have waiting: those of them who are gone,
-        for whom it does not."""
+        """Sends a line again that was not carried out, ahead of its askers' waiting lines. Returns the askers that are gone, for
+        which it is not sent."""
         gone = [asked for asked in line.asked if asked.asker not in self._asked]
         line.asked = [asked for asked in line.asked if asked.asker in self._asked]
         self._back.append(line)
         return gone
 
     def given_out(self, asker: Asker) -> list[Asked]:
-        """What an asker gets now: its first lines, as far as they have answers."""
+        """Returns the answers that an asker gets now: those of its first lines, up to one without an answer."""
         asked, given = self._asked.get(asker), []
         while asked and asked[0].answer is not None:
             given.append(asked.popleft())
@@ -116,7 +116,7 @@ class Pairing:
         return given
 
     def forget(self, asker: Asker) -> list[Asked]:
-        """An asker is gone: its lines that were not sent, and never will be. An answer to one that was is given nobody."""
+        """Forgets an asker. Returns its lines that were not sent, and never will be. An answer to a sent one is dropped."""
         self._asked.pop(asker, None)
         unsent = list(self._waiting.pop(asker, ()))
         if unsent:
@@ -127,8 +127,8 @@ class Pairing:
         return unsent
 
     def broken(self) -> list[Asked]:
-        """The connection to the server is gone: what is on its way will be sent again, as it was. It answers what will not:
-        what ends the server, and what nobody awaits any more, but for orders of the front's own, whose numbers count."""
+        """The connection to the server has ended: the lines in flight will be sent again unchanged. Returns those that will not:
+        a `close`, and lines that nobody awaits any more, except for the front's own numbered orders."""
         kept, left = deque[Line](), list[Asked]()
         for line in self._flight:
             is_awaited = bool(line.number) or any(asked.asker in self._asked for asked in line.asked)
@@ -140,7 +140,7 @@ class Pairing:
         return left
 
     def late(self, before: float) -> list[Asker]:
-        """Those who await an answer to a line that came before this moment."""
+        """Returns the askers that await an answer to a line that came before this moment."""
         return [asker for asker, asked in self._asked.items() if asked[0].since < before]
 
     def _noted(self, asked: Asked) -> Asked:
@@ -148,7 +148,7 @@ class Pairing:
         return asked
 
     def _wait_again(self) -> None:
-        """What was put back waits ahead of all else of its askers."""
+        """Puts the resent lines ahead of all others of their askers."""
         for line in reversed(self._back):
             for asked in line.asked:
                 if asked.asker not in self._waiting:

@@ -7,12 +7,12 @@ import socket
 from functools import cache
 
 FIRST = 3  # the first descriptor that is passed
-WORD = "fd:"  # stands before a name, in place of an address
+WORD = "fd:"  # the prefix of a name in place of an address
 
 
 @cache
 def passed() -> dict[str, socket.socket]:
-    """All that were passed. Raises OSError where one is no socket."""
+    """Returns all passed sockets. Raises OSError if one is no socket."""
     if os.environ.get("LISTEN_PID") != str(os.getpid()):
         return {}
     names = os.environ.get("LISTEN_FDNAMES", "").split(":")

@@ -1,4 +1,4 @@
-"""Who is at the other end of a connection."""
+"""The peer of a connection: who is at the other end."""
 
 from __future__ import annotations
 
@@ -18,7 +18,7 @@ NOBODY = "nobody"  # who has no credentials: a connection over TCP without TLS
 
 @dataclass(frozen=True)
 class Peer:
-    """A user of this host with its groups, or a certificate with its names; and the words that say who it is."""
+    """A user of this host with its groups, or a certificate with its names; and its printed form."""
 
     who: str
     uid: int | None = None
@@ -28,17 +28,17 @@ class Peer:
 
     @property
     def principal(self) -> tuple[int | None, str]:
-        """What all connections of one user, or of one certificate's name, have in common."""
+        """Returns the principal: the user, or the certificate's name, of all its connections."""
         return self.uid, self.who
 
     @property
     def named(self) -> dict[str, Any]:
-        """The principal as the audit says it."""
+        """Returns the principal as the audit prints it."""
         return {key: value for key, value in (self.told or {}).items() if key in ("user", "uid", "certificate")}
 
     @staticmethod
     def of_unix(connection: socket.socket) -> Peer:
-        """By the credentials that the system keeps of who connected. Raises OSError, also for a process of more than 256
+        """Reads the peer's credentials from the system. Raises OSError, also for a process with more than 256
         groups."""
         pid, uid, gid = struct.unpack("3i", connection.getsockopt(socket.SOL_SOCKET, socket.SO_PEERCRED, 12))
         more = connection.getsockopt(socket.SOL_SOCKET, SO_PEERGROUPS, MOST_BYTES)
@@ -49,13 +49,13 @@ class Peer:
 
     @staticmethod
     def of_tcp(address: str) -> Peer:
-        """Whoever comes over TCP without TLS counts as nobody."""
+        """Returns the peer of TCP without TLS: nobody."""
         nobody = pwd.getpwnam(NOBODY)
         return Peer(NOBODY, nobody.pw_uid, told={"user": NOBODY, "address": address})
 
     @staticmethod
     def of_tls(certificate: Mapping[str, Any], address: str) -> Peer:
-        """By the names of a certificate that was found good."""
+        """Returns the peer of a verified certificate."""
         names = names_of(certificate)
         who = names[0] if names else ""
         return Peer(who, names=frozenset(names), told={"certificate": who, "address": address})
@@ -86,7 +86,7 @@ def group_number(name: str) -> int:
 
 
 def server_context(certificate: str, key: str, authority: str) -> ssl.SSLContext:
-    """TLS 1.3 alone, with a client certificate of this authority. Raises OSError (ssl.SSLError is one)."""
+    """Returns a context for TLS 1.3 only, with client certificates of this authority. Raises OSError (ssl.SSLError is one)."""
     context = ssl.SSLContext(ssl.PROTOCOL_TLS_SERVER)
     context.minimum_version = ssl.TLSVersion.TLSv1_3
     context.verify_mode = ssl.CERT_REQUIRED

@@ -1,4 +1,4 @@
-"""What each peer may do: rules in TOML, read as a whole or not at all."""
+"""The policy: which peer may do what, by rules in TOML, read as a whole or not at all."""
 
 from __future__ import annotations
 
@@ -15,12 +15,12 @@ KEYS = (*KINDS, "ops", "clients", "nodes")
 
 
 class BadPolicy(ValueError):
-    """A policy that is not taken, with the rule and the reason."""
+    """A rejected policy, with the rule and the reason."""
 
 
 @dataclass(frozen=True)
 class Rule:
-    """One rule: whom it is for, and what it allows. None of `clients` or `nodes` stands for all."""
+    """One rule: its principals, and the requests that it allows. None as `clients` or `nodes` means all."""
 
     kind: str
     name: str
@@ -35,13 +35,13 @@ class Rule:
         return self.number in peer.groups if self.kind == "group" else self.name in peer.names
 
     def allows(self, request: Request) -> bool:
-        """Whether it allows a request: its op; the client whose number it has, where it has one; each node that it names."""
+        """Whether it allows a request: its op, its client if it has one, and each node that it names."""
         client = request.members.get("client")
         return (request.op in self.ops and (self.clients is None or client is None or client in self.clients)
                 and (self.nodes is None or self.nodes.issuperset(request.nodes)))
 
     def __str__(self) -> str:
-        """As `resetd-front check` prints it."""
+        """Returns the rule as `resetd-front check` prints it."""
         limits = [f"as clients {spelled(self.clients)}"] * (self.clients is not None)
         limits += [f"of nodes {spelled(self.nodes)}"] * (self.nodes is not None)
         return f"{self.kind} {self.name}: {', '.join([' '.join(op for op in OPS if op in self.ops), *limits])}"
@@ -49,7 +49,7 @@ class Rule:
 
 @dataclass(frozen=True)
 class Policy:
-    """What no rule allows is not allowed."""
+    """The rules. A request that no rule allows is denied."""
 
     rules: tuple[Rule, ...]
 
@@ -62,14 +62,14 @@ def spelled(numbers: frozenset[int] | None) -> str:
 
 
 def without_policy(own_user: int, groups: Iterable[int]) -> Policy:
-    """Root and the coordinator's user may do everything, others of the socket's groups may look."""
+    """Returns the default policy: root and the coordinator's user may do everything, members of the socket's groups may read."""
     everything = frozenset(OPS)
     return Policy((Rule("user", "root", 0, everything), Rule("user", str(own_user), own_user, everything),
                    *(Rule("group", str(group), group, frozenset(LOOKS)) for group in groups)))
 
 
 def read(path: str) -> Policy:
-    """The policy of a file. Raises BadPolicy, and OSError."""
+    """Reads the policy of a file. Raises BadPolicy, and OSError."""
     with open(path, "rb") as file:
         text = file.read()
     try:
@@ -85,7 +85,7 @@ def read(path: str) -> Policy:
 
 
 def rule_of(place: int, table: Any) -> Rule:
-    """The rule of a table. Raises BadPolicy."""
+    """Returns the rule of a table. Raises BadPolicy."""
     try:
         if not isinstance(table, dict):
             raise BadPolicy("it is not a table")

@@ -1,6 +1,6 @@
-"""What a line asks for: the lines of docs/FORMATS.md, "Administration lines", and those that only a front takes.
+"""The request of a line: the lines of docs/FORMATS.md, "Administration lines", and those that only a front accepts.
 
-The front passes on no text of a client but what it has read itself: what it judged is what is carried out.
+The front writes each request again from what it has read: the judged request is the one carried out.
 """
 
 from __future__ import annotations
@@ -30,7 +30,7 @@ compact: Callable[[object], str] = json.JSONEncoder(separators=(",", ":")).encod
 
 
 class NotARequest(Exception):
-    """A line asks for nothing; `fault` is the name of the fault that the server has for it."""
+    """A line that is no request; `fault` is the name of the server's fault for it."""
 
     def __init__(self, fault: str) -> None:
         super().__init__(fault)
@@ -50,23 +50,23 @@ class Request:
 
     @property
     def is_unnumbered(self) -> bool:
-        """An order that names no client: the front gives it its own client and the next number."""
+        """Whether it is an order without a client: the front gives it its own client and the next number."""
         return self.op in ORDERS and "client" not in self.members
 
     @property
     def epoch_seen(self) -> int | None:
-        """Of a reset, the epoch that its asker saw, where it names one."""
+        """Returns the epoch that the asker of a reset saw, if it names one."""
         return self.members.get("epoch") if self.op == "reset" else None
 
     @property
     def nodes(self) -> tuple[int, ...]:
-        """The nodes that it names."""
+        """Returns the nodes that it names."""
         return tuple(self.members[name] for name in ("node", "a", "b") if name in self.members)
 
     @property
     def shared(self) -> tuple[object, ...] | None:
-        """What is equal of requests that one answer may stand for: looks, confirms that the front numbers, and resets that
-        name the epoch that their asker saw. None for all others."""
+        """Returns a key that is equal for requests that may share one answer: looks, confirms that the front numbers, and
+        resets that name the epoch that their asker saw. None for all others."""
         if self.op in LOOKS:
             return LOOKS
         if self.is_unnumbered and "epoch" in self.members:
@@ -74,11 +74,11 @@ class Request:
         return None
 
     def told(self) -> dict[str, Any]:
-        """The request as the object that it was."""
+        """Returns the request as the object that was read."""
         return {"op": self.op, **self.members}
 
     def line(self, **numbered: int) -> bytes:
-        """The line for the server, with the client and the number of an order that names none."""
+        """Returns the line for the server; an unnumbered order gets this client and number."""
         if self.op in LOOKS:
             return b'{"op":"show"}\n'
         members = {name: value for name, value in self.members.items() if self.op != "reset" or name != "epoch"}
@@ -90,7 +90,7 @@ SHOW = Request("show", {})
 
 
 def read(line: bytes) -> Request:
-    """The request of a line, given without its line feed. Raises NotARequest, with the fault that the server would answer."""
+    """Reads the request of a line without its line feed. Raises NotARequest, with the fault that the server would answer."""
     if len(line) > MOST_BYTES:
         raise NotARequest("TooLong")
     value = object_of(line)
@@ -110,7 +110,7 @@ def read(line: bytes) -> Request:
 
 
 def object_of(line: bytes) -> dict[str, Any]:
-    """The object that a line spells, by the rules of the server's reader. Raises NotARequest."""
+    """Reads the JSON object of a line, by the rules of the server's reader. Raises NotARequest."""
     try:
         text = line.decode("utf-8")
     except UnicodeDecodeError:
@@ -140,7 +140,7 @@ def finite(text: str) -> float:
 
 
 def whole(text: str) -> int | float:
-    """A whole number; one with a sign is none of 64 bits, not even -0."""
+    """Reads a whole number; one with a sign is out of range, even -0."""
     return finite(text) if text.startswith("-") or len(text) > 20 else int(text)
 
 
@@ -148,7 +148,7 @@ STRICT = json.JSONDecoder(parse_constant=refused, parse_float=finite, parse_int=
 
 
 def depth(value: object) -> int:
-    """How many arrays and objects stand in each other."""
+    """Returns the depth of nested arrays and objects."""
     deepest, rest = 0, [(value, 0)]
     while rest:
         each, above = rest.pop()

@@ -1,4 +1,4 @@
-"""The file of signals, by inotify: the system reports its changes. It need not be there yet, and it may go."""
+"""The file of signals, watched by inotify. It need not exist yet, and it may be removed."""
 
 from __future__ import annotations
 
@@ -15,8 +15,8 @@ OF_THE_FILE = b""  # the name in an event of a file that is watched itself
 
 
 class Signals:
-    """Calls `grown` when the file is written, made or put in place. It watches the file, and for one that comes its folder,
-    which has to be there: what is written to other files of the folder wakes nobody."""
+    """Calls `grown` when the file is written, created or put in place. It watches the file, and for a new one its folder,
+    which must exist. Writes to other files of the folder wake nobody."""
 
     def __init__(self, path: str, grown: Callable[[], None]) -> None:
         """Raises OSError."""
@@ -46,12 +46,12 @@ class Signals:
             self._grown()
 
     def _watch(self, path: str, mask: int) -> bool:
-        """Watches what stands there from now on, and answers whether something does."""
+        """Watches the file that is there now, and returns whether there is one."""
         return int(self._library.inotify_add_watch(self._file, os.fsencode(path), mask)) >= 0
 
 
 def names_in(text: bytes) -> set[bytes]:
-    """The names of files that events are of."""
+    """Returns the names of the files of these events."""
     names, at = set[bytes](), 0
     while at < len(text):
         length = HEAD.unpack_from(text, at)[3]

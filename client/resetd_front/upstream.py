@@ -1,6 +1,6 @@
-"""The one connection to the server: flights go out, answers come back, and what has no answer is sent again.
+"""The one connection to the server: it sends flights, receives answers, and sends lines without an answer again.
 
-The server serves one connection after the other, and others may want it: the front lets its connection go when nobody waits,
+The server serves one connection after the other, and others may want it: the front ends its connection when nobody waits,
 and after a second in any case.
 """
 
@@ -21,7 +21,7 @@ from .pairing import Pairing
 from .requests import LOOKS
 from .views import Views
 
-IDLE_SECONDS = 0.1  # after which the connection is let go
+IDLE_SECONDS = 0.1  # after which the connection is ended
 USE_SECONDS = 1.0  # the same, while lines wait
 FIRST_PAUSE, LONGEST_PAUSE = 0.02, 1.0  # between two tries to connect
 COUNT_SECONDS = 60.0  # until a count that was not found is looked for again
@@ -29,22 +29,22 @@ LOOK_PAUSE = 0.02  # between two looks at a reset under way
 
 
 class Events:
-    """The events that the rest of the front gets."""
+    """The events that the rest of the front receives."""
 
     def answered(self, asked: list[Asked], line: Line | None) -> None:
-        """Lines have their answers; the front itself gave them where there is no line."""
+        """Called with answered lines; without a line the front itself gave the answer."""
 
     def unanswered(self, asked: list[Asked]) -> None:
-        """Lines that get no answer: their connections have to be closed."""
+        """Called with lines that get no answer: their connections have to be closed."""
 
     def viewed(self, is_new: bool) -> None:
-        """A look was answered; nodes or links differ from before, or not."""
+        """Called when a look was answered, with whether nodes or links have changed."""
 
     def told(self, text: str) -> None:
-        """What the operator should read."""
+        """Called with a message for the operator."""
 
     def server(self, is_up: bool, why: str) -> None:
-        """The server answers again, or can't be reached."""
+        """Called when the server answers again, or can't be reached."""
 
     def follows(self) -> bool:
         """Whether somebody follows changes."""
@@ -74,7 +74,7 @@ class Upstream:
     """Sends the waiting lines of a pairing, one flight after another."""
 
     def __init__(self, addresses: str, pairing: Pairing, own: OwnOrders, views: Views, events: Events, silent: float) -> None:
-        """`addresses` are HOST:PORT, one or several of one coordinator with commas between; one that has answered nothing for
+        """`addresses` are one or several HOST:PORT of one coordinator, separated by commas; one that is silent for
         `silent` seconds is left. Raises ValueError."""
         self._addresses = [address_of(text) for text in addresses.split(",")]
         self._words, self._silent = addresses, silent
@@ -97,13 +97,13 @@ class Upstream:
         self.is_holding = False  # whether lines wait for the end of a reset
 
     def wake(self) -> None:
-        """Something waits. All that comes in this turn of the loop goes together."""
+        """Called when a line waits. All lines of one turn of the loop go together."""
         if not self._is_due:
             self._is_due = True
             self._loop.call_soon(self._go_on)
 
     def look(self) -> None:
-        """Something may have changed: the next flight ends with a look."""
+        """Ends the next flight with a look, since something may have changed."""
         self._wants_look = True
         self.wake()
 
@@ -117,7 +117,7 @@ class Upstream:
         self._let_go()
 
     def _go_on(self) -> None:
-        """Does what is next. A view is fresh only for the flight right after it."""
+        """Takes the next step. A view is fresh only for the flight right after it."""
         self._is_due = False
         if self._task or self._is_sent:
             return
@@ -137,7 +137,7 @@ class Upstream:
         self._is_fresh = False
 
     def _send(self) -> None:
-        """The next flight goes out, or that whose answers did not come goes once more."""
+        """Sends the next flight, or the last one again if answers are missing."""
         judging = Judging(self._own, self._views, self._is_fresh, self._loop.time(), self._pairing.confirming(), self._gather)
         is_again = self._pairing.in_flight > 0
         lines, answered = self._pairing.take(judging)
@@ -195,7 +195,7 @@ class Upstream:
             self._flight_over()
 
     def _answer(self, line: Line, text: bytes) -> None:
-        """One line has its answer. Raises ValueError where it is no answer of a coordinator."""
+        """Handles one answer. Raises ValueError if it is not one of a coordinator."""
         answer = members_of(text)
         self.is_stopped = answer.get("refused") == Refusal.STOPPED
         if line.request.op in LOOKS:
@@ -261,7 +261,7 @@ class Upstream:
         self._pause = min(2 * self._pause, LONGEST_PAUSE)
 
     async def _find_count(self) -> None:
-        """The count is found over a connection of its own, by the library, in a thread."""
+        """Finds the count over a separate connection, by the library, in a thread."""
         try:
             self._own.found(await self._loop.run_in_executor(None, self._own.find, self._words))
         except Away:
@@ -288,7 +288,7 @@ class Upstream:
             self._break()
 
     def _break(self) -> None:
-        """The connection is gone in the midst of something. A server that ends connections at once is not asked at once."""
+        """Handles a broken connection. A server that ends connections at once is not asked again at once."""
         was_sent = self._is_sent
         self._let_go()
         self._own.broken()
@@ -304,7 +304,7 @@ class Upstream:
             link.transport.abort() if self._pairing.in_flight else link.transport.close()
 
     def _rest(self) -> None:
-        """Nobody waits: others may have the connection."""
+        """Ends the connection if nobody waits, so that others can have it."""
         if not (self._is_sent or self._task):
             self._let_go()
 
@@ -317,7 +317,7 @@ class Upstream:
         self._addresses.append(self._addresses.pop(0))
 
     def _later(self, name: str, seconds: float, call: Callable[[], None]) -> None:
-        """Makes a call after a while, unless one of this name is due already."""
+        """Schedules a call, unless one of this name is due already."""
         if name not in self._timers:
             def due() -> None:
                 del self._timers[name]
@@ -326,7 +326,7 @@ class Upstream:
 
 
 def members_of(text: bytes) -> dict[str, Any]:
-    """The members of an answer, but of a view. Raises ValueError."""
+    """Returns the members of an answer, except of a view. Raises ValueError."""
     if text.startswith(b'{"accepted":'):
         return {}
     answer = json.loads(text)
@@ -336,7 +336,7 @@ def members_of(text: bytes) -> dict[str, Any]:
 
 
 def address_of(text: str) -> tuple[str, int]:
-    """The host and the port of HOST:PORT. Raises ValueError."""
+    """Parses HOST:PORT. Raises ValueError."""
     host, colon, port = text.strip().rpartition(":")
     if not colon or not host or not port.isdigit() or not 0 < int(port) < 65536:
         raise ValueError(f"{text!r} is not an address: use HOST:PORT")

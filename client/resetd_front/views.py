@@ -1,4 +1,4 @@
-"""What the front knows of the nodes and links: the answer to its last look."""
+"""The front's view of the nodes and links: the answer to its last look."""
 
 from __future__ import annotations
 
@@ -10,18 +10,18 @@ MODES_OF_A_RESET = (b'"abort"', b'"converge"')
 
 
 class Views:
-    """The last view, as the line that the server said it with (without its line feed)."""
+    """The last view, as the server's line (without its line feed)."""
 
     def __init__(self) -> None:
         self.line = b""
-        self._rows = b""  # of the line, what has nodes and links
+        self._rows = b""  # the part of the line with nodes and links
         self._view: View | None = None
         self._in_reset: frozenset[int] | None = None
         self._behind: dict[int, frozenset[int]] = {}
         self.since = 0.0  # when the last reset was over
 
     def note(self, line: bytes, now: float = 0.0) -> bool:
-        """Takes a new answer to a look, and answers whether nodes or links differ from before. What is no view is left."""
+        """Accepts a new answer to a look, and returns whether nodes or links have changed. Ignores an answer that is no view."""
         rows = rows_of(line)
         if rows is None:
             return False
@@ -37,12 +37,12 @@ class Views:
 
     @property
     def is_in_reset(self) -> bool:
-        """Whether a reset is under way at some node."""
+        """Whether a reset is in progress at some node."""
         return any(mode in self._rows for mode in MODES_OF_A_RESET)
 
     @property
     def in_reset(self) -> frozenset[int]:
-        """The nodes of the resets that are under way: those that links connect with a node which a reset is at."""
+        """Returns the nodes connected with one at which a reset is in progress."""
         if self._in_reset is None:
             found = set[int]()
             for node in self.view.nodes if self.view and self.is_in_reset else ():
@@ -52,7 +52,7 @@ class Views:
         return self._in_reset
 
     def behind(self, number: int) -> frozenset[int]:
-        """The nodes that links connect with a node, itself among them, whose epoch is not confirmed."""
+        """Returns the nodes connected with a node, including itself, whose epoch is not confirmed."""
         if number not in self._behind:
             self._behind[number] = frozenset(node.node for node in self.view.connected(number) if node.epoch > node.confirmed) if self.view else frozenset()
         return self._behind[number]
@@ -69,6 +69,6 @@ class Views:
 
 
 def rows_of(line: bytes) -> bytes | None:
-    """The part of a view's line that has its links and nodes. A count of steps alone is no change."""
+    """Returns the part of a view's line with the links and nodes. A new count of steps alone is no change."""
     begin, end = line.find(b',"links":'), line.rfind(b',"settled":')
     return line[begin:end] if line.startswith(b'{"accepted":') and 0 < begin < end else None

@@ -1,4 +1,4 @@
-"""Connections to which each change is pushed, at most one view waiting for each."""
+"""Connections that get a view at each change, at most one waiting for each."""
 
 from __future__ import annotations
 
@@ -7,14 +7,14 @@ from collections import deque
 from collections.abc import Iterator
 from typing import Protocol
 
-AT_ONCE = 64  # watchers that get a view in one turn of the loop; others are served in between
+AT_ONCE = 64  # watchers that get the view in one turn of the loop; others are served in between
 
 
 class Watcher(Protocol):
     """A connection that watches."""
 
     def push(self, line: bytes) -> bool:
-        """Sends a line, unless an earlier one has not gone out: whether it was sent."""
+        """Sends a line, unless an earlier one is still waiting. Returns whether it was sent."""
 
 
 class Watchers:
@@ -38,7 +38,7 @@ class Watchers:
         return iter(list(self._all))
 
     def add(self, watcher: Watcher) -> None:
-        """The watcher has the newest view already."""
+        """Adds a watcher that has the newest view already."""
         self._all[watcher] = None
 
     def remove(self, watcher: Watcher) -> None:
@@ -46,7 +46,7 @@ class Watchers:
         self._behind.discard(watcher)
 
     def tell(self, line: bytes) -> None:
-        """There is a new view, which all get."""
+        """Publishes a new view to all watchers."""
         self._line = line
         self._due = deque(watcher for watcher in self._all if watcher not in self._behind)
         if self._due and not self._is_telling:
@@ -54,7 +54,7 @@ class Watchers:
             self._loop.call_soon(self._tell_some)
 
     def ready(self, watcher: Watcher) -> None:
-        """What was sent to a watcher has gone out."""
+        """Called when a watcher has taken its view."""
         if watcher in self._behind:
             self._behind.discard(watcher)
             self._push(watcher)
