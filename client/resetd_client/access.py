@@ -1,4 +1,4 @@
-"""What a user may do with a store's file: tried by a process of that user, in the order in which a start does it."""
+"""A trial of a user's access to a store's file, by a process of that user, with the calls of a server's start in their order."""
 
 from __future__ import annotations
 
@@ -118,7 +118,7 @@ def attempt(account: Account, path: str, tell: Callable[[list[object]], object])
 
 
 def lines_of(reader: int, seconds: float) -> list[list[str]]:
-    """The reports of the process until it ends, for at most this many seconds."""
+    """Returns the reports of the process until it ends, for at most this many seconds."""
     until, text = time.monotonic() + seconds, b""
     while select.select([reader], [], [], max(until - time.monotonic(), 0))[0]:
         if not (part := os.read(reader, 4096)):

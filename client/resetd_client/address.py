@@ -34,7 +34,7 @@ class Address(Protocol):
     is_front: bool  # whether it is a front, which also reports changes
 
     def connect(self, seconds: float) -> socket.socket:
-        """Opens a connection, each answer of which may take this many seconds. Raises Away and Untrusted."""
+        """Opens a connection whose answers may take this many seconds each. Raises Away and Untrusted."""
 
     def refusal(self) -> Untrusted | None:
         """Returns why a front ends each connection without an answer, if the reason is this client's certificate."""
@@ -141,8 +141,8 @@ class Credentials:
 
     @staticmethod
     def found(environment: Mapping[str, str] = os.environ) -> Credentials:
-        """The files named by RESETD_CERTIFICATE, RESETD_KEY and RESETD_AUTHORITY; for missing ones, the TOML file that RESETD_TLS
-        names has the keys `certificate`, `key` and `authority`. Raises Unreadable."""
+        """Returns the files named by RESETD_CERTIFICATE, RESETD_KEY and RESETD_AUTHORITY; for missing ones, those named by the keys
+        `certificate`, `key` and `authority` of the TOML file RESETD_TLS. Raises Unreadable."""
         path = environment.get("RESETD_TLS", "")
         in_file = read_credentials(path) if path else {}
         return Credentials(**{
@@ -211,7 +211,7 @@ def address_of(text: str, credentials: Credentials | None = None) -> Address:
 
 
 def host_and_port(text: str) -> tuple[str, int]:
-    """The host and the port of `HOST:PORT`. Raises BadWords."""
+    """Parses `HOST:PORT`. Raises BadWords."""
     host, colon, port = text.rpartition(":")
     if not host or not port.isascii() or not port.isdigit() or len(port) > 5 or not 0 < int(port) < 65536:
         raise BadWords(f"{text!r} is not an address: use HOST:PORT, unix:PATH or tls:HOST:PORT")

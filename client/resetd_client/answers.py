@@ -1,4 +1,4 @@
-"""What a coordinator answers to a line: a reply, a refusal or a fault, each a value with its name."""
+"""The answers of a coordinator to a line: a reply, a refusal or a fault, each a value with its name."""
 
 from __future__ import annotations
 
@@ -145,7 +145,7 @@ def members_of(line: str, where: str = "what answers") -> dict[str, Any]:
 
 
 def reply_of(answer: dict[str, Any]) -> Reply:
-    """The reply to an order. Raises Garbled."""
+    """Returns the reply to an order. Raises Garbled."""
     try:
         return Reply(str(answer["kind"]), int(answer["step"]))
     except (KeyError, ValueError, TypeError) as missing:

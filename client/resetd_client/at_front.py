@@ -90,7 +90,7 @@ class AtFront:
         return self._watched.wait(seconds)
 
     def descriptors(self) -> list[int] | None:
-        """What can be read once something may be new (`Watched.descriptors`)."""
+        """Returns the descriptors to wait for (`Watched.descriptors`)."""
         return self._watched.descriptors()
 
     # as a look

@@ -1,4 +1,4 @@
-"""A bell: wakes what waits with `select`, from another thread or from a signal's handler."""
+"""A bell: wakes a thread that waits with `select`, from another thread or from a signal's handler."""
 
 from __future__ import annotations
 

@@ -1,4 +1,4 @@
-"""Files that others make, change, replace and remove: which of them have changed, and a wait for that."""
+"""Waits for changes of files that others create, change, replace and remove."""
 
 from __future__ import annotations
 
@@ -30,7 +30,7 @@ class Changes:
         self._is_told = False  # whether the system reports each change from now on
 
     def descriptors(self) -> list[int] | None:
-        """What can be read once a file may have changed after the last `take`; None where `take` has to be called every
+        """Returns the descriptors to wait for after the last `take`; None if `take` has to be called every
         POLL_SECONDS."""
         return [self._inotify.fileno()] if self._inotify and self._is_told else None
 
@@ -79,7 +79,7 @@ class Changes:
         return changed
 
     def _folders(self) -> dict[str, list[str]]:
-        """The folders of the files, also those to which symbolic links lead, with the files of each."""
+        """Returns the folders of the files, including the targets of symbolic links, with the files of each."""
         folders: dict[str, list[str]] = {}
         for path in self._states:
             folders.setdefault(os.path.dirname(os.path.abspath(path)), []).append(path)

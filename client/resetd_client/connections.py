@@ -1,4 +1,4 @@
-"""The connections to a server on this machine, as the system lists them: who has the one that is served, and who waits."""
+"""The connections to a server on this machine, as the system lists them: which client is served, and which ones wait."""
 
 from __future__ import annotations
 
@@ -36,7 +36,7 @@ class Peer:
 
 
 def rows() -> list[Row]:
-    """The sockets of this network namespace."""
+    """Returns the sockets of this network namespace."""
     found: list[Row] = []
     for table in TABLES:
         try:
@@ -52,12 +52,12 @@ def row_of(words: list[str]) -> Row:
 
 
 def written(host: str, port: int) -> str:
-    """An address as the system writes it."""
+    """Returns an address as the system writes it."""
     return f"{int.from_bytes(socket.inet_aton(host), 'little'):08X}:{port:04X}"
 
 
 def read_address(text: str) -> str:
-    """An address of version 4 in the usual form; one of version 6 unchanged."""
+    """Returns an IPv4 address in its usual form, and an IPv6 address unchanged."""
     host, port = text.split(":")
     return f"{socket.inet_ntoa(int(host, 16).to_bytes(4, 'little'))}:{int(port, 16)}" if len(host) == 8 else text
 
@@ -78,6 +78,6 @@ def peers(host: str, port: int) -> list[Peer]:
 
 
 def having_open(inode: int) -> Iterator[int]:
-    """The processes that have a socket open."""
+    """Returns the processes that have a socket open."""
     name = f"socket:[{inode}]"
     return (process for process in processes() if name in links_of(process))

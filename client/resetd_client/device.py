@@ -20,7 +20,7 @@ def said(*words: str) -> str:
 
 
 def mount_of(path: str) -> str:
-    """The row of /proc/self/mountinfo for a file's mount: the longest matching one. Raises OSError."""
+    """Returns the row of /proc/self/mountinfo for a file's mount: the longest matching one. Raises OSError."""
     path = os.path.realpath(path)
     with open("/proc/self/mountinfo", encoding="utf-8") as lines:
         rows = [line.rstrip("\n") for line in lines]
@@ -30,7 +30,7 @@ def mount_of(path: str) -> str:
 
 
 def devices_of(path: str) -> list[str]:
-    """The names of a file's device, and of the disks below it; none if it is not on a block device."""
+    """Returns the names of a file's device and of the disks below it; none if it is not on a block device."""
     number = os.stat(path).st_dev
     link = f"/sys/dev/block/{os.major(number)}:{os.minor(number)}"
     if not os.path.exists(link):

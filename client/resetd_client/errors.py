@@ -1,4 +1,4 @@
-"""What the library raises: each is a `ResetdError`, and says whether it needs a person.
+"""The exceptions of the library: each is a `ResetdError`, and says whether it needs a person.
 
 `needs_person` is False if the program itself can continue: after `Away` it makes the same call again, and after `OutOfRun` it
 closes the connection of the message. It is True if the same call would fail in the same way until a person, or the program's
@@ -14,7 +14,7 @@ from typing import ClassVar
 
 
 class ResetdError(Exception):
-    """What all exceptions of the library have in common."""
+    """The base of all exceptions of the library."""
 
     needs_person: ClassVar[bool] = True
 

@@ -27,7 +27,7 @@ class Fence:
 
 
 class StoreWentBack(ResetdError):
-    """A resource keeps the count of a fence that no look at the coordinator's store can have brought: the store was put back, or the
+    """A resource keeps a count that is above that of the coordinator's store: the store was restored, or the
     member has an earlier generation than others. Needs a person: `resetctl restored`, and then a greater generation for all
     members."""
 
@@ -38,12 +38,12 @@ def count_of(generation: int, settled: int) -> int:
 
 
 def generation_of(count: int) -> int:
-    """The generation of a member with such a fence."""
+    """Returns the generation of a member with such a fence."""
     return count >> STEPS_BITS
 
 
 def check_generation(generation: int) -> None:
-    """Raises BadWords at a generation that no member can have."""
+    """Raises BadWords for an invalid generation."""
     if generation not in GENERATIONS:
         raise BadWords(f"a generation must be a whole number from 0 to {GENERATIONS[-1]}, not {generation}")
 

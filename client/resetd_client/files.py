@@ -29,8 +29,8 @@ def keep(path: str, text: str) -> None:
 
 
 def alone(path: str) -> int:
-    """A descriptor of an empty file at this path, which nobody else writes until it is closed. It may have been left there
-    by a kill."""
+    """Returns a descriptor of an empty file at this path, which nobody else writes until it is closed. The file may be left over
+    from a killed process."""
     while True:
         descriptor = os.open(path, os.O_WRONLY | os.O_CREAT | os.O_CLOEXEC | os.O_NOFOLLOW, 0o666)
         try:
@@ -129,7 +129,7 @@ def append(path: str, size: int, text: bytes) -> None:
 
 
 def read(path: str) -> str | None:
-    """The text of a file, None if there is none. Raises Unreadable if its bytes are not UTF-8."""
+    """Returns the text of a file, None if there is none. Raises Unreadable if its bytes are not UTF-8."""
     try:
         with open(path, encoding="utf-8") as file:
             return file.read()
@@ -140,7 +140,7 @@ def read(path: str) -> str | None:
 
 
 def read_bytes(path: str) -> bytes | None:
-    """The bytes of a file, None if there is none."""
+    """Returns the bytes of a file, None if there is none."""
     try:
         with open(path, "rb") as file:
             return file.read()
@@ -149,8 +149,8 @@ def read_bytes(path: str) -> bytes | None:
 
 
 def hold(folder: str, seconds: float = 0.0) -> IO[str]:
-    """Makes a folder, and holds it until the result is closed or the process ends. Raises Held, which names the process that
-    has it, if that has it for longer than this. (The lock is of one host: a folder on a network's file system may be held on two.)"""
+    """Creates a folder, and holds it until the result is closed or the process ends. Raises Held, with the process that
+    holds it, if that does not release it within this time. (The lock is of one host: a folder on a network file system may be held on two.)"""
     os.makedirs(folder, exist_ok=True)
     path = os.path.join(folder, "lock")
     lock = open(path, "a", encoding="utf-8")
@@ -171,6 +171,6 @@ def hold(folder: str, seconds: float = 0.0) -> IO[str]:
 
 
 def holder(path: str) -> str:
-    """The process that a lock's file names."""
+    """Returns the process that a lock file names."""
     number = (read(path) or "").strip()
     return f"process {number}" if number.isdigit() else "another process"

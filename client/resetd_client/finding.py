@@ -1,4 +1,4 @@
-"""What a look from outside has found, as a line for a person."""
+"""A finding of an inspection from outside, as a line for a person."""
 
 from __future__ import annotations
 
@@ -8,8 +8,8 @@ from dataclasses import dataclass
 
 @dataclass(frozen=True)
 class Finding:
-    """`fault` names the fault with which a start of the server would end because of it, `later` what a running server will
-    meet or meets, `left_out` what could not be looked at; each may be empty."""
+    """`fault` names the fault with which a start of the server would end because of it, `later` the fault that a running server
+    meets or will meet, `left_out` what could not be inspected; each may be empty."""
 
     about: str
     text: str
@@ -19,7 +19,7 @@ class Finding:
 
 
 def user_name(number: int) -> str:
-    """The name of a user, or the number if there is none."""
+    """Returns the name of a user, or the number if there is none."""
     try:
         return pwd.getpwuid(number).pw_name
     except KeyError:

@@ -1,4 +1,4 @@
-"""What looks at a coordinator again and again, until it is stopped."""
+"""The base of objects that look at a coordinator repeatedly, until they are stopped."""
 
 from __future__ import annotations
 
@@ -34,7 +34,7 @@ class Stopped(Exception):
 
 
 def check_every(seconds: float) -> None:
-    """Raises BadWords at a time between two looks that would let no time pass, or is no number."""
+    """Raises BadWords unless the time between two looks is a positive number."""
     if not seconds > 0:
         raise BadWords(f"{seconds} seconds between two looks: it must be more than 0")
 
@@ -55,7 +55,7 @@ class Following:
         self._asked: set[int] = set()  # nodes for which resets were asked, and none of which has talked since
 
     def look(self) -> View:
-        """One look at `show`, and all that it asks for."""
+        """Queries `show`, and does everything that is due."""
         raise NotImplementedError
 
     def stop(self) -> None:
@@ -64,7 +64,7 @@ class Following:
         self._bell.ring()
 
     def _look_patiently(self) -> View | None:
-        """A look, made again and again while the coordinator is away. None once `stop` was called."""
+        """Looks, repeatedly while the coordinator is away. Returns None once `stop` was called."""
         wait, is_told, past = 0.1, False, time.monotonic() + self.past_seconds
         while not self._is_stopping:
             try:
@@ -115,7 +115,7 @@ class Following:
                 wait_for([[self._bell.fileno()], descriptors(), changes.descriptors() if changes else []], left)
 
     def _next_wait(self, is_through: bool, every: float) -> float:
-        """How long to wait for a wake-up: less while the group is not through, since nothing wakes a member when another
+        """Returns how long to wait for a wake-up: less while the group is not through, since nothing wakes a member when another
         one confirms; longer each time, since a member that is down holds the others."""
         self._waits = 0 if is_through else min(self._waits + 1, MOST_WAITS)
         if not is_through and self._front and self._front.descriptors():

@@ -71,7 +71,7 @@ class Desk:
         self.telling = None
 
     def lines(self, boot: str) -> str:
-        """The instructions to its members (seats.py)."""
+        """Returns the instructions to its members (seats.py)."""
         run = "" if self.tag is None else f" {self.tag or '-'} {boot}"
         return "".join(f"{seat.name} {self.told.strip()}{run}\n" for seat in self.seats) if self.told else ""
 
@@ -122,7 +122,7 @@ class Gateway(Following):
                        "with this version")
 
     def look(self) -> View:
-        """One look at `show` for all members: publishes what they are to begin, confirms what they have begun, asks for resets,
+        """Queries `show` for all members: publishes the epochs to begin, confirms the begun ones, asks for resets,
         and looks again if it ordered something. Raises as `Member.look` does."""
         return self._look_from(self._view())
 

@@ -1,4 +1,4 @@
-"""What a monitoring check looks at: a coordinator's state now, and for how long it has been so."""
+"""A monitoring check: a coordinator's present state, and for how long each condition has lasted."""
 
 from __future__ import annotations
 
@@ -115,9 +115,9 @@ def oldest_wait(view: View, since: Since) -> float:
 
 
 def still_waves(view: View, since: Since, bounds: Bounds) -> list[str]:
-    """The waves that wait although no packet is in transit. A wave moves if a row of one of its nodes changes. While steps wait
-    for the disk it may wait with them. So it stands still if for long no look found such steps, or if that many were settled
-    meanwhile that its own are among them."""
+    """Returns the waves that do not move although no packet is in transit. A wave moves if a row of one of its nodes changes. It may
+    wait for the disk with pending steps; so it counts only if no look found pending steps for long, or if so much was settled
+    meanwhile that its own steps are included."""
     found: list[str] = []
     seen: set[int] = set()
     for node in view.nodes:

@@ -34,7 +34,7 @@ class History:
         return len(self._digests)
 
     def sync(self) -> None:
-        """Syncs the file as it was read: the process that wrote it may have been killed before its sync."""
+        """Syncs the file after reading it: the process that wrote it may have been killed before its sync."""
         files.sync(self._path)
 
     def add(self, digest: str) -> None:

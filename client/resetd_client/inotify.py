@@ -1,4 +1,4 @@
-"""The system's word that files in some folders have changed (Linux, inotify), by way of the C library."""
+"""Notifications of changed files in some folders (inotify of Linux), through the C library."""
 
 from __future__ import annotations
 

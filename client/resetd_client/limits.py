@@ -17,7 +17,7 @@ RANGES: Mapping[str, range] = {
 
 
 def check_number(name: str, value: object) -> None:
-    """Raises BadWords if a request's member of this name can't have this value. It judges no other names."""
+    """Raises BadWords if a request's member of this name can't have this value. It accepts other names."""
     limits = RANGES.get(name)
     if limits is None:
         return
@@ -26,13 +26,13 @@ def check_number(name: str, value: object) -> None:
 
 
 def check_order(order: Mapping[str, object]) -> None:
-    """Raises BadWords at the first number of an order that is out of its range."""
+    """Raises BadWords for the first number of an order that is out of its range."""
     for name, value in order.items():
         check_number(name, value)
 
 
 def said(limits: range) -> str:
-    """A range in words."""
+    """Returns a range in words."""
     return "a whole number below 2^64" if limits == WORDS else f"a whole number from {limits[0]} to {limits[-1]}"
 
 

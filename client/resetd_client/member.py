@@ -53,7 +53,7 @@ class Heard(NamedTuple):
 
 
 class Work(enum.Enum):
-    """How `begin` replaces the work, and so what must be on disk before it."""
+    """How `begin` replaces the work, which determines what must be on disk before it."""
 
     PARTS = enum.auto()  # part by part: "nothing begun" is synced before
     WHOLE = enum.auto()  # at once, together with its epoch, as one file that is renamed: nothing is synced before
@@ -67,7 +67,7 @@ class OutOfRun(ResetdError):
 
 
 class Member(Following):
-    """Looks at `show` whenever it is woken, and never trusts what woke it.
+    """One node's member: looks at `show` whenever it is woken, and trusts only the view.
 
     It calls `begin` with an epoch: that drops all present work and closes what is open to other members, loads the common start,
     stores it with the epoch, and returns only once that is on disk. `begun` is the epoch that is stored with the work, None for
@@ -191,7 +191,7 @@ class Member(Following):
                 return
 
     def wait_seconds(self, every: float) -> float:
-        """How long to wait for a wake-up: less while the group is not through."""
+        """Returns how long to wait for a wake-up: less while the group is not through."""
         return self._next_wait(self._run is not None or not self._is_there, every)
 
     def __enter__(self) -> Member:

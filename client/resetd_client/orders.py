@@ -1,4 +1,4 @@
-"""One client's orders, numbered so that each is carried out once, and the finding of a count that was lost."""
+"""One client's orders, numbered so that each is carried out once, and the recovery of a lost count."""
 
 from __future__ import annotations
 
@@ -42,7 +42,7 @@ def warn(text: str) -> None:
 
 
 class Kept(NamedTuple):
-    """The number of the last order that was taken, and the orders after it that were sent and have no answer yet."""
+    """The number of the last accepted order, and the orders after it that were sent and have no answer yet."""
 
     number: int
     pending: list[Order]
@@ -308,7 +308,7 @@ def find_count(port: Port, client: int, near: int = 0, most: int = MOST_TRIED, n
 
 
 def outwards(near: int, greatest: int) -> Iterator[int]:
-    """The numbers from 1 to `greatest`: the one after `near`, `near`, the one after that, the one before, and so
+    """Yields the numbers from 1 to `greatest`: the one after `near`, `near`, the one after that, the one before, and so
     on."""
     above, below = max(near, 0) + 1, min(max(near, 0), greatest)
     while above <= greatest or below >= 1:

@@ -1,4 +1,4 @@
-"""The party of a start: with whom it talks, as lines, and the digests that name it.
+"""The party of a start: its lines, and the digests that name it.
 
 A party has the line `NODE EPOCH` for each connected node and `A B INCARNATION` for each link between them. Its text has
 these lines in the order of their bytes, each with a line feed.

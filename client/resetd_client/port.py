@@ -29,7 +29,7 @@ class TooLong(BadWords):
 
 
 class Port:
-    """Asks a coordinator, one connection after the other, each closed at once: the port serves one at a time.
+    """Sends requests to a coordinator, over one connection after the other, each closed at once: the port serves one at a time.
 
     `addresses` are `HOST:PORT`, `unix:PATH` or `tls:HOST:PORT`, one or several with commas between, all of one
     coordinator, of which one serves at a time. It tries them in turn, beginning with the one that answered last, and
@@ -37,7 +37,7 @@ class Port:
 
     A view of another address than that of the last view counts only if it has as many settled steps (newest.py).
 
-    Any threads may share it: it keeps nothing between two calls but which address answered last, and how many steps it showed.
+    Any threads may share it: between two calls it keeps only the address that answered last, and the steps that it showed.
     """
 
     def __init__(self, addresses: str, seconds: float = REPLY_SECONDS, credentials: Credentials | None = None) -> None:
@@ -107,7 +107,7 @@ class Port:
             raise Garbled("close")
 
     def ask_many(self, requests: Sequence[Request]) -> Iterator[dict[str, Any] | NotTaken]:
-        """The answers to many requests, in their order, over few connections, each part in one write. A server may end
+        """Returns the answers to many requests, in their order, over few connections, each part in one write. A server may end
         a connection between two lines; then the rest goes over the next one. Raises Away if a connection brings no
         answer, or "not now"."""
         done = 0
@@ -134,11 +134,11 @@ class Port:
         return answers
 
     def _answer(self, address: Address, request: Request) -> str:
-        """The line that answers one request, over a new connection."""
+        """Returns the line that answers one request, over a new connection."""
         return next(self._lines(address, [request]))
 
     def _lines(self, address: Address, requests: Sequence[Request]) -> Iterator[str]:
-        """The lines that answer requests over one connection. If not all come, raises Away or Untrusted after the last."""
+        """Yields the lines that answer requests over one connection. If not all come, raises Away or Untrusted after the last."""
         with address.connect(self.seconds) as connection:
             for place in range(0, len(requests), AT_ONCE):
                 part = requests[place:place + AT_ONCE]
@@ -190,7 +190,7 @@ def spoken(connection: socket.socket, requests: Sequence[Request]) -> Iterator[s
 
 
 def line_of(request: Request) -> bytes:
-    """The line of a request. Raises TooLong."""
+    """Returns the line of a request. Raises TooLong."""
     line = json.dumps(dict(request), separators=(",", ":")).encode() + b"\n"
     if len(line) > MOST_BYTES + 1:
         raise TooLong(f"a line has at most {MOST_BYTES} bytes, and this request has {len(line) - 1}")

@@ -20,8 +20,8 @@ NETWORK = 0x40000000  # CLONE_NEWNET, for setns(2)
 
 
 def lock_holders(found: os.stat_result) -> list[int]:
-    """The processes of this machine that have a lock on a file. On some file systems a lock has another device's number
-    than the file: then it looks at what the process has open."""
+    """Returns the processes of this machine that have a lock on a file. On some file systems a lock has another device's number
+    than the file: then it looks at the open files of the process."""
     device = f"{os.major(found.st_dev):02x}:{os.minor(found.st_dev):02x}"
     try:
         with open("/proc/locks", encoding="utf-8") as lines:
@@ -58,7 +58,7 @@ def commanded(process: int) -> str:
 
 
 def file_limit(process: int) -> int | None:
-    """The size to which a process may let a file grow, None for any."""
+    """Returns a process's limit on the size of a file, None for no limit."""
     try:
         with open(f"/proc/{process}/limits", encoding="utf-8") as lines:
             row = next(line for line in lines if line.startswith("Max file size")).split()
@@ -68,7 +68,7 @@ def file_limit(process: int) -> int | None:
 
 
 def listening(host: str, port: int) -> set[int]:
-    """The processes that listen at an address, as far as this user may see them."""
+    """Returns the processes that listen at an address, as far as this user may see them."""
     wanted = {f"{int.from_bytes(socket.inet_aton(each), 'little'):08X}:{port:04X}" for each in (host, "0.0.0.0")}
     try:
         with open("/proc/net/tcp", encoding="utf-8") as lines:
@@ -124,7 +124,7 @@ class Pipe:
 
 
 def output_pipe(process: int) -> Pipe | None:
-    """The pipe that is a process's standard output, a FIFO too; None if it is something else."""
+    """Returns the pipe or FIFO that is a process's standard output; None if it is something else."""
     path = f"/proc/{process}/fd/1"
     try:
         name = os.readlink(path)

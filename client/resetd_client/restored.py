@@ -1,4 +1,4 @@
-"""After a restore: a reset in each group of linked nodes, so that no service takes its old start for the present one.
+"""After a restore: a reset in each group of linked nodes, so that no service mistakes its old start for the present one.
 
 A restored store may show as confirmed an epoch that a service began in another past. After the reset the node's epoch is higher
 and unconfirmed, so its service begins again at its next look, whatever it had begun before.

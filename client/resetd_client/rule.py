@@ -1,12 +1,12 @@
-"""The rule of a member: what it has to do when a view is shown to it, and what it has to store before.
+"""The rule of a member: the action that is due for a view, and the state to store before it.
 
 Nothing here reads or writes. The proofs about the rule, and about any members that follow it, assume only this:
 
 - a start talks only with those that were connected when it first talked, at the epochs that they had then;
 - no two starts of a node ever first talk with the same party.
 
-So the party names the run. If either would be broken, the member asks for a reset, which gives new epochs to all that
-links connect.
+So the party names the run. If either would be violated, the member asks for a reset, which gives new epochs to all
+connected nodes.
 """
 
 from __future__ import annotations
@@ -21,7 +21,7 @@ from .view import Node, View
 
 
 class Due(enum.Enum):
-    """What a member has to do."""
+    """The actions that can be due."""
 
     TALK = enum.auto()  # all that are connected are through, and its start may talk with them
     WAIT = enum.auto()  # for others, or for a reset that is under way
@@ -31,8 +31,8 @@ class Due(enum.Enum):
 
 @dataclass(frozen=True)
 class Kept:
-    """What a member keeps on the disk beside the history of its parties: the epoch of the work in hand, None for no
-    work; and with whom its present start first talked, None for nobody yet."""
+    """The state of a member on the disk beside the history of its parties: the epoch of its work, None for no
+    work; and the party with which its present start first talked, None for none yet."""
 
     begun: int | None = None
     party: Party | None = None

@@ -15,7 +15,7 @@ class NotCompared(Exception):
 
 @dataclass(frozen=True)
 class Reading:
-    """How many steps a file has at a moment, or why it is no store."""
+    """The number of steps in a file at a moment, or the reason why it is no store."""
 
     count: int | None
     why_not: str = ""

@@ -34,7 +34,7 @@ class Signals:
         self._path, self._kept = path, kept
 
     def lacking(self, view: View) -> list[tuple[int, int]]:
-        """The signals that the view has and the file lacks, each a node and its epoch. Raises OSError."""
+        """Returns the signals that the view has and the file lacks, each a node and its epoch. Raises OSError."""
         shown = {node.node: node.epoch for node in view.nodes}
         mark = self._read()
         with open(self._path, "rb") as file:

@@ -1,4 +1,4 @@
-"""Wake-ups: the reasons for a service to look. It trusts no line: each only says that something may be new."""
+"""Wake-ups: they make a service look. It trusts no line: each only means that something may be new."""
 
 from __future__ import annotations
 
@@ -11,7 +11,7 @@ from .changes import Changes, wait_for
 
 
 class Wake(enum.Enum):
-    """Why a wait is over."""
+    """The reason why a wait is over."""
 
     CAME = enum.auto()  # something may be new
     QUIET = enum.auto()  # the time is over

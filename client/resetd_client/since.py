@@ -1,4 +1,4 @@
-"""Since when something has lasted that a monitoring check sees from time to time."""
+"""Records since when a condition has lasted that a monitoring check sees from time to time."""
 
 from __future__ import annotations
 
@@ -10,7 +10,7 @@ from . import files
 
 
 class Seen(NamedTuple):
-    """When a thing was first seen, by the boot clock, and how many steps there were then."""
+    """The first sight of a condition: its time, by the boot clock, and the number of steps then."""
 
     when: float
     steps: int
@@ -26,11 +26,11 @@ class Since:
         self._new: dict[str, Seen] = {}
 
     def seconds(self, thing: str) -> float:
-        """For how long this has been seen; 0 if it is new."""
+        """Returns for how long this has been seen; 0 if it is new."""
         return self._now - self._seen(thing).when
 
     def grown(self, thing: str, steps: int) -> int:
-        """How many steps there are more than when this was first seen."""
+        """Returns the number of steps since this was first seen."""
         return max(steps - self._seen(thing, steps).steps, 0)
 
     def things(self, kind: str) -> list[str]:

@@ -52,7 +52,7 @@ class Half:
 
     @property
     def used(self) -> int:
-        """How many of the half's bytes are in use, its closed gate with them."""
+        """Returns the number of bytes of the half in use, including its closed gate."""
         return TOP + len(self.snapshot) + 1 + sum(len(body) + 5 for body in self.bodies)
 
     @property
@@ -82,7 +82,7 @@ class Store:
 
     @property
     def count(self) -> int:
-        """How many steps it has."""
+        """Returns its number of steps."""
         return self.batches[-1].last if self.batches else self.world.count
 
 
@@ -121,7 +121,7 @@ def read_half(read: Read, is_other: bool = False) -> Half:
 
 
 def one_pass(read: Read, size: int, is_other: bool) -> Half | None:
-    """One pass over a half; None if a checkpoint came in between.
+    """Makes one pass over a half. Returns None if a checkpoint came in between.
 
     A half is rewritten only while the other one is selected. So the selector is the same before and after the first reading of
     the top, and after the batches, and then the top is still the same: each checkpoint has a new count of steps.
@@ -148,19 +148,19 @@ def selected(read: Read) -> int:
 
 
 def top_of(read: Read, start: int) -> bytes:
-    """The version, the length of the snapshot, and the snapshot, as far as they go."""
+    """Returns the version, the length of the snapshot, and the snapshot, as far as they are there."""
     reading = read(start, TOP + MOST_SNAPSHOT)
     return reading[:TOP + int.from_bytes(reading[1:TOP], "big")]
 
 
 def walked(read: Read, size: int, index: int, top: bytes) -> Half:
-    """A half from its top to its first closed gate. A gate opens only once its body and the closed gate after that are
+    """Reads a half from its top to its first closed gate. A gate opens only once its body and the closed gate after that are
     written. So each gate is read by a call that began after the one before it was seen open, with the body between
     them. Raises NoStore."""
     start = HEADER + index * size
 
     def with_gate(place: int, length: int, most: int, what: str) -> tuple[bytes, int]:
-        """A field, and the gate after it."""
+        """Returns a field and the gate after it."""
         if length > most:
             raise NoStore("BadRecord", start + place - 4, f"{what} has {length} bytes, more than {most}")
         field = read(start + place, length + 1)
@@ -179,7 +179,7 @@ def walked(read: Read, size: int, index: int, top: bytes) -> Half:
 
 
 def reader_of(descriptor: int) -> Read:
-    """Reads from an open file, as far as it goes."""
+    """Returns a reader of an open file."""
     def read(place: int, length: int) -> bytes:
         parts = []
         while length and (part := os.pread(descriptor, length, place)):
@@ -200,7 +200,7 @@ def open_store(path: str) -> int:
 
 
 def read_store(path: str, is_other: bool = False) -> Store:
-    """The store on a file. Raises NoStore, Restless, OSError."""
+    """Reads the store in a file. Raises NoStore, Restless, OSError."""
     descriptor = open_store(path)
     try:
         return store_of(read_half(reader_of(descriptor), is_other))

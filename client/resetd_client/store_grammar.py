@@ -242,7 +242,7 @@ class Rows:
 
 
 def orders_of(batches: list[Batch]) -> Iterator[tuple[int, Ordered]]:
-    """The orders among the steps, each with the number of its step."""
+    """Returns the orders among the steps, each with the number of its step."""
     for batch in batches:
         for place, step in enumerate(batch.steps):
             if isinstance(step, Ordered):

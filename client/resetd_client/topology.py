@@ -1,4 +1,4 @@
-"""Topology files, and the orders that make a network what such a file says."""
+"""Topology files, and the orders that turn a network into that of a file."""
 
 from __future__ import annotations
 
@@ -35,14 +35,14 @@ class Network:
 
     @staticmethod
     def of(view: View) -> Network:
-        """What `show` says."""
+        """Returns the network that `show` prints."""
         return Network({node.node: node.group for node in view.nodes}, {pair(link.a, link.b) for link in view.links})
 
     def degree(self, node: int) -> int:
         return sum(node in link for link in self.links)
 
     def links_of(self, nodes: Iterable[int]) -> set[Pair]:
-        """The links with an end among these nodes."""
+        """Returns the links with an end among these nodes."""
         ends = set(nodes)
         return {link for link in self.links if ends & set(link)}
 
@@ -53,7 +53,7 @@ def pair(a: int, b: int) -> Pair:
 
 @dataclass(frozen=True)
 class Order:
-    """An order of a plan, with what a person should know of it."""
+    """An order of a plan, with a note for a person."""
 
     op: str
     members: dict[str, int]
@@ -132,14 +132,14 @@ def check_keys(table: dict[str, Any], required: set[str], optional: set[str], wh
 
 
 def number(value: Any, limits: range, what: str) -> int:
-    """A whole number of a range. Raises BadTopology."""
+    """Reads a whole number within a range. Raises BadTopology."""
     if not isinstance(value, int) or isinstance(value, bool) or value not in limits:
         raise BadTopology("BadValue", f"{what} must be a whole number from {limits[0]} to {limits[-1]}")
     return value
 
 
 def plan(have: Network, want: Network) -> list[Order]:
-    """The orders that turn one network into the other. They remove and add nodes whose group changes; then add nodes,
+    """Returns the orders that turn one network into the other. They remove and add nodes whose group changes; then add nodes,
     join links before they drop others, so that nobody is cut off meanwhile, and remove nodes. If a join has no room,
     they first drop a link that is to go, and the order says so."""
     now = Network(dict(have.groups), set(have.links))

@@ -1,4 +1,4 @@
-"""What `show` says: typed rows of nodes and links, and what a group knows of itself from them."""
+"""The view that `show` returns: typed rows of nodes and links, and the state of a group that follows from them."""
 
 from __future__ import annotations
 
@@ -55,7 +55,7 @@ class Part:
 
     @cached_property
     def party(self) -> Party:
-        """Each with its epoch, and their links: what names a run (party.py)."""
+        """Returns the party: each node with its epoch, and the links (party.py)."""
         return frozenset([*(f"{node.node} {node.epoch}" for node in self.nodes),
                           *(f"{link.a} {link.b} {link.incarnation}" for link in self.links)])
 
@@ -84,7 +84,7 @@ class View:
                 "nodes": [list(node) for node in self.nodes], "settled": self.settled}
 
     def node(self, number: int) -> Node | None:
-        """The row of a node, if it exists."""
+        """Returns the row of a node, if it exists."""
         return next((node for node in self.nodes if node.node == number), None)
 
     def part(self, number: int) -> Part:

@@ -1,4 +1,4 @@
-"""For which members a group waits: those that have not confirmed, since when, and their last sign of life."""
+"""The members for which a group waits: those that have not confirmed, since when, and their last sign of life."""
 
 from __future__ import annotations
 

@@ -180,7 +180,7 @@ class Watched:
             raise
 
     def note_order(self, step: int) -> None:
-        """An order that was sent over the connection was carried out as this step."""
+        """Notes that an order sent over the connection was carried out as this step."""
         if self._pushed is not None:
             self._pushed.least = max(self._pushed.least, step)
             self._newest.note_order(self._pushed.address, step)
@@ -222,7 +222,7 @@ class Watched:
                 return Wake.QUIET
 
     def descriptors(self) -> list[int] | None:
-        """What can be read once something may be new after the last wait; None while there is no connection, so that
+        """Returns the descriptors to wait for; None while there is no connection, so that
         `wait` has to be called."""
         return None if self._pushed is None else [self._pushed.fileno()]
 
@@ -276,7 +276,7 @@ class Watched:
 
 
 def view_of(line: str, where: str) -> View:
-    """The view of a pushed line. Raises NotTaken (Garbled, Faulted, Refused), and NotNow."""
+    """Returns the view of a pushed line. Raises NotTaken (Garbled, Faulted, Refused), and NotNow."""
     answer = members_of(line, where)
     try:
         return View.of(answer)
@@ -285,7 +285,7 @@ def view_of(line: str, where: str) -> View:
 
 
 def views(port: Port, seconds: float = 5.0) -> Iterator[View]:
-    """The views that a front at one of the port's addresses pushes over one connection: the present one, and one at each change.
+    """Yields the views that a front at one of the port's addresses pushes over one connection: the present one, and one at each change.
     Raises Away when the connection ends, or can't be opened within this many seconds, NotTaken, Untrusted, and BadWords if none
     of the addresses is a front's."""
     fronts = [address for address in port.addresses if address.is_front]

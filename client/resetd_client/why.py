@@ -1,5 +1,5 @@
-"""The cause of a fault of `resetd`, such as Device or NoMagic, at a store's file: it looks from outside, and locks, writes and
-keeps open nothing."""
+"""Finds the cause of a fault of `resetd`, such as Device or NoMagic, at a store's file, from outside: it locks and writes
+nothing."""
 
 from __future__ import annotations
 

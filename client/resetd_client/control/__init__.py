@@ -61,7 +61,7 @@ def is_within(path: str, folder: str) -> bool:
 
 
 def default_state() -> str:
-    """The folder for the numbers of a person's client."""
+    """Returns the folder for the numbers of a person's client."""
     if given := os.environ.get("STATE_DIRECTORY"):  # by systemd
         return given.split(":")[0]
     return os.path.join(os.environ.get("XDG_STATE_HOME") or os.path.expanduser("~/.local/state"), "resetctl")

@@ -74,13 +74,13 @@ def line_of(entry: Entry) -> Entry:
 
 
 def told(entry: Entry) -> str:
-    """An entry as a line: when, who, what, and the result."""
+    """Formats an entry: when, who, what, and the result."""
     parts = [str(entry["time"]), who(entry.get("who")), what(entry), came_of(entry)]
     return "  ".join(part for part in parts if part)
 
 
 def who(found: object) -> str:
-    """Who did it: the user, or the certificate, and from where."""
+    """Formats the actor: the user or the certificate, and its address."""
     if not isinstance(found, dict):
         return ""
     name = found.get("certificate") or found.get("user") or (f"uid {found['uid']}" if "uid" in found else "")
@@ -89,7 +89,7 @@ def who(found: object) -> str:
 
 
 def what(entry: Entry) -> str:
-    """The order, as `resetctl` takes it, or the event."""
+    """Formats the order as a `resetctl` command, or the event."""
     line = entry.get("line")
     if isinstance(line, dict):
         words = [str(value) for name, value in line.items() if name not in ("client", "number")]
@@ -98,7 +98,7 @@ def what(entry: Entry) -> str:
 
 
 def came_of(entry: Entry) -> str:
-    """The answer, or the reason why there is none."""
+    """Formats the answer, or the reason why there is none."""
     answer, parts = entry.get("answer"), list[str]()
     if isinstance(answer, dict):
         if "kind" in answer:

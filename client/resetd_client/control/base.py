@@ -32,7 +32,7 @@ def add_json(parser: argparse.ArgumentParser) -> None:
 
 
 def print_json(value: object) -> None:
-    """One line, compact, as the port answers."""
+    """Prints one compact line, like an answer of the port."""
     print(json.dumps(value, separators=(",", ":")), flush=True)
 
 
@@ -113,7 +113,7 @@ class Control:
             yield outcome
 
     def why(self, fault: NotTaken | Away) -> str:
-        """The message for a refusal, a fault or a silence: the cause that was found, or what to do."""
+        """Returns the message for a refusal, a fault or a silence: the cause, or what to do."""
         if isinstance(fault, NotNow):
             return f"the server answers {explained(fault, {})}"
         if isinstance(fault, Away):

@@ -1,4 +1,4 @@
-"""Measures a server: how many orders a second it carries out, and how long a wave takes."""
+"""Measures a server: its orders a second, and the time of a wave."""
 
 from __future__ import annotations
 
@@ -40,7 +40,7 @@ def bench(control: Control) -> int:
 
 
 def measured_orders(control: Control, book: Orders, view: View) -> dict[str, float]:
-    """Orders a second, one after the other and together; none if all nodes exist."""
+    """Measures orders a second, one after the other and together; none if all nodes exist."""
     node = next((node for node in reversed(NODES) if view.node(node) is None), None)
     if node is None:
         complain(f"all {len(NODES)} nodes are there: no orders are measured, since they would add and remove one")
@@ -55,7 +55,7 @@ def measured_orders(control: Control, book: Orders, view: View) -> dict[str, flo
 
 
 def measured_waves(control: Control, book: Orders, view: View) -> dict[str, float]:
-    """Milliseconds from the order to the view in which a whole group is ready again; of the largest group."""
+    """Measures the milliseconds from a reset to the view in which the whole of the largest group is ready again."""
     groups = [view.connected(node.node) for node in view.nodes]
     if not groups or not control.words.waves:
         return {}
@@ -66,7 +66,7 @@ def measured_waves(control: Control, book: Orders, view: View) -> dict[str, floa
 
 
 def wave(control: Control, book: Orders, node: int) -> None:
-    """One reset, until `show` has all nodes that it reaches ready at a new epoch. Raises Away after a minute."""
+    """Orders one reset, and waits until all nodes that it reaches are ready at a new epoch. Raises Away after a minute."""
     before = {row.node: row.epoch for row in control.show().connected(node)}
     carried_out(control, book, [{"op": "reset", "node": node}])
     until = time.monotonic() + WAVE_SECONDS
@@ -83,7 +83,7 @@ def carried_out(control: Control, book: Orders, orders: list[Order]) -> None:
 
 
 def timed(call: Callable[[], object]) -> float:
-    """How many seconds a call takes."""
+    """Returns the seconds that a call takes."""
     began = time.perf_counter()
     call()
     return time.perf_counter() - began

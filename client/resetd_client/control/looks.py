@@ -68,8 +68,8 @@ def watch(control: Control) -> int:
 
 
 def looked(control: Control) -> list[str]:
-    """Two lines: a mark for each node's mode, with the count of steps; and the nodes that are not through. Or one line
-    that says why there is no view."""
+    """Returns two lines: a mark for each node's mode, with the count of steps; and the nodes that are not through. Or one line
+    with the reason why there is no view."""
     try:
         view = control.port.show()
     except NotNow as not_now:

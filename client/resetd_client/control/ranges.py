@@ -1,4 +1,4 @@
-"""Numbers among the words of a command: each within its range, or the words are wrong."""
+"""The numbers among a command's arguments, each checked against its range."""
 
 from __future__ import annotations
 
@@ -14,7 +14,7 @@ MOST_FENCE_COUNT = (1 << 63) - 1
 
 
 def span(text: str) -> float:
-    """Seconds, from 0 on."""
+    """Seconds, at least 0."""
     try:
         seconds = float(text)
     except ValueError:
@@ -44,7 +44,7 @@ def of(name: str) -> Callable[[str], int]:
 
 
 def count(text: str) -> int:
-    """How many, one at least."""
+    """A count of at least one."""
     if not is_number(text, 1 << 64) or int(text) == 0:
         raise argparse.ArgumentTypeError(f"{text!r} is not a count")
     return int(text)
@@ -58,21 +58,21 @@ def fence_count(text: str) -> int:
 
 
 def amount(text: str) -> int:
-    """How many, perhaps none."""
+    """A count, possibly zero."""
     if not is_number(text, 1_000_000):
         raise argparse.ArgumentTypeError(f"{text!r} is not a count")
     return int(text)
 
 
 def some_orders(text: str) -> int:
-    """How many orders, two at least."""
+    """A count of at least two."""
     if (value := amount(text)) < 2:
         raise argparse.ArgumentTypeError(f"{text!r} are too few")
     return value
 
 
 def is_number(text: str, most: int) -> bool:
-    """Whether a text is digits, and no more of them than this number has."""
+    """Whether a text is digits, at most as many as this number has."""
     return text.isascii() and text.isdigit() and len(text) <= len(str(most))
 
 

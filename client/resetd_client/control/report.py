@@ -113,7 +113,7 @@ def process_text(path: str) -> str:
 
 
 def found(part: Part) -> bytes:
-    """The content of a part; if it can't be found, the reason."""
+    """Returns the content of a part; if there is none, the reason."""
     try:
         content = part.find()
     except (Away, NotTaken, NoStore, Restless, OSError, ValueError) as fault:

@@ -68,7 +68,7 @@ def steps(control: Control) -> int:
 
 
 def store_members(store: Store) -> dict[str, object]:
-    """What `steps` prints, as the members of a JSON object."""
+    """Returns the output of `steps` as the members of a JSON object."""
     return {"batches": [{"first": batch.first, "steps": [str(step) for step in batch.steps]} for batch in store.batches],
             "half": store.half.index, "snapshot": store.world.count,
             "snapshot_orders": [{"order": str(session), "step": session.step}
