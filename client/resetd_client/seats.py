@@ -1,4 +1,4 @@
-"""A member behind a gateway, from either side: its folder, and the one file in which the gateway tells all its members what to do.
+"""A member behind a gateway, from either side: its folder, and the one file with the instructions to all members.
 
     FOLDER/told/members    the gateway's, put in place as a whole; a line for each member:
         NAME EPOCH NUMBER             begin this epoch, if NUMBER is above that of `begun`. It is greater each time, since an
