@@ -63,9 +63,9 @@ fn carry_out<
     }
 }
 
-/// Creates a store in an absent or empty file, with the nodes and links of a topology file, prints its
-/// number of steps, and returns the exit status. The topology is read and checked before the file is
-/// opened.
+/// Creates a store in an absent or empty file, with the nodes and links of a topology file, prints
+/// its number of steps, and returns the exit status. The topology is read and checked before the
+/// file is opened.
 pub fn init<S: Files<File = File> + AllocGlobal, R: Read, W: Write, E: Write>(
     rt: &S,
     file: &str,
@@ -96,8 +96,8 @@ pub fn migrate<S: Files<File = File> + AllocGlobal, R: Read, W: Write, E: Write>
     migrate_in(rt.alloc(), &mut folder, file, streams)
 }
 
-/// Prints that the store in a file is legal, with its number of steps, or the first predicate that its
-/// snapshot violates, and returns the exit status: 1 for a violation.
+/// Prints that the store in a file is legal, with its number of steps, or the first predicate that
+/// its snapshot violates, and returns the exit status: 1 for a violation.
 pub fn check<S: Files<File = File> + AllocGlobal, R: Read, W: Write, E: Write>(
     rt: &S,
     file: &str,

@@ -20,8 +20,8 @@ use coord_disk::{Disk, Takable};
 use coord_store::Store;
 use std::alloc::Global;
 
-/// Creates a store on an empty disk and commits the nodes and links of a topology at once. If one of
-/// them is refused, the store is left empty.
+/// Creates a store on an empty disk and commits the nodes and links of a topology at once. If one
+/// of them is refused, the store is left empty.
 pub fn create_store<D: Disk + Takable>(
     alloc: Global,
     disk: D,

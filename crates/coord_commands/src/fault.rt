@@ -14,7 +14,8 @@ use std::alloc::AllocError;
 use std::fmt;
 use std::io::{Error, ErrorKind};
 
-/// A fault that ends a command early. Each has a name, printed on standard error, and an exit status.
+/// A fault that ends a command early. Each has a name, printed on standard error, and an exit
+/// status.
 #[derive(Clone, Copy, Debug, PartialEq, Eq)]
 pub enum Fault {
     /// The arguments were refused.

@@ -10,8 +10,9 @@ use std::io;
 use std::io::Read;
 use std::rt::Files;
 
-/// A folder of named disks and texts. `holds` is the content of a named disk, and `says` the bytes of
-/// a named text, if they are known. Nothing is known of real files, everything of disks in memory.
+/// A folder of named disks and texts. `holds` is the content of a named disk, and `says` the bytes
+/// of a named text, if they are known. Nothing is known of real files, everything of disks in
+/// memory.
 pub trait Folder {
     /// A disk under a name.
     type Disk: Disk + Send + Takable;

@@ -18,9 +18,9 @@ use coord_world::World;
 use std::alloc::{AllocError, Global};
 use std::io::{Read, Write};
 
-/// Prints that the store on the named disk is legal, with its number of steps, or the first predicate
-/// that its snapshot violates, and returns the exit status: 1 for a violation. The disk is opened for
-/// reading only.
+/// Prints that the store on the named disk is legal, with its number of steps, or the first
+/// predicate that its snapshot violates, and returns the exit status: 1 for a violation. The disk
+/// is opened for reading only.
 pub fn check_in<F: Folder, R: Read, W: Write, E: Write>(
     alloc: Global,
     folder: &F,
@@ -58,8 +58,8 @@ fn check_at<F: Folder, W: Write>(
     check_store(alloc, disk, output)
 }
 
-/// Prints the nodes and links of the store on the named disk, and returns the exit status. The disk is
-/// opened for reading only.
+/// Prints the nodes and links of the store on the named disk, and returns the exit status. The disk
+/// is opened for reading only.
 pub fn show_in<F: Folder, R: Read, W: Write, E: Write>(
     alloc: Global,
     folder: &F,

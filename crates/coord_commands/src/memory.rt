@@ -18,8 +18,8 @@ pub struct Named {
     pub bytes: Vec<u8>,
 }
 
-/// A folder of one named disk in memory, and texts, all of them known. While the disk is taken it is
-/// absent; a disk of another name can't be opened.
+/// A folder of one named disk in memory, and texts, all of them known. While the disk is taken it
+/// is absent; a disk of another name can't be opened.
 #[derive(Drop)]
 pub struct MemFolder {
     pub alloc: Global,

@@ -50,8 +50,8 @@ pub fn run_program<
 }
 
 /// Opens a folder for reading, so that each standard descriptor that was closed when the program
-/// began is taken, and a read or write of it fails. Otherwise a file that is opened later would get its
-/// number, and output would go into that file.
+/// began is taken, and a read or write of it fails. Otherwise a file that is opened later would get
+/// its number, and output would go into that file.
 fn take_descriptors<S: Files<File = File>>(rt: &S) -> [io::Result<File>; 3] {
     [
         File::open(rt, "/"),

@@ -196,8 +196,8 @@ fn serve_and_report<
     }
 }
 
-/// Returns a listener at an address if a descriptor is left for a connection: without one the server
-/// would listen, and answer nobody.
+/// Returns a listener at an address if a descriptor is left for a connection: without one the
+/// server would listen, and answer nobody.
 fn listening<S: Net>(rt: &S, address: SocketAddrV4) -> io::Result<S::Listener> {
     let listener = TcpListener::bind(rt, SocketAddr::V4(address))?;
     let spare = listener.try_clone()?;

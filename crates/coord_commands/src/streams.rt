@@ -5,8 +5,8 @@ ghost use Rattle.coord_commands.specs.Streams.{StreamsState};
 use std::io::{Read, Write};
 use std::marker::Model;
 
-/// The input, the output and standard error of a run. A contract sees the three themselves and their
-/// known contents.
+/// The input, the output and standard error of a run. A contract sees the three themselves and
+/// their known contents.
 #[derive(Drop)]
 pub struct Streams<R: Read, W: Write, E: Write> {
     pub input: R,

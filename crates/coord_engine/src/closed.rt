@@ -13,21 +13,21 @@ use coord_world::World;
 use std::error::Error;
 use std::fmt;
 
-/// Why an engine was not taken apart.
+/// The reason for which an engine was not closed.
 #[derive(Clone, Copy, Debug, PartialEq, Eq, Drop)]
 pub enum CloseFault {
-    /// A flight is out. Every call of this crate gives its flight back.
+    /// A flight is out. Every call of this crate returns its flight.
     FlightOut,
     /// A share was not returned.
     SharesMissing,
     /// The shares' notes are not the steps that were accepted since the engine was made.
     NotNamed,
-    /// A step that callers have seen to be settled is not.
+    /// A step that callers have seen as settled is not.
     NotSettled,
 }
 
 impl CloseFault {
-    /// From 1 to 4.
+    /// Returns its number, from 1 to 4.
     pub fn number(self) -> u8
         ensures { result ≡ fault_number self }
     {

@@ -27,8 +27,8 @@ use std::sync::ledger::Blank;
 use std::sync::{Condvar, Mutex, MutexGuard, Wait};
 use std::time::Clock;
 
-/// What a flush answers whose flight was committed with this answer, and then gave these releases as
-/// it came back: a flight that was not settled releases nothing.
+/// Returns the result of a flush whose flight was committed with this result and came back with
+/// these releases: a flight that was not settled releases nothing.
 fn answer_of<L: Origin>(
     committed: Result<(), CommitFault>,
     releases: Released<L>,
@@ -49,11 +49,11 @@ fn answer_of<L: Origin>(
 #[derive(Drop)]
 pub struct Engine<D: Disk, L: Origin> {
     pub(crate) guarded: Mutex<Guarded<D, L>>,
-    /// What flights read, and the value under the lock writes.
+    /// The history that flights read and the value under the lock writes.
     pub(crate) history: MonotoneLog,
-    /// On which callers wait for their replies.
+    /// The condition on which callers wait for their replies.
     pub(crate) changed: Condvar,
-    /// On which flushers wait for steps.
+    /// The condition on which flushers wait for steps.
     pub(crate) work: Condvar,
     ghost here: { history ≡ L.history },
 }
@@ -100,8 +100,8 @@ impl<D: Disk, L: Origin> Engine<D, L> {
         guarded.share()
     }
 
-    /// Accepts a step as the ledger does, and notes it at the end of the caller's share. A repeat is
-    /// not noted. Once the engine is finishing, it is refused as `Stopped`.
+    /// Accepts a step as the ledger does, and notes it at the end of the caller's share. A repeat
+    /// is not noted. Once the engine is finishing, it is refused as `Stopped`.
     pub fn submit<R: Wait>(
         &self,
         rt: &R,
@@ -137,9 +137,9 @@ impl<D: Disk, L: Origin> Engine<D, L> {
         }
     }
 
-    /// Waits until the ticket's step is settled, and gives its reply. `Stranger` refuses a ticket
-    /// of another ledger, and `Stopped` one whose step will not be settled any more; both give it
-    /// back. A reader reads on: the answer is so at a moment of which it has read the settled steps.
+    /// Waits until the ticket's step is settled, and returns its reply. `Stranger` refuses a ticket
+    /// of another ledger, and `Stopped` one whose step will not be settled any more; both return
+    /// it. A reader reads on: the answer is that of a moment whose settled steps it has read.
     pub fn collect<R: Wait>(
         &self,
         rt: &R,
@@ -201,8 +201,8 @@ impl<D: Disk, L: Origin> Engine<D, L> {
         guarded.ledger().show(seen)
     }
 
-    /// How many steps it keeps: those that its ledger had accepted when the engine was made, and all
-    /// since.
+    /// Returns the number of kept steps: those that its ledger had accepted when the engine was
+    /// made, and all since.
     pub fn kept<R: Wait>(&self, rt: &R) -> usize
         ensures { AtSomeMoment (based_on D.model L.base L.before) (λ g. result ≡
             length g.ledger.log.trail) }
@@ -212,7 +212,7 @@ impl<D: Disk, L: Origin> Engine<D, L> {
         guarded.ledger().trail().len()
     }
 
-    /// The packets that may have been lost, to be sent again as of step 0.
+    /// Returns the packets that may have been lost, to be sent again as of step 0.
     pub fn resend<R: Wait>(&self, rt: &R) -> Result<Released<L>, AllocError>
         ensures { IfOk result (λ releases. AtSomeMoment (based_on D.model L.base L.before)
             (SendsAgain {D = D} releases)) }
@@ -249,8 +249,8 @@ impl<D: Disk, L: Origin> Engine<D, L> {
         guarded.begin(&self.history)
     }
 
-    /// Takes a flight back, whether it was committed or not, and wakes all that wait. If there is no memory for
-    /// that, it tries again after a rest.
+    /// Takes a flight back, committed or not, and wakes all waiting threads. If memory for that
+    /// runs out, it tries again after a rest.
     pub(crate) fn end<R: Wait + Clock>(&self, rt: &R, flight: OwnFlight<D, L>) -> Released<L>
         ensures released { result ≡ releases_in flight flight.mark }
         ensures back { AtSomeMoment (based_on D.model L.base L.before) (ComesBack flight) }
@@ -274,7 +274,7 @@ impl<D: Disk, L: Origin> Engine<D, L> {
         unreachable!()
     }
 
-    /// From now on no step is accepted. Pending steps are still settled. No clause can state the
+    /// Ends the acceptance of steps. Pending steps are still settled. No clause can state the
     /// effect of a call under a lock: the contract of `Guarded::finish` does.
     pub fn finish<R: Wait>(&self, rt: &R) {
         let due = self.guarded.lock(rt).finish();
@@ -330,10 +330,11 @@ impl<D: Disk, L: Origin> Engine<D, L> {
         }
     }
 
-    /// Takes the engine apart in any case: as `close` does; or, where `close` refuses these shares,
-    /// whatever they noted, and says why. All that `close` says of the disk and of what writes the
-    /// history is so in either case; only whose the steps are is then not known. A flight that is out
-    /// would be waited for without end; no call of this crate keeps one. It takes no memory.
+    /// Takes the engine apart in any case: like `close`; or, if `close` refuses these shares,
+    /// whatever they noted, with the reason. Everything that `close` states of the disk and of the
+    /// history's writer holds in either case; only the callers of the steps are then unknown. A
+    /// flight that is out would be awaited forever; no call of this crate keeps one. It allocates
+    /// nothing.
     pub fn retire<R: Wait + Clock>(self, rt: &R, shares: Vec<Share<L>>, seen: &Seen) -> Retired<D>
         requires { L.parts ≡ 65536 }
         ensures left { AtSomeMoment (based_on D.model L.base L.before)

@@ -1,4 +1,4 @@
-//! Flights on demand; their releases are handed to a port.
+//! The flusher: flushes on demand, and hands the releases to a port.
 
 ghost use Rattle.std.specs.Prelude.{◌≡◌, false, true, length};
 ghost use Rattle.std.specs.Sync.Mutex.{mutex_guard_value};
@@ -19,23 +19,23 @@ use std::sync::{MutexGuard, Wait};
 use std::time::{Clock, Duration, Instant};
 use std::{io, thread};
 
-/// How many milliseconds a flight waits for packets that are in hand.
+/// The milliseconds for which a flight waits for packets in hand.
 const TIMEOUT: u64 = 5;
 
 /// A flight waits for returning callers for at most this part of the last flight's time. A wait in
 /// vain costs a sixteenth of a flight; a caller who comes in time saves a whole one.
 const CALLERS_PART: u32 = 16;
 
-/// How many milliseconds a flusher that found no memory waits before it tries again.
+/// The milliseconds for which a flusher without memory rests before it tries again.
 const REST: u64 = 1;
 
-/// Waits so long.
+/// Waits for this many milliseconds.
 pub(crate) fn rest<R: Clock>(rt: &R) {
     thread::sleep(rt, Duration::from_millis(REST));
 }
 
-/// How long to wait for callers after a flight that left at `start`; not at all if no clock can be
-/// read.
+/// Returns how long to wait for callers after a flight that left at `start`: not at all if no clock
+/// can be read.
 fn timeout_since<R: Clock>(rt: &R, start: io::Result<Instant>) -> Duration {
     let Ok(start) = start else {
         return Duration::ZERO;
@@ -53,7 +53,7 @@ impl<D: Disk, L: Origin> Engine<D, L> {
         self.guarded.lock(rt).raise_in_hand(count);
     }
 
-    /// Counts down by the packets that are in nobody's hand any more.
+    /// Subtracts the packets that nobody has in hand any more.
     fn let_go<R: Wait>(&self, rt: &R, count: u64) {
         if count == 0 {
             return;
@@ -63,7 +63,7 @@ impl<D: Disk, L: Origin> Engine<D, L> {
         lock.unlock();
     }
 
-    /// Takes the lock once something can be flushed, or nothing will be any more.
+    /// Takes the lock once something can be flushed, or nothing ever will.
     fn lock_for_flight<'g, R: Wait>(&'g self, rt: &R) -> MutexGuard<'g, Guarded<D, L>>
         ensures { is_idle (mutex_guard_value result) ≡ false }
     {
@@ -110,8 +110,8 @@ impl<D: Disk, L: Origin> Engine<D, L> {
     }
 }
 
-/// Asks a port for a delivery. Whether a packet is in its hand by that: a signal is no packet, and
-/// one may be lost.
+/// Requests a delivery from a port. Returns whether the port now has a packet in hand: a signal is
+/// no packet, and a packet may be lost.
 fn ask<P: Port>(
     port: &mut P,
     history: &MonotoneLog,
@@ -132,7 +132,8 @@ fn ask<P: Port>(
     }
 }
 
-/// Asks a port for a delivery for each release, in order. How many packets are in its hand by that.
+/// Requests a delivery from a port for each release, in order. Returns the number of packets that
+/// the port now has in hand.
 fn ask_for_all<P: Port>(
     port: &mut P,
     history: &MonotoneLog,
@@ -158,8 +159,8 @@ fn ask_for_all<P: Port>(
     in_hand
 }
 
-/// Hands all that was released to a port that may be asked for it, in order and each delivery once, has
-/// it hand that on, and answers how much it was. What the port answers that it has lost is lost.
+/// Requests each delivery of these releases from a port, once and in order, makes it hand them on,
+/// and returns their number. Packets that the port reports as lost are lost.
 pub fn hand_over<D: Disk, L: Origin, P: Port, R: Wait>(
     rt: &R,
     engine: &Engine<D, L>,
@@ -184,8 +185,8 @@ pub fn hand_over<D: Disk, L: Origin, P: Port, R: Wait>(
     count
 }
 
-/// What a flusher knows of its last flush: how long the next flight waits for callers that it
-/// answered, and whether it found no memory, so that a rest is due.
+/// The outcome of a flusher's last flush: how long the next flight waits for the answered callers,
+/// and whether memory ran out, so that a rest is due.
 #[derive(Drop)]
 struct Pace {
     timeout: Duration,
@@ -193,7 +194,7 @@ struct Pace {
 }
 
 impl Pace {
-    /// Before the first flush.
+    /// Returns the state before the first flush.
     fn at_first() -> Self
         ensures { result.rest_is_due ≡ false }
     {
@@ -212,7 +213,7 @@ impl Pace {
     }
 }
 
-/// Flushes, unless a rest is due, and notes how the flusher goes on.
+/// Flushes, unless a rest is due, and notes how the flusher continues.
 fn flush<D: Disk, L: Origin, R: Wait + Clock>(
     rt: &R,
     engine: &Engine<D, L>,

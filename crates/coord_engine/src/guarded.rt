@@ -1,7 +1,6 @@
 //! The value under an engine's lock: the ledger, and a count of the callers' accepted steps.
 //!
-//! What each call of an engine does is the contract of a method here; the engine takes the lock and
-//! calls it.
+//! Each call of an engine takes the lock and calls a method here, whose contract states its effect.
 
 ghost use Rattle.std.specs.Prelude.{◌≡◌, ◌<◌, [], IfNone, IfSome, None};
 ghost use Rattle.coord_engine.specs.MonotoneLog.{Beginning};
@@ -25,15 +24,15 @@ use std::alloc::Global;
 use std::marker::Model;
 use std::sync::ledger::{Blank, Book, Share as Part};
 
-/// How many shares an engine gives out; one more part of the count stays with it.
+/// The most shares of an engine; one more part of the count stays with it.
 const MOST_SHARES: u32 = 65_535;
 
 /// The value under the lock. Contracts see `GuardedState` (`specs/State.antt`).
 ///
 /// Its type keeps, beside what the ledger's type keeps, that the trail is that of the ledger that
-/// `L` names, grown by as many steps as all shares have noted, that no flight is out once the ledger
-/// has stopped, and that a crash at any moment since the engine was made left only worlds after the
-/// first of its steps (`specs/Past.antt`).
+/// `L` names, grown by as many steps as all shares have noted, that no flight is out once the
+/// ledger has stopped, and that a crash at any moment since the engine was made left only worlds
+/// after the first of its steps (`specs/Past.antt`).
 #[derive(Drop)]
 pub struct Guarded<D: Disk, L: Origin> {
     alloc: Global,
@@ -42,7 +41,7 @@ pub struct Guarded<D: Disk, L: Origin> {
     book: Book<L>,
     /// Has written the steps of earlier instances, and after them the settled ones.
     writer: LogAuthority,
-    /// The parts of the count that were not given out.
+    /// The parts of the count that no share has.
     rest: Part<L>,
     given: u32,
     start: usize,
@@ -81,8 +80,8 @@ impl<D: Disk, L: Origin> Model for Guarded<D, L> {
 }
 
 impl<D: Disk, L: Origin> Guarded<D, L> {
-    /// Over a ledger whose store is at home, and which `L` names. The blank has 65,536 parts, and the
-    /// steps of earlier instances are written in the history.
+    /// Wraps a ledger whose store is at home, and which `L` names. The blank has 65,536 parts, and
+    /// the history has the steps of earlier instances.
     pub fn new(
         alloc: Global,
         blank: Blank,
@@ -137,14 +136,14 @@ impl<D: Disk, L: Origin> Guarded<D, L> {
         })
     }
 
-    /// The ledger.
+    /// Returns the ledger.
     pub fn ledger(&self) -> &Ledger<D>
         ensures { result.now ≡ self.now.ledger }
     {
         &self.ledger
     }
 
-    /// From now on no step is accepted. A flusher that waits for steps has to end.
+    /// Ends the acceptance of steps. A waiting flusher has to end.
     pub fn finish(&mut self) -> PendingWake
         ensures { self.new ≡ with_finish self.old }
     {

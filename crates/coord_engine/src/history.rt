@@ -15,14 +15,14 @@ use std::collections::LinkedList;
 use std::marker::{Brand, Model, PhantomData};
 use std::sync::Arc;
 
-/// What a token knows: a beginning of the history that it has read, and one that another token has read. No
-/// value of it is made.
+/// The ghost state of a token: a prefix of the history that it has read, and one that another token
+/// has read. No value of it exists.
 pub struct Known {
     pub read: LinkedList<Step>,
     pub returned: LinkedList<Step>,
 }
 
-/// The rule of all tokens: one history begins with what each of them knows, and the first one has
+/// The rule of all tokens: the prefix of each is a prefix of one history, and the first token has
 /// read all of it.
 pub struct OneHistory;
 
@@ -35,10 +35,10 @@ impl TableRule<(), Known, ()> for OneHistory {
     ghost first = { λ _. knows [] [] };
 }
 
-/// A token for a part of the known steps.
+/// Returns a token for a part of the known steps.
 type Pass = Seat<(), Known>;
 
-/// Names steps that a history is to have, or that a token has read.
+/// Names steps to be written to a history, or that a token has read.
 trait NamedSteps {
     ghost use Rattle.std.specs.Prelude.{List};
     ghost use Rattle.coord_types.specs.declared.steps.Step.{Step};
@@ -52,7 +52,7 @@ impl NamedSteps for Brand {
     ghost steps = { [] };
 }
 
-/// The first token reads on, in a history that it writes on.
+/// Reads on: the first token extends the history and its own prefix.
 struct WritesOn<G: NamedSteps> {
     of: PhantomData<G>,
 }
@@ -63,7 +63,7 @@ impl<G: NamedSteps> Play<(), Known> for WritesOn<G> {
     ghost then = { IsWrittenOn G.steps };
 }
 
-/// The first token compares the prefix of another token with its own.
+/// Compares the prefix of another token with that of the first token.
 struct Compares;
 
 impl Play<(), Known> for Compares {
@@ -72,7 +72,7 @@ impl Play<(), Known> for Compares {
     ghost then = { IsCompared };
 }
 
-/// A token reads all that is written.
+/// Makes a token read everything written.
 struct ReadsOn;
 
 impl Play<(), Known> for ReadsOn {
@@ -81,7 +81,7 @@ impl Play<(), Known> for ReadsOn {
     ghost then = { HasReadOn };
 }
 
-/// A token is cut in two, which have both read as much.
+/// Splits a token into two with the same prefix.
 struct ReadsAlong;
 
 impl Split<Known> for ReadsAlong {
@@ -93,7 +93,7 @@ impl Split<Known> for ReadsAlong {
     ghost right = { λ v. knows v.read [] };
 }
 
-/// A token learns what another one has read, which these steps name.
+/// Joins another token, whose prefix these steps name.
 struct ComparesTokens<G: NamedSteps> {
     of: PhantomData<G>,
 }
@@ -107,8 +107,7 @@ impl<G: NamedSteps> Join<Known> for ComparesTokens<G> {
     ghost spent = { knows G.steps [] };
 }
 
-/// A history that tokens read and one writes. All that is shared of it is which one it is, so contracts
-/// see that.
+/// A history that tokens read and one authority writes. Contracts see only its identity.
 #[derive(Drop)]
 pub struct MonotoneLog {
     table: Arc<Table<(), Known, (), OneHistory, Global>>,
@@ -126,7 +125,7 @@ impl Model for MonotoneLog {
     ghost invariant = { λ h. (arc_value h.table).shared.table_id.words ≡ 1 };
 }
 
-/// Writes a history. There is one of it. Contracts see which history it is, and all of its steps.
+/// The one writer of a history. Contracts see the history's identity and all of its steps.
 #[derive(Drop)]
 pub struct LogAuthority {
     token: Pass,
@@ -143,7 +142,8 @@ impl Model for LogAuthority {
     ghost invariant = { λ w. (w.token.id ≡ 0) × (w.token.me.1 ≡ []) };
 }
 
-/// Has read a beginning of a history. Contracts see which history it is, and these steps.
+/// A token that has read a prefix of a history. Contracts see the history's identity and this
+/// prefix.
 #[derive(Drop)]
 pub struct LogPrefix {
     token: Pass,
@@ -163,7 +163,7 @@ impl Model for LogPrefix {
 impl MonotoneLog {
     ghost use Rattle.std.specs.Prelude.{◌≡◌, [], IfOk};
 
-    /// A history without steps, and the token that writes it. Takes memory for one word.
+    /// Creates a history without steps, and its writer. Allocates one word.
     pub fn new(alloc: Global) -> Result<(MonotoneLog, LogAuthority), AllocError>
         ensures { IfOk result (λ made. made.1 ≡ record { history = made.0; steps = [] }) }
     {
@@ -186,8 +186,8 @@ impl LogAuthority {
     ghost use Rattle.std.specs.Prelude.{◌≡◌, ◌++◌};
     ghost use Rattle.coord_engine.specs.MonotoneLog.{StartsWith};
 
-    /// Writes on, so that the steps of the history are those of earlier instances, as `L` names them, and
-    /// after them these.
+    /// Writes on: the history then has the steps of earlier instances, as `L` names them, and these
+    /// after them.
     pub(crate) fn write_on<L: Origin>(&mut self, history: &MonotoneLog, steps: &[Step])
         requires here { history.now ≡ self.old.history }
         requires on { StartsWith (L.earlier ++ steps.now) self.old.steps }
@@ -196,7 +196,7 @@ impl LogAuthority {
         self.write_as::<Brand>(history, steps);
     }
 
-    /// Writes on, so that these are all steps of the history, which have a name. They end with some.
+    /// Writes on: the history then has exactly these named steps, which end with the given ones.
     fn write_as<G: NamedSteps>(&mut self, history: &MonotoneLog, _last: &[Step])
         requires here { history.now ≡ self.old.history }
         requires on { StartsWith G.steps self.old.steps }
@@ -205,7 +205,7 @@ impl LogAuthority {
         history.table.shared.load::<WritesOn<G>>(&mut self.token, 0);
     }
 
-    /// A reader that has read all that is written.
+    /// Returns a token that has read everything written.
     pub fn reader(&mut self, history: &MonotoneLog) -> LogPrefix
         requires { history.now ≡ self.old.history }
         ensures read { result ≡ self.old }
@@ -228,7 +228,7 @@ impl LogAuthority {
         self.take_back_as::<Brand>(history, reader);
     }
 
-    /// The same, where what the reader has read has a name.
+    /// The same, if the token's prefix has a name.
     fn take_back_as<G: NamedSteps>(&mut self, history: &MonotoneLog, reader: LogPrefix)
         requires here { history.now ≡ self.old.history }
         requires theirs { reader.history ≡ self.old.history }
@@ -249,7 +249,7 @@ impl LogPrefix {
     ghost use Rattle.std.specs.Prelude.{◌≡◌};
     ghost use Rattle.coord_engine.specs.MonotoneLog.{StartsWith};
 
-    /// One more reader that has read as much.
+    /// Returns another token with the same prefix.
     pub fn another(&mut self, history: &MonotoneLog) -> LogPrefix
         requires { history.now ≡ self.old.history }
         ensures read { result ≡ self.old }
@@ -274,7 +274,7 @@ impl LogPrefix {
         self.join_as::<Brand>(history, other);
     }
 
-    /// The same, where what the other has read has a name.
+    /// The same, if the other token's prefix has a name.
     fn join_as<G: NamedSteps>(&mut self, history: &MonotoneLog, other: LogPrefix)
         requires here { history.now ≡ self.old.history }
         requires theirs { other.history ≡ self.old.history }

@@ -1,4 +1,4 @@
-//! What an engine was made over.
+//! The origin of an engine: the ledger and the history that it was made over.
 
 ghost use Rattle.std.specs.Prelude.{List, []};
 ghost use Rattle.coord_types.specs.declared.steps.Step.{Step};
@@ -18,7 +18,7 @@ use std::sync::ledger::Ledger as Count;
 /// the history with its written steps, and the base, the steps and the disk's past of the given
 /// ledger.
 pub trait Origin: Count {
-    /// Which history it writes.
+    /// The history that it writes.
     ghost history: { TableId };
 
     /// The steps of that history that were settled before, in earlier instances of the store.

@@ -7,8 +7,8 @@ use crate::Share;
 use std::marker::Model;
 use std::sync::ledger::Ledger as Count;
 
-/// A share whose notes are all of packets' steps. Its type says so, and the type is all that is
-/// known of what a thread hands back.
+/// A share whose notes are all of packets' steps. The type guarantees it, since only the type of a
+/// thread's result is known.
 #[derive(Drop)]
 pub struct PacketShare<L: Count> {
     pub(crate) share: Share<L>,
@@ -27,7 +27,7 @@ impl<L: Count> Model for PacketShare<L> {
 }
 
 impl<L: Count> PacketShare<L> {
-    /// Of a share without notes.
+    /// Wraps a share without notes.
     pub fn new(share: Share<L>) -> Self
         requires { share ≡ [] }
         ensures { result ≡ [] }
@@ -35,7 +35,7 @@ impl<L: Count> PacketShare<L> {
         PacketShare { share }
     }
 
-    /// The share.
+    /// Returns the share.
     pub fn into_share(self) -> Share<L>
         ensures notes { result ≡ self }
         ensures packets { All IsOfPacket result }

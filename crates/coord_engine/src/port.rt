@@ -1,4 +1,4 @@
-//! Where released packets and signals go.
+//! The interface for released packets and signals.
 
 ghost use Rattle.std.specs.Prelude.{◌≡◌};
 ghost use Rattle.coord_engine.specs.Port.{delivery_of, step_of};
@@ -31,18 +31,19 @@ pub trait Port {
     /// Its possible states after a request to hand on its packets, with this answer.
     ghost handed_on: { Self → ℕ → Self → Type 0 } = { λ _ _ _. ⊤ };
 
-    /// Carries a packet to this node. It may gather packets, so that those for one place go together.
+    /// Carries a packet to this node. It may gather packets, so that those for one place go
+    /// together.
     fn carry(&mut self, to: NodeId, packet: Packet) -> bool
         ensures { carried self.old to packet result self.new };
 
-    /// Says to the service at this node that a reset has ended there, with the epoch that began. The
-    /// step with this number gives the signal out, and the reader has read it among the settled steps.
+    /// Signals to the service at this node that a reset has ended there, with the new epoch. The
+    /// step with this number sends the signal, and the reader has read it among the settled steps.
     fn signal(&mut self, reader: LogPrefix, step: u64, node: NodeId, epoch: u64) -> bool
         requires { may_signal reader step node epoch }
         ensures { signalled self.old step node epoch result self.new };
 
-    /// Hands on the packets that it has gathered: nothing more is asked of it for now. Answers how many
-    /// of them it knows to be lost by that.
+    /// Hands on the gathered packets, after the last request of a flight. Returns the number of
+    /// packets that it knows to be lost.
     fn hand_on(&mut self) -> u64
         ensures { handed_on self.old result self.new };
 }
@@ -69,7 +70,7 @@ impl Delivery {
     }
 }
 
-/// The step of a packet that has arrived.
+/// Returns the step of a packet that has arrived.
 pub fn step_of(packet: Packet) -> Step
     ensures { result ≡ step_of packet }
 {

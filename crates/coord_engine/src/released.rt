@@ -30,7 +30,7 @@ impl<L: Origin> Model for Released<L> {
 }
 
 impl<L: Origin> Released<L> {
-    /// Of these releases, whose signals are of steps that the reader has read.
+    /// Wraps releases whose signals are of steps that the reader has read.
     pub(crate) fn new(releases: Releases, reader: LogPrefix) -> Self
         requires { AreOfSettled L.history L.earlier L.base reader releases }
         ensures { result ≡ releases }
@@ -42,21 +42,21 @@ impl<L: Origin> Released<L> {
         }
     }
 
-    /// How many are left.
+    /// Returns the number of remaining releases.
     pub fn len(&self) -> u64
         ensures { result ≡ length self.now }
     {
         self.releases.len()
     }
 
-    /// How many were not handed out. They are lost.
+    /// Drops the remaining releases, and returns their number.
     pub fn lose_rest(self) -> u64
         ensures { result ≡ length self }
     {
         self.into_releases().lose_rest()
     }
 
-    /// The releases by themselves.
+    /// Returns the releases alone.
     pub fn into_releases(self) -> Releases
         ensures { result ≡ self }
     {

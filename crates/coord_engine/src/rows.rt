@@ -1,10 +1,10 @@
-//! Packets that wait, worked out, and the times of a flusher: functions that do nothing, whose contracts
-//! say what waits, and how long.
+//! Worked examples of waiting packets, and the times of a flusher: functions that do nothing, whose
+//! contracts are the examples.
 
 ghost use Rattle.coord_engine.specs.Flushing.{TimesAreUsual};
 ghost use Rattle.coord_engine.specs.WorkedPackets.{BothKinds, LaterInPlace};
 
-/// The later data of a lane takes the place of the earlier.
+/// Later data of a lane replaces earlier data.
 pub fn later_in_place()
     ensures { LaterInPlace }
 {}
@@ -14,7 +14,7 @@ pub fn both_kinds()
     ensures { BothKinds }
 {}
 
-/// How long a flusher waits.
+/// The waiting times of a flusher.
 pub fn times_are_usual()
     ensures { TimesAreUsual }
 {}

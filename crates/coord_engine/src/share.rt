@@ -1,4 +1,4 @@
-//! What a caller had accepted.
+//! A caller's share: notes of its accepted steps.
 
 ghost use Rattle.std.specs.Prelude.{◌≡◌};
 
@@ -10,8 +10,8 @@ use std::sync::ledger::{Ledger as Count, Share as Part};
 /// A caller's share in an engine: the notes of its accepted steps, in order. Contracts see the
 /// notes.
 ///
-/// Beside the notes it has one part of the engine's count of accepted steps. So nobody can make a
-/// share up, and all shares together have as many notes as steps were accepted.
+/// Beside the notes it has one part of the engine's count of accepted steps. So nobody can forge a
+/// share, and all shares together have as many notes as steps were accepted.
 #[derive(Drop)]
 pub struct Share<L: Count> {
     pub(crate) part: Part<L>,
@@ -30,7 +30,7 @@ impl<L: Count> Model for Share<L> {
 }
 
 impl<L: Count> Share<L> {
-    /// The notes.
+    /// Returns the notes.
     pub fn notes(&self) -> &[Note]
         ensures { result.now ≡ self.now }
     {

@@ -18,11 +18,11 @@ use std::sync::Wait;
 const ROOM: usize = 4_352;
 
 /// A flusher's port that submits packets itself, with its own share, so that none of them goes to
-/// another thread and comes back. It gathers those of a flight, and submits them when it is to hand
-/// them on. Signals go to another port, which gets no packet.
+/// another thread and comes back. It gathers those of a flight, and submits them in `hand_on`.
+/// Signals go to another port, which gets no packet.
 ///
-/// It takes, keeps, drops or loses a packet as a worker does (`worker`), and tries those that it keeps once
-/// more after each flight.
+/// It takes, keeps, drops or loses a packet as a worker does (`worker`), and tries those that it
+/// keeps once more after each flight.
 #[derive(Drop)]
 pub struct SubmittingPort<'e, D: Disk, L: Origin, P: Port, R: Wait> {
     rt: &'e R,
@@ -46,7 +46,7 @@ impl<'e, D: Disk, L: Origin, P: Port, R: Wait> Model for SubmittingPort<'e, D, L
 }
 
 impl<'e, D: Disk, L: Origin, P: Port + Drop, R: Wait> SubmittingPort<'e, D, L, P, R> {
-    /// A port that has gathered nothing yet, with room for `ROOM` packets, or none if there is no memory.
+    /// Creates an empty port with room for `ROOM` packets, or without room if memory runs out.
     pub fn new(
         rt: &'e R,
         alloc: Global,
@@ -70,7 +70,7 @@ impl<'e, D: Disk, L: Origin, P: Port + Drop, R: Wait> SubmittingPort<'e, D, L, P
         }
     }
 
-    /// Its share, with the notes of all packets' steps that were accepted.
+    /// Returns its share, with the notes of all accepted packets' steps.
     pub fn into_share(self) -> PacketShare<L>
         ensures { result ≡ self.entry.notes }
     {

@@ -76,7 +76,7 @@ impl Model for Waiting {
 }
 
 impl Waiting {
-    /// No packet waits.
+    /// Returns an empty list.
     pub fn new(alloc: Global) -> Self
         ensures { result ≡ [] }
     {
@@ -85,8 +85,8 @@ impl Waiting {
         }
     }
 
-    /// Keeps a packet: it takes the place of the one of its lane and kind, or else goes last. Where
-    /// there is no memory it comes back.
+    /// Keeps a packet: it replaces the one of its lane and kind, or else goes last. Returns it if
+    /// memory runs out.
     pub fn put(&mut self, packet: Packet) -> Result<(), Packet>
         ensures put { OnOk result (self.new ≡ with_packet self.old packet) }
         ensures back { IfErr result (λ refused. refused ≡ packet) }
@@ -98,14 +98,14 @@ impl Waiting {
         Ok(())
     }
 
-    /// How many wait.
+    /// Returns the number of waiting packets.
     pub fn len(&self) -> usize
         ensures { result ≡ length self.now }
     {
         self.packets.len()
     }
 
-    /// The first, if one waits.
+    /// Returns the first waiting packet, if any.
     pub fn first(&self) -> Option<Packet>
         ensures { result ≡ slice_get self.now 0 }
     {
@@ -115,7 +115,7 @@ impl Waiting {
         }
     }
 
-    /// Drops the first, if one waits.
+    /// Drops the first waiting packet, if any.
     pub fn drop_first(&mut self)
         ensures { self.new ≡ drop 1 self.old }
     {

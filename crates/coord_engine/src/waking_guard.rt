@@ -18,7 +18,7 @@ pub struct WakingGuard<'e, D: Disk, L: Origin> {
 }
 
 impl<D: Disk, L: Origin> WakingGuard<'_, D, L> {
-    /// Lets the lock go, and wakes the flusher if that is due.
+    /// Releases the lock, and wakes the flusher if that is due.
     pub fn unlock(self) {
         let WakingGuard {
             engine,

@@ -1,4 +1,4 @@
-//! Packets that came, submitted as steps.
+//! The worker: submits arrived packets as steps.
 
 ghost use Rattle.std.specs.Prelude.{◌≡◌, List, Vec};
 ghost use Rattle.std.specs.Iterator.{Drains, IsFinite};
@@ -14,14 +14,14 @@ use crossbeam_channel::Receiver;
 use std::alloc::Global;
 use std::sync::Wait;
 
-/// Whether a packet has to wait after this refusal, since there was no room for its step.
+/// Whether a packet has to wait after this refusal, because there was no room for its step.
 fn has_to_wait(refusal: Refusal) -> bool
     ensures { result ≡ has_to_wait refusal }
 {
     matches!(refusal, Refusal::PendingFull | Refusal::OutOfMemory)
 }
 
-/// Submits a packet's step, whose reply is forgotten. Whether the packet has to wait.
+/// Submits a packet's step and drops the reply. Returns whether the packet has to wait.
 fn submit<D: Disk, L: Origin>(
     guarded: &mut Guarded<D, L>,
     packet: Packet,
@@ -39,7 +39,7 @@ fn submit<D: Disk, L: Origin>(
     }
 }
 
-/// Submits the packets that wait, in order, up to the first that still has to wait.
+/// Submits the waiting packets, in order, up to the first that still has to wait.
 fn try_waiting<D: Disk, L: Origin>(
     guarded: &mut Guarded<D, L>,
     share: &mut Share<L>,
@@ -74,7 +74,7 @@ fn take<D: Disk, L: Origin>(
     hand.count(guarded.put_down());
 }
 
-/// Takes packets in order, and tries those that wait after each.
+/// Takes packets in order, and tries the waiting ones after each.
 fn take_each<D: Disk, L: Origin>(
     guarded: &mut Guarded<D, L>,
     packets: &[Packet],
@@ -90,7 +90,7 @@ fn take_each<D: Disk, L: Origin>(
     }
 }
 
-/// Takes packets that came together under one lock, and wakes the flusher once.
+/// Takes packets that came together, under one lock, and wakes the flusher once.
 fn take_together<D: Disk, L: Origin, R: Wait>(
     rt: &R,
     engine: &Engine<D, L>,
@@ -106,8 +106,8 @@ fn take_together<D: Disk, L: Origin, R: Wait>(
     lock.unlock();
 }
 
-/// Takes packets that came together, and tries those that wait once more, under one lock, and wakes the
-/// flusher once.
+/// Takes packets that came together, and tries the waiting ones again, under one lock, and wakes
+/// the flusher once.
 pub(crate) fn take_and_try<D: Disk, L: Origin, R: Wait>(
     rt: &R,
     engine: &Engine<D, L>,
@@ -124,8 +124,8 @@ pub(crate) fn take_and_try<D: Disk, L: Origin, R: Wait>(
     lock.unlock();
 }
 
-/// Submits the packets that come, in order, and ends after the last one. Their replies are
-/// forgotten. Those that come together are submitted under one lock.
+/// Submits the arriving packets in order, drops their replies, and ends after the last one. Packets
+/// that come together are submitted under one lock.
 ///
 /// After PendingFull or OutOfMemory it keeps the packet, and tries the kept ones again before it
 /// takes the next one. After any other refusal it drops the packet; if memory to keep it runs out,

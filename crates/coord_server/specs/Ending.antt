@@ -58,7 +58,7 @@ IsLeftAs b desk left other = IsOneHistory b desk left
 abbrev pub AddsWorkers : List (List Note) → List (List Note) → Type 0
 AddsWorkers first all = (workers : List (List Note)) × (all ≡ first ++ workers) × All (All IsOfPacket) workers
 
--- why an instance ended that was left so, if something ended it
+-- the reason why this instance ended, if something ended it
 abbrev pub end_fault : InstanceEnd → Option ServerFault
 end_fault (end.Ended served) = served
 end_fault left = None
@@ -70,14 +70,14 @@ module _ {D : Type 0} (b : Basis D) {V : Type 0} (talked : V → List Talk → V
   abbrev pub IsClosed : {P : Type 0} → ℕ → P → V → V → DeskState P → Type 0
   IsClosed most port v w desk = ServedToClose (DeskAnswers b) (DeskKeeps b) most talked v (new_desk port) w desk
 
-  -- the callers were served by such a desk until no one came any more
+  -- the callers were served by such a desk until no caller came any more
   abbrev pub ServedWhileOpen : {P : Type 0} → ℕ → P → V → V → DeskState P → Type 0
   ServedWhileOpen most port v w desk = ServedOpen (DeskAnswers b) (DeskKeeps b) most talked v (new_desk port) w desk
 
   -- `failed v w`: the callers were v, and have failed
   module _ (failed : V → V → Type 0) (most : ℕ) where
-    -- How the desk served in an instance of this many steps, from this port. It rests only once it keeps them; and it
-    -- ends by a close, out of memory or without a first line before anyone was served, or because the callers have
+    -- How the desk served in an instance of this many steps, from this port. It rests only once it keeps them; it
+    -- ends by a close, by out of memory or a missing first line before anyone was served, or because the callers
     -- failed.
     abbrev pub ServesInstance : {P : Type 0} → P → V → V → DeskState P → InstanceEnd → Type 0
     ServesInstance port v w desk end.Resting = ServedWhileOpen most port v w desk × HasKept (DeskKeeps b) desk most
@@ -130,14 +130,14 @@ LeavesShares {D} {V} b shares seen served instance =
     ⊎ ((why : CloseFault) × (instance.left ≡ end.Ended (Some (fault.NotClosed why)))
     × AtSomeMoment b (λ g. IsLeftOf {D = D} instance.closed.store instance.closed.base instance.closed.trail.items instance.closed.settled g × RefusesClosing {D = D} g shares seen why))
 
--- how an instance ends whose output was not opened: the callers have failed, or the first line was not printed.
+-- the end of an instance whose output was not opened: the callers have failed, or the first line was not printed.
 -- `failed v w`: the callers were v, and have failed
 abbrev pub EndsUnopened : {V : Type 0} → (V → V → Type 0) → V → InstanceEnd → Type 0
 EndsUnopened failed v end.Unprinted = Unit {0}
 EndsUnopened failed v (end.Ended (Some fault.Socket)) = failed v v
 EndsUnopened failed v other = ⊥
 
--- the fault that a server returns: a store that has stopped first, then what ended the serving, then an output that is amiss
+-- the fault that a server returns: first a stopped store, then the end of the serving, then a failed output
 abbrev pub fault_at_end : Bool → Option ServerFault → Bool → Option ServerFault
 fault_at_end true served is_amiss = Some fault.Device
 fault_at_end false (Some why) is_amiss = Some why

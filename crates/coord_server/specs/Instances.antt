@@ -18,22 +18,22 @@ use Rattle.coord_server.specs.declared.instance_end.InstanceEnd.{InstanceEnd}
 use Rattle.coord_server.specs.declared.instance_end.InstanceEnd.TheVariants as end
 use Rattle.coord_server.specs.declared.server_end.ServerEnd.{ServerEnd}
 
--- how a server ends whose last instance was left so: one that rests and can't go on ends it too, and so does one without memory for the next, or without a first line
+-- the end of a server with this last instance: one that rests and can't continue ends it too, and so does one without memory for the next one, or without a first line
 abbrev pub IsLastInstance : InstanceEnd → Option ServerFault → Type 0
 IsLastInstance end.Resting served = served ≡ Some fault.Device
 IsLastInstance end.Unfollowed served = served ≡ Some fault.OutOfMemory
 IsLastInstance end.Unprinted served = (served ≡ Some fault.OutOfMemory) ⊎ (served ≡ Some fault.Write)
 IsLastInstance (end.Ended why) served = served ≡ why
 
--- The next instance may begin over what one that rests has left: its store has not stopped, all that was accepted is settled, and it has the steps of an instance.
+-- The next instance may begin over the parts of one that rests: its store has not stopped, everything accepted is settled, and it has the steps of an instance.
 abbrev pub MayGoOn : {D : Type 0} → ℕ → Closed D → Type 0
 MayGoOn most left = (has_stopped left.store ≡ false) × (left.settled ≡ left.base.count + length left.trail.items) × (most ≤ length left.trail.items)
 
--- Why a server that has ended so returns a fault, whose instances have this many steps: Write only if its output has failed, and Device only if no next instance could begin.
+-- The causes of the fault of a server with instances of this many steps: Write only if its output has failed, and Device only if no next instance could begin.
 abbrev pub HasFaultForCause : {D V W : Type 0} → ℕ → ServerEnd D V W → Type 0
 HasFaultForCause most ended = (ended.served ≡ Some fault.Write → ended.printer.is_broken ≡ true) × (ended.served ≡ Some fault.Device → ¬ MayGoOn most ended.closed)
 
--- after how many steps an instance of a server ends (docs/OPERATING.md names it)
+-- the number of steps after which an instance ends (docs/OPERATING.md)
 abbrev pub instance_steps : ℕ
 instance_steps = 262144
 
@@ -49,17 +49,17 @@ pub record InstanceRun (D V : Type 0) : Type 0 where
 abbrev pub all_steps : {D V : Type 0} → List (InstanceRun D V) → List Step
 all_steps instances = flat_map (λ l. l.left.trail.items) instances
 
--- what their steps give out, each instance's over the world that it began with
+-- the outputs of their steps, each instance's from the world that it began with
 abbrev pub all_given : {D V : Type 0} → List (InstanceRun D V) → List StepOutcome
 all_given instances = flat_map (λ l. outs l.left.base l.left.trail.items) instances
 
 -- `talked v talks w`: the callers were v, had these talks, and then are w. An instance ends after `most` steps
 module _ {D : Type 0} (m : DiskModel D) {V : Type 0} (talked : V → List Talk → V → Type 0) (most : ℕ) where
-  -- what an instance is based on that began over a store with this world
+  -- the basis of an instance that began over a store with this world
   abbrev pub begun_over : World → Basis D
   begun_over world = based_on m world []
 
-  -- An instance from this world that rests: no line has closed it, it has kept the steps of an instance, it is one history, all that was accepted is settled, by the first of which its desk has answered, and its store has not stopped. The next one begins over the world of that store.
+  -- An instance from this world that rests: no line has closed it, it has the steps of an instance, it is one history, everything accepted is settled, its desk has answered by a prefix of that, and its store has not stopped. The next one begins over the world of that store.
   pub record Rests (began : World) (v : V) (instance : InstanceRun D V) : Type 0 where
     pub served : ServedWhileOpen (begun_over began) talked most instance.port v instance.callers instance.desk
     pub old : most ≤ length instance.left.trail.items
@@ -68,7 +68,7 @@ module _ {D : Type 0} (m : DiskModel D) {V : Type 0} (talked : V → List Talk �
     pub going : has_stopped instance.left.store ≡ false
     pub returned : StartsWith (first_settled instance.left.base instance.left.trail.items instance.left.settled) instance.desk.read
 
-  -- instances that rest, each of which begins where the previous one ended, and then this is the world, and these are
+  -- instances that rest, each beginning where the previous one ended; afterwards this is the world, and these are
   -- the callers
   abbrev pub HaveRested : World → V → List (InstanceRun D V) → World → V → Type 0
   HaveRested began v [] next w = (next ≡ began) × (w ≡ v)
@@ -76,7 +76,7 @@ module _ {D : Type 0} (m : DiskModel D) {V : Type 0} (talked : V → List Talk �
 
 -- `failed v w`: the callers were v, and have failed
 module _ {D : Type 0} (m : DiskModel D) {V : Type 0} (talked : V → List Talk → V → Type 0) (failed : V → V → Type 0) (most : ℕ) where
-  -- The last instance of a server, from this world, where this ended it: its desk served until then, and answered by settled steps; and so its engine was left.
+  -- The last instance of a server, from this world, with this end: its desk served until then, and answered by settled steps; and its engine was left in that state.
   pub record IsLast (began : World) (v : V) (instance : InstanceRun D V) (why : Option ServerFault) : Type 0 where
     pub served : Serves (based_on m began []) talked failed most instance.port v instance.callers instance.desk why
     pub history : IsLeftAs (based_on m began []) instance.desk instance.left why

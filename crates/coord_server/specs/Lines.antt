@@ -1,4 +1,4 @@
--- Which signal may be printed after which.
+-- The order in which signals may be printed.
 use Rattle.std.specs.Prelude.{ℕ, Bool, true, ◌&&◌, ◌||◌, ◌==◌, nat_lt, not}
 use Rattle.coord_server.specs.declared.last_line.LastLine.{LastLine}
 
@@ -10,6 +10,6 @@ nothing_since step = record { step = step; node = 0; is_second = true }
 abbrev pub is_next : LastLine → ℕ → ℕ → Bool
 is_next last step node = nat_lt last.step step || (((last.step == step) && not last.is_second) && not (last.node == node))
 
--- it was printed
+-- the state after it was printed
 abbrev pub after_line : LastLine → ℕ → ℕ → LastLine
 after_line last step node = record { step = step; node = node; is_second = last.step == step }

@@ -1,4 +1,4 @@
--- What a crash may have left at each moment of the instance of a store that is served.
+-- The bytes that a crash may have left at each moment while a store is served.
 use Rattle.std.specs.Prelude.{◌≡◌, ℕ, true, List, [], ◌++◌}
 use Rattle.atomic_table.specs.Seated.{TableId}
 use Rattle.coord_disk.specs.Model.DiskModel.{DiskModel}
@@ -14,12 +14,12 @@ use Rattle.coord_server.specs.Ending.{IsInstance}
 use Rattle.coord_server.specs.Instances.{HaveRested, InstanceRun, all_steps}
 use Rattle.coord_server.specs.declared.instance.Instance.{Instance}
 
--- At every moment from the one store to the other, whatever the disk may hold is the world after the first of these steps, some number of them. The disk keeps the model as it did.
+-- At every moment from the one store to the other, whatever the disk may hold is the world after a prefix of these steps. The disk keeps the model if it did before.
 pub record KeepsAlong {D : Type 0} (m : DiskModel D) (first : Kept D) (steps : List Step) (now : Kept D) : Type 0 where
   pub same_model : m.keeps_model now.disk ≡ m.keeps_model first.disk
   pub moments : m.keeps_model first.disk ≡ true → LeavesOnly m first.disk now.disk (IsAfterSome first.world steps)
 
--- after the earlier steps of this history the settled ones of an instance are written
+-- the settled steps of an instance are written after the earlier steps of this history
 abbrev pub HasWritten : {D : Type 0} → TableId → List Step → Closed D → Beginning → Type 0
 HasWritten history earlier left written = HasReadSettled history earlier (first_settled left.base left.trail.items left.settled) written
 

@@ -1,4 +1,4 @@
--- The lines that a server prints, and what prints them.
+-- The lines that a server prints, and the state of its printer.
 use Rattle.std.specs.List.{AllByRecursion}
 use Rattle.std.specs.Prelude.{◌≡◌, ◌⊎◌, ℕ, Bool, false, true, List, [], ◌∷◌, ◌++◌, Option, None, Some, ◌||◌, codes, decimal, flat_map, nat_le, not}
 use Rattle.std.specs.Io.KnownBytes.{Appends}
@@ -67,20 +67,20 @@ pub record IsTornSignal {W : Type 0} (may : ℕ → ℕ → ℕ → Type 0) (q :
   pub next : is_next q.last signal.step signal.node ≡ true
   pub part : IsFirstPart torn (signal_line signal.node signal.epoch)
 
--- Why the first line was not printed, if it should have been: memory ran out, or the output has failed.
+-- The reason why the first line was not printed, if it should have been: memory ran out, or the output failed.
 abbrev pub IsUnprintedFor : {W : Type 0} → PrinterState W → Option ServerFault → Type 0
 IsUnprintedFor p None = Unit {0}
 IsUnprintedFor p (Some fault.OutOfMemory) = Unit {0}
 IsUnprintedFor p (Some fault.Write) = p.is_broken ≡ true
 IsUnprintedFor p (Some other) = ⊥
 
--- `contents` are the bytes of an output, where they are known
+-- `contents` are the bytes of an output, if they are known
 module _ {W : Type 0} (contents : W → Option (List ℕ)) where
   -- the line of an address was printed
   abbrev pub PrintsAddress : PrinterState W → PrinterState W → Type 0
   PrintsAddress p q = (address : SocketAddr) × Appends (contents p.output) (contents q.output) (listening_line address) × (q.is_broken ≡ false) × (q.last ≡ p.last)
 
-  -- a first part of this line was written, perhaps all of it, and then the output failed: no line is printed any more
+  -- a prefix of this line was written, and then the output failed: no line is printed any more
   abbrev pub BreaksIn : PrinterState W → List ℕ → PrinterState W → Type 0
   BreaksIn p line q = WritesFirstPart (contents p.output) (contents q.output) line × (q.is_broken ≡ true) × (q.lost ≡ p.lost) × (q.last ≡ p.last)
 
@@ -107,7 +107,7 @@ module _ {W : Type 0} (contents : W → Option (List ℕ)) where
       pub follow : Follow p.last signals q.last
       pub whole : (torn ≡ []) ⊎ IsTornSignal may q torn
 
-    -- The line of an address was printed, and after it lines of such signals; or nothing, or a first part of that line.
+    -- The line of an address was printed, and after it lines of such signals; or a prefix of that line, perhaps nothing.
     pub record IsPrinted (p q : PrinterState W) : Type 0 where
       pub first : List ℕ
       pub signals : List StepSignal

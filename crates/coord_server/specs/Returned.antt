@@ -1,4 +1,4 @@
--- What a reply, and the remaining disk, say about the steps of an instance.
+-- The steps of an instance to which its replies and its remaining disk refer.
 use Rattle.std.specs.List.{AllByRecursion}
 use Rattle.std.specs.Prelude.{◌≡◌, ◌⊎◌, ℕ, ◌+◌, ◌-◌, ◌≤◌, true, List, [], ◌∷◌, ◌++◌, Contains, Ok, Some, length, slice_get, take}
 use Rattle.coord_disk.specs.Model.Present.{IsImage}
@@ -80,7 +80,7 @@ InstanceGives left bytes =
     ⊎ ((size : ℕ) × (has_stopped left.store ≡ true) × (left.settled + size ≤ left.base.count + length left.trail.items)
     × Recovered bytes (fold left.base (take (left.settled - left.base.count + size) left.trail.items)))
 
--- whatever a crash may leave of the disk of an instance gives so
+-- the same for all bytes that a crash may leave of the disk of an instance
 abbrev pub InstancesLeaveSteps : Type 0 → Type 0 → Type 0
 InstancesLeaveSteps D P =
     (b : Basis D) (desk : DeskState P) (left : Closed D) → IsOneHistory b desk left

@@ -1,7 +1,7 @@
--- What a server answered over all the connections of its instances, in terms of its one history.
+-- The answers of a server over all connections of its instances, in terms of its one history.
 --
--- Each answer follows from the first n settled steps of all instances, and n never falls: not along a connection, nor from
--- one connection or one instance to the next. A view shows the world of the store after these n steps. A reply is the one
+-- Each answer follows from the first n settled steps of all instances, and n never decreases, along a connection and from
+-- one connection or instance to the next. A view shows the world of the store after these n steps. A reply is the one
 -- that the order's own step got among them, or that the store kept for the order. Nothing is said here of two things:
 -- how many accepted steps a view counts, and why an order was refused.
 use Rattle.std.specs.Prelude.{◌≡◌, ◌⊎◌, ℕ, List, [], ◌∷◌, ◌++◌, Option}
@@ -35,14 +35,14 @@ abbrev pub EachReads : {D V : Type 0} → World → List Step → List Step → 
 EachReads world settled before [] = Unit {0}
 EachReads world settled before (instance ∷ later) = (instance.left.base ≡ fold world before) × StartsWith settled (before ++ instance.desk.read) × EachReads world settled (before ++ instance.left.trail.items) later
 
--- all that instances from a world answered over their connections follows from these settled steps
+-- all answers of instances from a world, over their connections, follow from these settled steps
 pub record AnswersFromOneHistory {D V : Type 0} (talked : V → List Talk → V → Type 0) (failed : V → V → Type 0) (world : World) (settled : List Step) (v : V) (instances : List (InstanceRun D V)) : Type 0 where
   pub connections : List Connection
   pub had : AreConnectionsOf talked failed v instances connections
   pub returned : AllInOrder world [] connections settled
   pub reads : EachReads world settled [] instances
 
--- and so it is for each run of a server, with the settled steps of all its instances
+-- the same for each run of a server, with the settled steps of all its instances
 abbrev pub RunAnswersFromOneHistory : {D V W : Type 0} → DiskModel D → (V → List Talk → V → Type 0) → (V → V → Type 0) → (W → Option (List ℕ)) → (List Step → ℕ → ℕ → ℕ → Type 0) → Type 0
 RunAnswersFromOneHistory {D} {V} {W} model talked failed contents gives =
     (most : ℕ) (store : Kept D) (v : V) (printer : PrinterState W) (ended : ServerEnd D V W) → (run : ServerRun model talked failed most contents gives store v printer ended)

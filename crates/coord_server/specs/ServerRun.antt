@@ -1,11 +1,11 @@
--- The main theorem of the server: its run, from the store that it was given to the one that it returned.
+-- The main theorem of the server: its run, from the given store to the returned one.
 --
--- It had instances, one after another, each with its own engine. In each instance a desk served the connections of those
--- who called, and answered as its engine can. The steps that all instances accepted are one trail from the world of the
+-- It had instances, one after another, each with its own engine. In each instance a desk served the connections of the
+-- callers, and answered as its engine can. The steps that all instances accepted are one trail from the world of the
 -- store. The settled ones are the first of them, and the store that is returned has the world after these. At every
 -- moment in between, a crash leaves the world after the first n accepted steps, for some n. The output got the line of
--- an address, and then only lines of signals that settled steps give out, in order; if the output failed, also the
--- first part of one more line.
+-- an address, and then only lines of signals that settled steps send, in order; if the output failed, also a
+-- prefix of one more line.
 --
 -- `AreInstances` says how one instance follows another, how each was served and left. Two laws say what follows:
 -- `InstancesAreOne`, that steps and signals are numbered as one history, and `RunAnswersFromOneHistory`, that each reply and each
@@ -41,7 +41,7 @@ pub record ServerRun {D V W : Type 0} (model : DiskModel D) (talked : V → List
   pub along : KeepsAlong model store (all_steps instances) ended.closed.store
   -- the output
   pub printed : IsPrinted contents (gives (first_settled store.world (all_steps instances) ended.closed.settled)) printer ended.printer
-  -- why it returns a fault
+  -- the cause of its fault
   pub cause : HasFaultForCause most ended
 
 -- a run over a store, with instances of the usual length

@@ -1,4 +1,4 @@
--- Which steps answers name, worked out.
+-- Worked examples of the steps that answers name.
 use Rattle.std.specs.List.{AllByRecursion}
 use Rattle.std.specs.Prelude.{ℕ, List, [], ◌∷◌, codes}
 use Rattle.coord_types.specs.declared.steps.Kind.TheVariants.{Started}

@@ -1,9 +1,9 @@
--- Which worker a packet is for.
+-- The worker of a packet.
 use Rattle.std.specs.Prelude.{ℕ, ◌%◌}
 use Rattle.coord_types.specs.declared.packets.Packet.{Packet}
 use Rattle.coord_types.specs.declared.packets.Packet.TheVariants.{Carried, Receipted}
 
--- Each of eight workers has the nodes whose numbers leave its own on division by eight. Data goes to its `to`, and a receipt back to its `from`.
+-- Each of eight workers has the nodes whose numbers modulo 8 are its own number. Data goes to its `to`, and a receipt back to its `from`.
 abbrev pub worker_of : Packet → ℕ
 worker_of (Carried p) = p.to % 8
 worker_of (Receipted p) = p.from % 8

@@ -15,9 +15,9 @@ use coord_view::View;
 use std::marker::Model;
 use std::sync::Wait;
 
-/// Queries an engine, and hands resent packets to a port. Contracts see the notes of its share, its
-/// seen count, the settled steps that it has read, and the port. Its answers are right after the
-/// steps that it has read then.
+/// A desk that queries an engine, and hands resent packets to a port. Contracts see the notes of
+/// its share, its seen count, the settled steps that it has read, and the port. Each answer is
+/// right after the steps that it has read by then.
 #[derive(Drop)]
 pub struct EngineDesk<'a, D: Disk, L: Origin, P: Port, R: Wait> {
     rt: &'a R,
@@ -45,7 +45,8 @@ impl<'a, D: Disk, L: Origin, P: Port, R: Wait> Model for EngineDesk<'a, D, L, P,
 }
 
 impl<'a, D: Disk, L: Origin, P: Port + Drop, R: Wait> EngineDesk<'a, D, L, P, R> {
-    /// A desk that has seen nothing yet, with a reader that has read the steps of earlier instances.
+    /// A desk that has seen nothing yet, with a reader that has read the steps of earlier
+    /// instances.
     pub fn new(
         rt: &'a R,
         engine: &'a Engine<D, L>,
@@ -120,7 +121,7 @@ fn collect<D: Disk, L: Origin, R: Wait>(
     without_ticket(engine.collect(rt, ticket, reader))
 }
 
-/// Returns the answer to a ticket, and forgets the ticket if it came back.
+/// Returns the answer to a ticket, and drops a ticket that came back.
 fn without_ticket(answer: Result<Reply, (Refusal, Ticket)>) -> Result<Reply, Refusal>
     ensures { result ≡ without_ticket answer }
 {
@@ -133,7 +134,7 @@ fn without_ticket(answer: Result<Reply, (Refusal, Ticket)>) -> Result<Reply, Ref
     }
 }
 
-/// Shows the settled world to a caller that has seen so much of it. A reader reads on.
+/// Shows the settled world to a caller that has seen this many steps of it. A reader reads on.
 #[tactic(auto, using(crate::proofs::Reading::shows_to, crate::proofs::Reading::read_shown))]
 fn show<D: Disk, L: Origin, R: Wait>(
     rt: &R,
@@ -149,7 +150,7 @@ fn show<D: Disk, L: Origin, R: Wait>(
     engine.show(rt, seen, reader)
 }
 
-/// Hands to a port again what may have been lost, and answers how many packets that are.
+/// Hands the packets that may have been lost to a port again, and returns their number.
 fn resend<D: Disk, L: Origin, P: Port, R: Wait>(
     rt: &R,
     engine: &Engine<D, L>,
@@ -173,7 +174,7 @@ impl<'a, D: Disk, L: Origin, P: Port, R: Wait> Desk for EngineDesk<'a, D, L, P, 
     ghost use Rattle.coord_server.specs.EngineDesk.{DeskAnswers, DeskKeeps, DeskPosts, DeskReplies, HandsAgain};
     ghost use Rattle.coord_server.specs.Halves.{desk_answered, desk_apart, desk_loses_none};
 
-    /// A ticket for the reply, or why the order was refused.
+    /// A ticket for the reply, or the refusal of the order.
     type Posted = Result<Ticket, Refusal>;
 
     ghost answers = { DeskAnswers (based_on D.model L.base L.before) };
@@ -184,8 +185,8 @@ impl<'a, D: Disk, L: Origin, P: Port, R: Wait> Desk for EngineDesk<'a, D, L, P, 
 
     ghost keeps = { DeskKeeps (based_on D.model L.base L.before) };
 
-    /// How many steps the engine has kept. The desk's own notes are among them; but of a lock no clause
-    /// says that, so they are looked at too.
+    /// Returns the number of steps that the engine keeps. The desk's own notes are among them; but
+    /// no clause says that of a lock, so they are counted too.
     fn kept(&self) -> usize {
         self.engine.kept(self.rt).max(self.share.notes().len())
     }

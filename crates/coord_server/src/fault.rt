@@ -1,10 +1,10 @@
-//! Why a server ends otherwise than by a close.
+//! The faults that end a server.
 
 use coord_engine::CloseFault;
 use std::error::Error;
 use std::fmt;
 
-/// What ended a server, or was met while it ended.
+/// A fault that ended a server, or occurred while it ended.
 #[derive(Clone, Copy, Debug, PartialEq, Eq, Drop)]
 pub enum ServerFault {
     /// There was not enough memory to serve, or to begin the next instance.
@@ -17,8 +17,8 @@ pub enum ServerFault {
     Device,
     /// A line could not be printed.
     Write,
-    /// The engine could not be taken apart. That would be a fault of this program: no call of the
-    /// engine leads there.
+    /// The engine could not be closed. That would be a bug of this program: no call of the engine
+    /// leads there.
     NotClosed(CloseFault),
 }
 

@@ -41,8 +41,8 @@ use std::time::Clock;
 /// stay with the thread that allocated them.
 const NOTES_ROOM: usize = 600_000;
 
-/// What an instance begins with: a store's ledger, in which nothing is accepted yet, and a handle on the
-/// server's history.
+/// The start of an instance: a store's ledger, in which nothing is accepted yet, and a handle of
+/// the server's history.
 #[derive(Drop)]
 pub struct InstanceStart<D: Disk> {
     pub history: MonotoneLog,
@@ -89,8 +89,8 @@ pub struct Instance<D: Disk, C> {
 /// returns the engine's parts, in any case. Accepted steps are settled first. The first instance
 /// opens the output.
 ///
-/// An instance for which there is no memory or no thread leaves its engine as nobody was served; `left` says
-/// so, and whether the engine refused to be taken apart with all shares.
+/// An instance without memory or a thread serves nobody and leaves its engine unused; `left` says
+/// so, and whether the engine refused to be closed with all shares.
 pub fn serve_instance<
     D: Disk + Send,
     C: Callers + Drop,
@@ -122,8 +122,8 @@ pub fn serve_instance<
     serve_ledger::<D, Brand, C, O, R>(setting, blank, history, writer, ledger, callers, opening)
 }
 
-/// Runs the threads of an instance over an engine, and takes the engine apart. `L` names the history and the
-/// ledger.
+/// Runs the threads of an instance over an engine, and takes the engine apart. `L` names the
+/// history and the ledger.
 fn serve_ledger<
     D: Disk + Send,
     L: Origin + Send + Sync,
@@ -193,7 +193,7 @@ fn begin<D: Disk, L: Origin, O: SignalSource, R: Wait>(
     })
 }
 
-/// A share with room for the notes of a whole instance.
+/// Returns a share with room for the notes of a whole instance.
 fn share_with_room<D: Disk, L: Origin, R: Wait>(rt: &R, engine: &Engine<D, L>) -> Option<Share<L>>
     ensures { IfSome result (λ share. share ≡ []) }
 {
@@ -273,7 +273,7 @@ fn retired<D: Disk, L: Origin, C: Callers, R: Wait + Clock>(
     }
 }
 
-/// How an instance was left whose serving ended so, and whose engine was taken apart or refused it.
+/// Returns how an instance was left, from the end of its serving and the closing of its engine.
 fn left_with(served: InstanceEnd, refused: Option<CloseFault>) -> InstanceEnd
     ensures named { refused ≡ None → result ≡ served }
     ensures refused { IfSome refused (λ why.
@@ -285,7 +285,7 @@ fn left_with(served: InstanceEnd, refused: Option<CloseFault>) -> InstanceEnd
     }
 }
 
-/// The ends of a channel for each worker.
+/// Returns the two ends of a channel for each worker.
 fn channels(
     alloc: Global,
 ) -> Result<(Vec<Sender<Vec<Packet>>>, Vec<Receiver<Vec<Packet>>>), AllocError>

@@ -44,12 +44,12 @@ use std::time::Clock;
 /// and then the workers. At the last end the remaining signals are printed, however long the output
 /// takes.
 ///
-/// It prints the address and signals of the history that `O` names, which is new and which it writes. Its
-/// printer can't print anything else, also if the server never returns.
+/// It prints the address and signals of the history that `O` names, which is new and which it
+/// writes. Its printer can't print anything else, also if the server never returns.
 ///
-/// The server's end says what ended it, also if there was no memory or no thread for an instance, or no thread
-/// that prints. Only if there is no memory to begin with, the store and the printer are returned as they
-/// were, and nobody was served.
+/// The server's end says what ended it, also if there was no memory or no thread for an instance,
+/// or no thread that prints. Only if there is no memory to begin with, the store and the printer
+/// are returned as they were, and nobody was served.
 pub fn serve_instances<
     D: Disk + Send,
     C: Callers + Drop,
@@ -98,7 +98,7 @@ pub fn serve_instances<
     Ok(serve_and_print(&setting, start, writer, callers, opening, printing))
 }
 
-/// Instances in a scope with what prints the port's signals.
+/// Runs the instances in a scope with the thread that prints the port's signals.
 fn serve_and_print<
     D: Disk + Send,
     C: Callers + Drop,
@@ -143,8 +143,8 @@ fn serve_and_print<
     )
 }
 
-/// Starts the thread that prints signals. If the system has no thread, nobody waits for the first
-/// line any more, and its printer is returned.
+/// Starts the thread that prints signals. If the system has no thread left, nobody waits for the
+/// first line any more, and the printer is returned.
 fn start_printing<
     's,
     'r: 's,
@@ -174,7 +174,7 @@ fn start_printing<
     }
 }
 
-/// Instances while a thread prints, which ends after the last signal.
+/// Runs the instances while a thread prints, which ends after the last signal.
 fn print_and_live<
     D: Disk + Send,
     C: Callers + Drop,
@@ -202,8 +202,8 @@ fn print_and_live<
     end_of(setting.history, instance, printed)
 }
 
-/// Runs one instance after the other, each with the store and the callers that the one before left, and
-/// returns the last. The first one opens the output: if no thread prints, it ends by that.
+/// Runs one instance after the other, each with the store and the callers that the one before left,
+/// and returns the last. The first one opens the output: if no thread prints, it ends by that.
 fn live<
     D: Disk + Send,
     C: Callers + Drop,
@@ -244,8 +244,8 @@ fn live<
     unreachable!()
 }
 
-/// Whether the next instance may begin: the store has not stopped, all that was accepted is settled, and the
-/// instance has kept `most` steps.
+/// Whether the next instance may begin: the store has not stopped, all that was accepted is
+/// settled, and the instance has kept `most` steps.
 fn goes_on<D: Disk>(most: usize, closed: &Closed<D>) -> bool
     ensures on { result ≡ true → MayGoOn most closed.now }
     ensures ends { result ≡ false → ¬ MayGoOn most closed.now }
@@ -257,7 +257,7 @@ fn goes_on<D: Disk>(most: usize, closed: &Closed<D>) -> bool
     closed.settled - base == closed.trail.len() as u64
 }
 
-/// Begins the next instance over the parts of the last one, which are returned if memory runs out.
+/// Starts the next instance over the parts of the last one, which are returned if memory runs out.
 fn start_over<D: Disk, O: SignalSource, R: Wait>(
     setting: &Setting<'_, R, O>,
     closed: Closed<D>,
@@ -284,9 +284,9 @@ fn start_over<D: Disk, O: SignalSource, R: Wait>(
     }
 }
 
-/// What the next instance begins with, what writes the history, and the callers; or the last instance: one that
-/// was ended, or rests and can't go on, as over a store that has stopped, or rests and there is no memory
-/// for the next one.
+/// Returns the start of the next instance, the authority of the history, and the callers; or the
+/// last instance: one that was ended, or that rests and can't continue, because its store has
+/// stopped or memory for the next one ran out.
 fn next_of<D: Disk, C, O: SignalSource, R: Wait>(
     setting: &Setting<'_, R, O>,
     instance: Instance<D, C>,
@@ -322,9 +322,10 @@ fn next_of<D: Disk, C, O: SignalSource, R: Wait>(
     }
 }
 
-/// How a server ended, by its last instance. One that rests is the last only if it can't continue,
-/// as over a store that has stopped. If the first line was not printed, the printer says why. The
-/// steps of all printed signals are among those that all instances have written.
+/// Returns the end of a server, from its last instance. An instance that rests is the last only if
+/// it can't continue, for example because its store has stopped. If the first line was not printed,
+/// the printer has the reason. The steps of all printed signals are among those written by all
+/// instances.
 fn end_of<D: Disk, C, W: Write>(
     history: &MonotoneLog,
     instance: Instance<D, C>,

@@ -5,8 +5,8 @@ ghost use Rattle.coord_server.specs.Lines.{after_line, is_next, nothing_since};
 
 use coord_types::NodeId;
 
-/// Of the signal that was printed last the number of its step and its node, and whether it was the second
-/// of that step. A step gives out two at most: those of the two ends of a link that is dropped.
+/// The last printed signal: the number of its step, its node, and whether it was the second of that
+/// step. A step sends two signals at most: those of the two ends of a dropped link.
 #[derive(Clone, Copy, Debug, Drop)]
 pub struct LastLine {
     pub step: u64,
@@ -15,7 +15,7 @@ pub struct LastLine {
 }
 
 impl LastLine {
-    /// Nothing was printed yet, and no signal of a step up to this one will be.
+    /// Returns the state before any signal; no signal of a step up to this one will be printed.
     pub fn since(step: u64) -> Self
         ensures { result ≡ nothing_since step }
     {
@@ -26,14 +26,14 @@ impl LastLine {
         }
     }
 
-    /// Whether a signal of this step at this node comes after it.
+    /// Whether a signal of this step at this node comes after the last one.
     pub fn is_before(self, step: u64, node: NodeId) -> bool
         ensures { result ≡ is_next self step node }
     {
         self.step < step || (self.step == step && !self.is_second && self.node != node.number())
     }
 
-    /// That one is printed after it.
+    /// Records this signal as the last one.
     pub fn then(self, step: u64, node: NodeId) -> Self
         ensures { result ≡ after_line self step node }
     {

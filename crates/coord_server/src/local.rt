@@ -12,22 +12,21 @@ use std::marker::Model;
 use std::sync::{Mutex, Wait};
 use std::{array, mem};
 
-/// How many workers there are. A node belongs to the worker with the node's number modulo this.
+/// The number of workers. A node belongs to the worker with the node's number modulo this.
 pub const WORKERS: u8 = 8;
 
-/// The ways to the workers: the channel of the worker i is the i-th, and the packets that are gathered
-/// for it are the i-th too.
+/// The channels to the workers and the gathered packets, both by the number of the worker.
 #[derive(Drop)]
 struct Ways {
     channels: Vec<Sender<Vec<Packet>>>,
     gathered: [Vec<Packet>; 8],
 }
 
-/// Carries packets to the workers' channels, and signals to the channel of what prints them. It gathers
-/// packets, and hands on those for one worker as one message, so that each is woken once. It gets the
-/// packets that are sent again, and all signals: a flusher submits the packets of its flights itself
-/// (`SubmittingPort`). It waits for nobody: what there is no memory for is lost. No clause can say what
-/// lies after its locks, so contracts see nothing of it.
+/// Carries packets to the workers' channels, and signals to the channel of what prints them. It
+/// gathers packets, and hands on those for one worker as one message, so that each is woken once.
+/// It gets the resent packets and all signals: a flusher submits the packets of its flights itself
+/// (`SubmittingPort`). It waits for nobody: a packet without memory is lost. No clause can name the
+/// values under its locks, so contracts see nothing of it.
 #[derive(Drop)]
 pub struct LocalPort<R: Wait, O: SignalSource> {
     rt: R,
@@ -77,7 +76,7 @@ impl<R: Wait, O: SignalSource> LocalPort<R, O> {
     }
 }
 
-/// Which worker has the node to which a packet goes.
+/// Returns the worker of the node to which a packet goes.
 fn worker_of(packet: &Packet) -> usize
     ensures { result ≡ worker_of packet.now }
 {
@@ -88,7 +87,7 @@ fn worker_of(packet: &Packet) -> usize
     usize::from(node.number() % WORKERS)
 }
 
-/// Sends packets that were gathered for a worker, if there are some. How many of them are lost.
+/// Sends the packets gathered for a worker, if any. Returns the number of lost ones.
 fn send<R: Wait>(
     rt: &R,
     channels: &[Sender<Vec<Packet>>],
@@ -115,7 +114,7 @@ impl Ways {
         }
     }
 
-    /// Hands on the gathered packets, and returns how many are lost.
+    /// Hands on the gathered packets, and returns the number of lost ones.
     fn hand_on<R: Wait>(&mut self, rt: &R, alloc: Global) -> u64 {
         let mut lost = 0u64;
         for (worker, gathered) in self.gathered.iter_mut().enumerate() {

@@ -1,4 +1,4 @@
-//! What a server prints.
+//! The printer of a server's lines.
 
 ghost use Rattle.std.specs.Prelude.{◌≡◌, ◌≢◌, Err, IfErr, IsErr, OnErr, OnOk, false, nat_le, true};
 ghost use Rattle.std.specs.Io.KnownBytes.{Appends};
@@ -18,20 +18,20 @@ use std::io::{ErrorKind, Write};
 use std::marker::{Model, PhantomData};
 use std::net::SocketAddr;
 
-/// An output that may be taken out of a `Printer`. Code that is generic over an output without this bound
-/// can write to it only through a `SignalPrinter`, whether it returns or not.
+/// An output that may be taken out of a `Printer`. Code that is generic over an output without this
+/// bound can write to it only through a `SignalPrinter`, whether it returns or not.
 pub trait TakableOutput {}
 
 impl TakableOutput for Vec<u8> {}
 
-/// An output to which lines were printed, and how that went. It can't print: a `SignalPrinter` does.
+/// An output to which lines were printed, with its state. It can't print: a `SignalPrinter` does.
 /// Contracts see `PrinterState` (`specs/Printed.antt`).
 #[derive(Drop)]
 pub struct Printer<W: Write> {
     alloc: Global,
     output: W,
     is_broken: bool,
-    /// How many signals were not printed, because they did not come after the last one.
+    /// The number of signals that were not printed, because they did not come after the last one.
     lost: u64,
     last: LastLine,
 }
@@ -52,7 +52,7 @@ impl<W: Write> Printer<W> {
         self.is_broken
     }
 
-    /// Whether each step of which a signal was printed is one of these many first ones.
+    /// Whether the steps of all printed signals are among this many first ones.
     pub fn is_within(&self, steps: u64) -> bool
         ensures { result ≡ nat_le self.now.last.step steps }
     {
@@ -91,7 +91,7 @@ impl<W: Write> Printer<W> {
         }
     }
 
-    /// One more signal is lost.
+    /// Counts a lost signal.
     fn lose(&mut self)
         ensures { self.new ≡ with_lost self.old }
     {
@@ -120,7 +120,7 @@ impl<W: Write> Printer<W> {
 }
 
 impl<W: Write + TakableOutput> Printer<W> {
-    /// The output.
+    /// Returns the output.
     pub fn into_output(self) -> W
         ensures { result ≡ self.output }
     {
@@ -129,9 +129,9 @@ impl<W: Write + TakableOutput> Printer<W> {
 }
 
 /// Prints a server's lines: its address, and signals of the history that `O` names. It can't print
-/// anything else. Each line is written at once and flushed. If one can't be written, a first part of it may
-/// have been, and no more lines are printed. Signals are printed in the order of their steps, each once.
-/// Contracts see `PrinterState`, as of a `Printer`.
+/// anything else. Each line is written at once and flushed. If a write fails, a prefix of the line
+/// may have been written, and no more lines are printed. Signals are printed in the order of their
+/// steps, each once. Contracts see `PrinterState`, as of a `Printer`.
 #[derive(Drop)]
 pub struct SignalPrinter<W: Write, O: SignalSource> {
     printer: Printer<W>,
@@ -147,8 +147,8 @@ impl<W: Write, O: SignalSource> Model for SignalPrinter<W, O> {
 }
 
 impl<W: Write, O: SignalSource> SignalPrinter<W, O> {
-    /// Creates a printer for an output to which nothing was printed yet, for signals of steps after this
-    /// one.
+    /// Creates a printer for an output to which nothing was printed yet, for signals of steps after
+    /// this one.
     pub fn new(alloc: Global, output: W, since: u64) -> Self
         ensures { result ≡ new_printer output since }
     {
@@ -178,9 +178,9 @@ impl<W: Write, O: SignalSource> SignalPrinter<W, O> {
         self.printer.is_broken()
     }
 
-    /// Prints `signal N EPOCH`: a step has ended a reset at node N. Returns whether the line was written.
-    /// If not, the output has failed, or the signal did not come after the last one: then no part of its line
-    /// was written, and the signal counts as lost.
+    /// Prints `signal N EPOCH`: a step has ended a reset at node N. Returns whether the line was
+    /// written. If not, the output has failed, or the signal did not come after the last one: then
+    /// no part of its line was written, and the signal counts as lost.
     pub fn print_signal(&mut self, signal: &Signal<O>) -> bool
         ensures written { result ≡ true →
             Appends (W.contents self.old.output) (W.contents self.new.output)
@@ -202,8 +202,9 @@ impl<W: Write, O: SignalSource> SignalPrinter<W, O> {
             .print_step(signal.step(), signal.node(), signal.epoch())
     }
 
-    /// Prints the address at which the server listens, or returns why not: the output failed, or there
-    /// was no memory for the line. In the second case no part of it was written, and later lines are.
+    /// Prints the address at which the server listens, or returns the fault: the output failed, or
+    /// memory for the line ran out. In the second case nothing was written, and later lines are
+    /// printed.
     pub fn print_address(&mut self, address: SocketAddr) -> Result<(), ServerFault>
         ensures written { OnOk result (Appends (W.contents self.old.output)
             (W.contents self.new.output) (listening_line address)) }
@@ -222,7 +223,7 @@ impl<W: Write, O: SignalSource> SignalPrinter<W, O> {
     }
 }
 
-/// Writes a line and flushes it. Where either fails, a first part of the line was written, and no more.
+/// Writes a line and flushes it. If either fails, exactly a prefix of the line was written.
 fn write_line<W: Write>(output: &mut W, line: &str) -> Result<(), ServerFault>
     ensures written { OnOk result (Appends (W.contents output.old) (W.contents output.new)
         line.now) }
@@ -239,7 +240,7 @@ fn write_line<W: Write>(output: &mut W, line: &str) -> Result<(), ServerFault>
     }
 }
 
-/// Of an output that has failed: out of memory if it says so, else that it could not be written.
+/// Returns the fault of a failed output: out of memory if the error says so, else Write.
 fn fault_of(error: io::Error) -> ServerFault
     ensures memory { error_kind error ≡ ErrorKind.OutOfMemory → result ≡ ServerFault.OutOfMemory }
     ensures other { error_kind error ≢ ErrorKind.OutOfMemory → result ≡ ServerFault.Write }

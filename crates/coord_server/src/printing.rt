@@ -23,12 +23,12 @@ use std::thread::Promise;
 pub struct Printed<W: Write> {
     pub printer: Printer<W>,
     pub reader: LogPrefix,
-    /// Why the first line was not printed, if it should have been.
+    /// The reason why the first line was not printed, if it should have been.
     pub unprinted: Option<ServerFault>,
 }
 
-/// Prints the signals that come, in their order, up to the last one or to a line that could not be
-/// written. A signal that does not come after the last one is lost.
+/// Prints the arriving signals in order, up to the last one or to a line that can't be written. A
+/// signal that does not come after the last one is lost.
 #[tactic(auto, using(crate::proofs::Starts::returned_none))]
 pub fn print_signals<W: Write, O: SignalSource, I: Iterator<Item = Signal<O>>>(
     history: &MonotoneLog,
@@ -74,15 +74,15 @@ pub struct Opening {
 }
 
 impl Opening {
-    /// Asks nobody for the first line any more: what waits to be asked for it goes on without.
+    /// Gives up the request for the first line: the thread that waits for it continues without.
     pub fn give_up(&mut self)
         ensures { self.new.to ≡ None }
     {
         self.to = None;
     }
 
-    /// Has the address printed at which the server listens, and signals after it; or says how the instance
-    /// ends where that line was not printed, as where nobody is asked for it.
+    /// Makes the other thread print the address at which the server listens, and then signals; or
+    /// returns the end of the instance if that line was not printed, also if no thread prints.
     pub fn open<C: Callers, R: Wait>(self, rt: &R, callers: &C) -> Result<(), InstanceEnd>
         ensures unopened { IfErr result (EndsUnopened C.failed callers.now) }
         ensures given_up { self.to ≡ None → IsErr result }
@@ -104,7 +104,7 @@ impl Opening {
     }
 }
 
-/// Prints the address at which the server listens; or says why it was not printed.
+/// Prints the address at which the server listens, or returns the reason why it was not printed.
 fn print_listening<W: Write, O: SignalSource>(
     address: SocketAddr,
     printer: &mut SignalPrinter<W, O>,
@@ -118,7 +118,7 @@ fn print_listening<W: Write, O: SignalSource>(
     printer.print_address(address)
 }
 
-/// What prints, and what its thread receives: the address for the first line, and signals.
+/// The printer with the receiving ends of its thread: the address for the first line, and signals.
 #[derive(Drop)]
 pub struct Printing<W: Write + Drop, O: SignalSource> {
     pub printer: SignalPrinter<W, O>,
@@ -133,7 +133,7 @@ pub struct Printing<W: Write + Drop, O: SignalSource> {
 
 #[tactic(auto, using(crate::proofs::Starts::printed_none))]
 impl<W: Write + Drop, O: SignalSource> Printing<W, O> {
-    /// Prints the address that comes, and then the signals that come, and returns the printer. No
+    /// Prints the received address, and then the received signals, and returns the printer. No
     /// clause can state the content of a channel except the invariant of a signal's type.
     pub fn print<R: Wait>(self, rt: &R) -> Printed<W>
         ensures printed { IsPrinted W.contents (O.gives result.reader.steps)
@@ -179,7 +179,7 @@ pub struct PrintsFrom<W: Write + Drop, O: SignalSource> {
 }
 
 impl<W: Write + Drop, O: SignalSource> PrintsFrom<W, O> {
-    /// From this.
+    /// Remembers the printer's state before the thread starts.
     pub fn new(printer: &SignalPrinter<W, O>) -> Self
         ensures { result.first.value ≡ printer.now }
     {
@@ -198,8 +198,8 @@ impl<W: Write + Drop, O: SignalSource> Promise<Printed<W>> for PrintsFrom<W, O> 
         IsUnprintedFor r.printer r.unprinted };
 }
 
-/// The channels between the two sides of an output: for the address of the first line, for that this line
-/// was printed, and for signals.
+/// The channels between the two sides of an output: for the address of the first line, for the
+/// confirmation that it was printed, and for signals.
 #[derive(Drop)]
 pub struct Channels<O: SignalSource> {
     addresses: (Sender<SocketAddr>, Receiver<SocketAddr>),
@@ -208,7 +208,7 @@ pub struct Channels<O: SignalSource> {
 }
 
 impl<O: SignalSource> Channels<O> {
-    /// New ones, if there is memory for them. That of signals has no bound.
+    /// Creates the channels, if there is memory for them. That of signals is unbounded.
     pub fn new(alloc: Global) -> Result<Self, AllocError> {
         Ok(Channels {
             addresses: crossbeam_channel::bounded(alloc, 1)?,
@@ -218,7 +218,7 @@ impl<O: SignalSource> Channels<O> {
     }
 }
 
-/// The two sides of an output: the port that signals come to and what opens it, and its thread's.
+/// The two sides of an output: the port for signals with the opening, and the side of its thread.
 #[derive(Drop)]
 pub struct Outlet<R: Wait, W: Write + Drop, O: SignalSource> {
     pub port: LocalPort<R, O>,
@@ -227,8 +227,8 @@ pub struct Outlet<R: Wait, W: Write + Drop, O: SignalSource> {
 }
 
 impl<R: Wait + Drop, W: Write + Drop, O: SignalSource> Outlet<R, W, O> {
-    /// Of a printer, with the history of its signals. No clause can say that the two sides of a channel
-    /// belong together.
+    /// Creates both sides for a printer and the history of its signals. No clause can say that the
+    /// two sides of a channel belong together.
     pub fn new(
         rt: R,
         alloc: Global,

@@ -1,4 +1,4 @@
-//! What a server leaves.
+//! The end of a server, and the parts that it returns.
 
 ghost use Rattle.std.specs.Prelude.{◌≡◌, ◌≤◌, false, IfErr, IfOk, None, Some};
 ghost use Rattle.coord_store.specs.Kept.{has_stopped};
@@ -16,16 +16,16 @@ use std::io::Write;
 pub struct ServerEnd<D: Disk, C, W: Write> {
     pub closed: Closed<D>,
     pub callers: C,
-    /// What ended the serving, if not a close.
+    /// The fault that ended the serving, if not a close.
     pub served: Option<ServerFault>,
-    /// What printed, once it has printed all.
+    /// The printer, once it has printed everything.
     pub printer: Printer<W>,
 }
 
 impl<D: Disk, C, W: Write> ServerEnd<D, C, W> {
-    /// Returns the one fault to report: a stopped store first, then what ended the serving, then an output that
-    /// failed, or that has the signal of a step that is not settled: no signal comes to it before that. None
-    /// if the server was closed and nothing failed.
+    /// Returns the one fault to report: a stopped store first, then what ended the serving, then an
+    /// output that failed, or that has the signal of a step that is not settled: no signal comes to
+    /// it before that. None if the server was closed and nothing failed.
     pub fn fault(&self) -> Option<ServerFault>
         ensures { result ≡ fault_at_end
             (has_stopped self.now.closed.store) self.now.served
@@ -41,7 +41,8 @@ impl<D: Disk, C, W: Write> ServerEnd<D, C, W> {
         }
     }
 
-    /// Tests whether a line could not be written, or a signal was printed of a step that is not settled.
+    /// Tests whether a line could not be written, or a signal was printed of a step that is not
+    /// settled.
     fn is_amiss(&self) -> bool
         ensures { result ≡ is_amiss self.now.printer self.now.closed.settled }
     {

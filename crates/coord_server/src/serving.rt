@@ -32,9 +32,10 @@ pub const INSTANCE_STEPS: usize = 262_144;
 /// connections, with the usual timeouts. The history is new, and `O` names it. If memory to begin
 /// runs out, the store and the printer are returned unchanged.
 ///
-/// A server that never returns has no postcondition. But whatever it does and wherever it stops, it writes
-/// the disk only by commits of its store, and the output only by its printer's calls: its type says so,
-/// since it takes any disk and any output, and these need not be `Takable` and `TakableOutput`.
+/// A server that never returns has no postcondition. But whatever it does and wherever it stops, it
+/// writes the disk only by commits of its store, and the output only by its printer's calls: its
+/// type says so, since it takes any disk and any output, and these need not be `Takable` and
+/// `TakableOutput`.
 pub fn serve_store<
     'a,
     D: Disk + Send,
@@ -69,7 +70,7 @@ pub fn serve_store<
     )
 }
 
-/// Serves a store to the connections of a listener whose clients are waited for as usual.
+/// Serves a store to the connections of a listener, with the usual timeouts for its clients.
 fn serve_accepted<
     'a,
     D: Disk + Send,

@@ -1,4 +1,4 @@
-//! What all instances of a server share.
+//! The parts that all instances of a server share.
 
 ghost use Rattle.std.specs.Prelude.{◌≡◌};
 
@@ -7,8 +7,8 @@ use coord_engine::MonotoneLog;
 use std::alloc::Global;
 use std::sync::Wait;
 
-/// The runtime, the memory, the port and the history of a server, and after how many steps an instance of it
-/// ends.
+/// The runtime, the memory, the port and the history of a server, and the number of steps of an
+/// instance.
 #[derive(Drop)]
 pub struct Setting<'r, R: Wait, O: SignalSource> {
     pub rt: &'r R,

@@ -7,10 +7,10 @@ use coord_engine::LogPrefix;
 use coord_types::NodeId;
 use std::marker::{Brand, Model, PhantomData};
 
-/// Names a server by its history: it prints only signals that the settled steps there give out.
+/// Names a server by its history: it prints only signals that the settled steps there send.
 ///
-/// A port and an output are made in code that is generic over this name and called with `Brand`, which
-/// picks the history of the server at hand, and what its steps give out.
+/// A port and an output are made in code that is generic over this name and called with `Brand`,
+/// which picks the server's history and the signals of its steps.
 pub trait SignalSource {
     ghost use Rattle.std.specs.Prelude.{ℕ, List, ◌++◌};
     ghost use Rattle.atomic_table.specs.Seated.{TableId};
@@ -19,11 +19,10 @@ pub trait SignalSource {
     /// The history that its instances write.
     ghost history: { TableId };
 
-    /// Which signals some steps give out: by the number of the step that gives one out, the node and the
-    /// epoch.
+    /// The signals that some steps send: by the number of the sending step, the node and the epoch.
     ghost gives: { List Step → ℕ → ℕ → ℕ → Type 0 };
 
-    /// More steps give it out too.
+    /// More steps send it too.
     ghost lasts: { (first more : List Step) (step node epoch : ℕ) → gives first step node epoch →
         gives (first ++ more) step node epoch };
 }
@@ -39,9 +38,10 @@ impl SignalSource for Brand {
     ghost lasts = { λ _ _ _ _ _ is. is };
 }
 
-/// The step with this number has ended a reset at this node, and this epoch has begun. Its type keeps
-/// that the server which `O` names may print it, since the step is among the settled ones that the reader has
-/// read: that is known of each signal that comes over a channel.
+/// A signal: the step with this number has ended a reset at this node, and this epoch has begun.
+/// The type guarantees that the server which `O` names may print it, since the step is among the
+/// settled ones that the reader has read. So this is known of each signal that comes over a
+/// channel.
 #[derive(Drop)]
 pub struct Signal<O: SignalSource> {
     reader: LogPrefix,
@@ -76,28 +76,28 @@ impl<O: SignalSource> Signal<O> {
         }
     }
 
-    /// The number of its step.
+    /// Returns the number of its step.
     pub fn step(&self) -> u64
         ensures { result ≡ self.now.step }
     {
         self.step
     }
 
-    /// Its node.
+    /// Returns its node.
     pub fn node(&self) -> NodeId
         ensures { result ≡ self.now.node }
     {
         self.node
     }
 
-    /// The epoch that has begun there.
+    /// Returns the epoch that has begun there.
     pub fn epoch(&self) -> u64
         ensures { result ≡ self.now.epoch }
     {
         self.epoch
     }
 
-    /// The token that has read its step.
+    /// Returns the token that has read its step.
     pub fn into_reader(self) -> LogPrefix
         ensures { MaySignal O.history O.gives result self.step self.node self.epoch }
     {

@@ -27,18 +27,18 @@ use std::thread;
 use std::thread::{JoinHandle, Scope, Threads};
 use std::time::Clock;
 
-/// What the threads of an instance begin with.
+/// The start of an instance's threads.
 #[derive(Drop)]
 pub struct Begun<L: Origin> {
     /// The desk's share.
     pub own: Share<L>,
     /// The desk's reader, which has read the steps of earlier instances.
     pub reader: LogPrefix,
-    /// The flusher's.
+    /// The flusher's share.
     pub flusher_share: PacketShare<L>,
     /// Room for all shares: none of them may be lost for lack of memory.
     pub room: Vec<Share<L>>,
-    /// What the workers receive.
+    /// The receiving ends of the workers' channels.
     pub packets: Vec<Receiver<Vec<Packet>>>,
     pub ghost unused: { own ≡ [] },
     pub ghost unread: { reader ≡ record { history = L.history; steps = L.earlier } },
@@ -57,8 +57,8 @@ pub struct JoinedThreads<L: Count, C> {
     pub left: InstanceEnd,
 }
 
-/// The threads of an instance: its flusher, and a worker for each of the eight channels. Who serves is
-/// given one, so nobody is served before all of them were started.
+/// The threads of an instance: its flusher, and a worker for each of the eight channels. Serving
+/// takes one, so nobody is served before all of them were started.
 #[derive(Drop)]
 struct Crew<L: Count> {
     flushing: JoinHandle<PacketShare<L>>,
@@ -279,7 +279,7 @@ fn start_worker<
 }
 
 /// Opens the output, and serves the callers by a desk with this share, while a crew is at work.
-/// Returns the share, the desk's seen count, its token, and what ended that.
+/// Returns the share, the desk's seen count, its token, and the end of the serving.
 fn serve_over<D: Disk, L: Origin, C: Callers, O: SignalSource, R: Wait>(
     setting: &Setting<'_, R, O>,
     engine: &Engine<D, L>,
@@ -304,7 +304,7 @@ fn serve_over<D: Disk, L: Origin, C: Callers, O: SignalSource, R: Wait>(
     (own, seen, reader, left)
 }
 
-/// Opens the output, unless that was done before; or returns how the instance ends if it can't be
+/// Opens the output, unless that was done before; returns the end of the instance if it can't be
 /// opened.
 fn open<C: Callers, R: Wait>(
     rt: &R,
@@ -374,7 +374,7 @@ fn serve_until_old<D: Disk, L: Origin, C: Callers, P: Port, O: SignalSource, R: 
     }
 }
 
-/// The desk's share, and after it the flusher's and those of all workers, which are waited for.
+/// Waits for the flusher and all workers, and returns the desk's share, the flusher's and theirs.
 fn all_joined<L: Count, R: Threads + Wait>(
     rt: &R,
     room: Vec<Share<L>>,

@@ -1,4 +1,4 @@
-//! The value under the lock taken apart.
+//! Takes the value under the lock apart.
 
 ghost use Rattle.std.specs.Prelude.{◌≡◌, ◌↔◌, ◌+◌, ◌≤◌, drop, false, true, length, is_none, is_some, sum_by, IfErr, IfNone, IfOk, IfSome, IsTrue, Some};
 ghost use Rattle.coord_engine.specs.Closing.{IsSince, MayClose, RefusesClosing};
@@ -34,7 +34,7 @@ fn gather<L: Count>(book: Book<L>, rest: Part<L>, shares: Vec<Share<L>>)
     book.audit(&mut all);
 }
 
-/// The kinds from this place on.
+/// Returns the kinds from this place on.
 fn kinds_from(kinds: &[Kind], start: usize) -> &[Kind]
     requires { start ≤ length kinds.now }
     ensures { result.now ≡ drop start kinds.now }
@@ -42,7 +42,7 @@ fn kinds_from(kinds: &[Kind], start: usize) -> &[Kind]
     &kinds[start..]
 }
 
-/// The steps from this place on.
+/// Returns the steps from this place on.
 pub fn steps_from(trail: &[Step], start: usize) -> &[Step]
     requires { start ≤ length trail.now }
     ensures { result.now ≡ drop start trail.now }
@@ -50,7 +50,7 @@ pub fn steps_from(trail: &[Step], start: usize) -> &[Step]
     &trail[start..]
 }
 
-/// The parts of a ledger whose store is at home. It allocates nothing.
+/// Returns the parts of a ledger whose store is at home. It allocates nothing.
 fn left_of<D: Disk>(ledger: Ledger<D>) -> Closed<D>
     requires home { is_none ledger.disk ≡ false }
     ensures store { (ledger.disk ≡ Some result.store.disk) ×
@@ -71,7 +71,7 @@ fn left_of<D: Disk>(ledger: Ledger<D>) -> Closed<D>
 }
 
 impl<D: Disk, L: Origin> Guarded<D, L> {
-    /// Whether the shares noted all that was accepted since the start, with the kinds of the replies,
+    /// Whether the shares noted every step accepted since the start, with the kind of its reply,
     /// each share in order. That they noted nothing else follows from the count.
     fn are_noted(&self, shares: &[Share<L>]) -> bool
         ensures { IsTrue result ↔ AreNoted shares.now
@@ -146,8 +146,8 @@ impl<D: Disk, L: Origin> Guarded<D, L> {
         Ok((left_of(ledger), writer))
     }
 
-    /// Takes the ledger apart whatever the shares noted. What writes the history comes back too. It takes
-    /// no memory.
+    /// Takes the ledger apart, whatever the shares noted, and returns the authority of the history
+    /// too. It allocates nothing.
     fn abandon(self) -> (Closed<D>, LogAuthority)
         requires home { is_none self.ledger.disk ≡ false }
         ensures store { (self.ledger.disk ≡ Some result.0.store.disk) ×
@@ -175,8 +175,8 @@ impl<D: Disk, L: Origin> Guarded<D, L> {
         (left_of(ledger), writer)
     }
 
-    /// Takes the ledger apart in any case, unless a flight is out: as `close` does; or, where `close`
-    /// refuses these shares, whatever they noted, and says why. It takes no memory.
+    /// Takes the ledger apart in any case, unless a flight is out: like `close`; or, if `close`
+    /// refuses these shares, whatever they noted, with the reason. It allocates nothing.
     pub fn retire(
         self,
         shares: Vec<Share<L>>,

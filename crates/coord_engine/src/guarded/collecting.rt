@@ -14,9 +14,9 @@ use coord_types::Refusal;
 use std::mem::replace;
 
 impl<D: Disk, L: Origin> Guarded<D, L> {
-    /// The reply to the ticket's step once it is settled. `Stranger` refuses a ticket of another
-    /// ledger once a step with its number is settled, and `Stopped` one whose step will not be
-    /// settled any more; any other has to wait.
+    /// Returns the reply to the ticket's step once it is settled. `Stranger` refuses a ticket of
+    /// another ledger once a step with its number is settled, and `Stopped` one whose step will not
+    /// be settled any more; any other has to wait.
     pub fn collect(&self, ticket: Ticket) -> Collected
         ensures { CollectsAs self.now.ledger ticket result }
     {

@@ -1,4 +1,4 @@
-//! The notes of shares against the steps that were accepted. It takes no memory.
+//! Compares the notes of shares with the accepted steps. It allocates nothing.
 
 ghost use Rattle.std.specs.Prelude.{◌≡◌, ◌↔◌, ◌+◌, ◌^◌, ◌<◌, get_or, length, All, Contains, IsTrue};
 ghost use Rattle.coord_engine.specs.Named.{IsAscending, all_notes, notes_of};
@@ -64,7 +64,7 @@ fn some_has<L: Count>(shares: &[Share<L>], note: &Note) -> bool
     false
 }
 
-/// The kind at this place.
+/// Returns the kind at this place.
 fn kind_at(kinds: &[Kind], place: usize) -> Kind
     requires { place < length kinds.now }
     ensures { result ≡ get_or kinds.now place result }

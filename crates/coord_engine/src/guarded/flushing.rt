@@ -1,4 +1,4 @@
-//! Flights go out, and come back.
+//! Sends flights out, and takes them back.
 
 ghost use Rattle.std.specs.Prelude.{◌≡◌, ◌-◌, ◌++◌, false, true, None, Ok, length, take, IfErr, IfOk, IfSome, IsSomeAnd, OnErr, OnOk, Some, ◌≤◌};
 ghost use Rattle.coord_engine.specs.MonotoneLog.{StartsWith};
@@ -18,7 +18,7 @@ use coord_types::{Refusal, Step};
 use std::alloc::AllocError;
 use std::marker::PhantomData;
 
-/// The first steps of these, this many.
+/// Returns this many of the first steps.
 fn first_steps(steps: &[Step], count: usize) -> &[Step]
     requires { count ≤ length steps.now }
     ensures { result.now ≡ take count steps.now }
@@ -42,14 +42,14 @@ pub(super) fn write_settled<D: Disk, L: Origin>(
 }
 
 impl<D: Disk, L: Origin> Guarded<D, L> {
-    /// How many steps are accepted and not settled.
+    /// Returns the number of accepted steps that are not settled.
     pub fn pending(&self) -> usize
         ensures { result ≡ length (pending self.now.ledger.log) }
     {
         self.ledger.pending()
     }
 
-    /// Sends the next flight out, as the ledger does. It has read the settled steps.
+    /// Sends the next flight out, like the ledger. The flight has read the settled steps.
     pub fn begin(&mut self, history: &MonotoneLog) -> Result<Option<OwnFlight<D, L>>, AllocError>
         requires here { history.now ≡ L.history }
         ensures nothing { keeps_store self.old.ledger ≡ true → (result ≡ Ok None) ×
@@ -119,7 +119,8 @@ impl<D: Disk, L: Origin> Guarded<D, L> {
         }
     }
 
-    /// What may have been lost, to be sent again as of step 0. No signal is among it.
+    /// Returns the packets that may have been lost, to be sent again as of step 0. No signal is
+    /// among them.
     pub fn resend(&mut self, history: &MonotoneLog) -> Result<Released<L>, AllocError>
         requires here { history.now ≡ L.history }
         ensures again { IfOk result (λ releases. releases ≡ resent (settled_world self.old.ledger.log)) }

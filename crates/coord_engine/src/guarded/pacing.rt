@@ -1,9 +1,9 @@
 //! When a flight starts (`specs/Pacing.antt`).
 //!
 //! `in_hand` counts the released packets that a port or a worker has in hand, as far as is known: a
-//! port may lose a packet or carry it twice. `awaited` is how many steps are likely to be pending
-//! soon: a caller that was answered may come again or not. So both are hints of when to start a
-//! flight, and no more.
+//! port may lose a packet or carry it twice. `awaited` is the number of steps likely to be pending
+//! soon: an answered caller may come again or not. So both are only hints of when to start a
+//! flight.
 
 ghost use Rattle.std.specs.Prelude.{◌≡◌, ◌+◌, ◌-◌, ◌^◌, min, take};
 ghost use Rattle.std.specs.List.{count_by};
@@ -17,16 +17,16 @@ use crate::Origin;
 use coord_disk::Disk;
 use coord_types::{MAX_BATCH_STEPS, Step};
 
-/// The most steps that a flight waits for. Where more are likely to come it waits for none: a flight
-/// of that many callers is well filled without (some 50 of 64 are in each), and over a fast disk
-/// the wait costs more than the few that are missing.
+/// The most steps that a flight waits for. If more are likely to come it waits for none: a flight
+/// of that many callers is well filled without a wait (some 50 of 64 are in each), and over a fast
+/// disk the wait costs more than the few missing steps.
 const MOST_AWAITED: u64 = 32;
 
-/// Says that the count of packets in hand was lowered by one. Nothing but `put_down` makes it.
+/// Shows that the count of packets in hand was lowered by one. Only `put_down` makes it.
 #[derive(Drop)]
 pub struct PutDown(());
 
-/// How many of these steps are orders.
+/// Returns the number of orders among these steps.
 fn count_orders(steps: &[Step]) -> usize
     ensures { result ≡ count_by is_order steps.now }
 {
@@ -36,7 +36,7 @@ fn count_orders(steps: &[Step]) -> usize
         .count()
 }
 
-/// The first of these steps, as many as a flight takes.
+/// Returns the first of these steps, as many as a flight takes.
 fn next_steps(steps: &[Step]) -> &[Step]
     ensures { result.now ≡ take MAX_BATCH_STEPS steps.now }
 {
@@ -58,7 +58,7 @@ impl<D: Disk, L: Origin> Guarded<D, L> {
         self.in_hand = self.in_hand.saturating_sub(count);
     }
 
-    /// A packet was submitted, dropped, kept or lost.
+    /// Counts a packet that was submitted, dropped, kept or lost.
     pub fn put_down(&mut self) -> PutDown
         ensures { self.new ≡ with_in_hand self.old (self.old.in_hand - 1) }
     {
@@ -73,7 +73,7 @@ impl<D: Disk, L: Origin> Guarded<D, L> {
         self.in_hand = 0;
     }
 
-    /// The steps that are accepted and not settled.
+    /// Returns the accepted steps that are not settled.
     fn pending_steps(&self) -> &[Step]
         ensures { result.now ≡ pending self.now.ledger.log }
     {
@@ -88,8 +88,8 @@ impl<D: Disk, L: Origin> Guarded<D, L> {
         self.awaited = count_orders(next_steps(self.pending_steps())) as u64;
     }
 
-    /// A flight is back: its callers may order again, and so they are awaited beside those whose
-    /// steps are pending; where they are many, nobody is awaited.
+    /// Awaits the callers of a flight that came back, since they may order again, beside those
+    /// whose steps are pending; if they are many, nobody is awaited.
     pub fn await_callers(&mut self)
         ensures { self.new ≡ with_callers_awaited self.old }
     {
@@ -104,7 +104,7 @@ impl<D: Disk, L: Origin> Guarded<D, L> {
         self.awaited = 0;
     }
 
-    /// Whether nothing will be flushed any more.
+    /// Whether nothing will ever be flushed again.
     pub fn is_over(&self) -> bool
         ensures { result ≡ is_over self.now }
     {

@@ -2,8 +2,9 @@
 
 use std::sync::Condvar;
 
-/// Says that something has changed for which callers or a flusher may wait. A method of `Guarded` that changes
-/// it returns this. It can't be dropped: whoever has it must wake them, on every path.
+/// The duty to wake callers or a flusher after a change for which they may wait. A method of
+/// `Guarded` that makes such a change returns it. It can't be dropped: its owner must wake them, on
+/// every path.
 pub struct PendingWake(());
 
 impl PendingWake {

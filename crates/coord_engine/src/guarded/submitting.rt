@@ -1,4 +1,4 @@
-//! How steps are accepted for shares.
+//! Accepts steps for shares.
 
 ghost use Rattle.std.specs.Prelude.{◌≡◌, ◌+◌, length};
 ghost use Rattle.coord_engine.specs.Calls.{AnswersStep, engine_verdict};
@@ -11,8 +11,8 @@ use coord_ledger::{Handed, Ticket};
 use coord_types::{Refusal, Step};
 
 impl<D: Disk, L: Origin> Guarded<D, L> {
-    /// Accepts a step as the ledger does, and notes it in the caller's share. A repeat is not noted: it
-    /// is distinguished from an accepted step by the length of the trail.
+    /// Accepts a step as the ledger does, and notes it in the caller's share. A repeat is not
+    /// noted: it is distinguished from an accepted step by the length of the trail.
     ///
     /// Room for the note is allocated first, so `OutOfMemory` may come before any other refusal.
     /// Then comes `Stopped`, also if the engine is finishing.
