@@ -171,7 +171,7 @@ class Orders:
 
     def recover(self, most: int = MOST_TRIED, node: int | None = None) -> int:
         """Finds the number of this client's last order, writes it down, and returns it. It gives up an order without an answer:
-        `show` tells whether that was carried out. `node` is one that the client may name (a front's policy may allow it no
+        `show` shows whether that was carried out. `node` is one that the client may name (a front's policy may allow it no
         other). Raises CountNotFound, Away, Garbled and Untrusted."""
         with self._turn:
             number = find_count(self.port, self.client, self.number, most, node)

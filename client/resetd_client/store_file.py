@@ -87,7 +87,7 @@ class Store:
 
 
 def store_of(half: Half) -> Store:
-    """Returns the store that a half encodes. `resetd check` tells whether the world accepts the steps. Raises NoStore."""
+    """Returns the store that a half encodes. `resetd check` reports whether the world accepts the steps. Raises NoStore."""
     if half.version not in VERSIONS:
         raise NoStore("BadSnapshot", half.start, f"version {half.version} is not known")
     try:
