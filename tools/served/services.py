@@ -47,6 +47,7 @@ class Trial:
         self.server = Server(words.program, f"{folder}/store", held_address())  # of all its starts
         self.helpers = list[subprocess.Popen[bytes]]()
         self._front: Front | None = None
+        self._front_for_tcp: Front | None = None
         links = [(node, node % nodes + 1) for node in self.nodes][:nodes if is_ring and nodes > 2 else nodes - 1]
         done = self.server.found(
             "".join(f"[[node]]\nid = {node}\ngroup = 1\n" for node in self.nodes) +
@@ -70,8 +71,9 @@ class Trial:
 
     @property
     def tcp(self) -> list[str]:
-        """The host and the port for a member that comes by TCP."""
-        return (self._front.tcp if self._front else self.server.address).split(":")
+        """The host and the port of a front, for a member that comes by TCP. It starts a front if the trial has none."""
+        self._front_for_tcp = self._front or self._front_for_tcp or Front(self.folder, self.server.address, self.server.signals)
+        return self._front_for_tcp.tcp.split(":")
 
     def kill(self) -> None:
         """Signal 9, and a new start."""
@@ -210,8 +212,8 @@ class Trial:
 
     def end(self) -> None:
         self.stop_helpers()
-        if self._front:
-            self._front.end()
+        for front in filter(None, {self._front, self._front_for_tcp}):
+            front.end()
         self.orders.close()
         self.server.end()
 
