@@ -21,26 +21,31 @@ MEBIBYTES = {"ext4": 160, "xfs": 320, "btrfs": 128, "f2fs": 64}  # about the lea
 
 @dataclass(frozen=True)
 class FileSystem:
-    """A file system with its mount options. `no_barrier` is the option with which it sends no flush, if it has one. `harmless` are
-    the mutants that lose nothing there, each with the reason."""
+    """A file system with its mount options. `no_barrier` are the options with which it sends no flush, if it has them. `lossy` are those
+    with which it loses answers of a program that syncs as it has to, by the name of a control. `harmless` are the mutants that lose
+    nothing there, each with the reason; `harmful_with` those that lose something only with other options, each with these."""
 
     name: str
     kind: str
     options: str = ""
     no_barrier: str | None = None
+    lossy: Mapping[str, str] = field(default_factory=dict)
     harmless: Mapping[str, str] = field(default_factory=dict)
+    harmful_with: Mapping[str, str] = field(default_factory=dict)
 
 
 ALL = {
     each.name: each for each in (
         FileSystem("ext4", "ext4", no_barrier="barrier=0"),
         FileSystem("ext4-writeback", "ext4", "data=writeback", "data=writeback,barrier=0"),
-        FileSystem("ext4-journal", "ext4", "data=journal", "data=journal,barrier=0",
-                   {"barrier_left_out": "a start syncs the store's folder, which commits the store's bytes too",
-                    "body_not_synced": "one transaction of the journal has a batch's body and its gate"}),
+        FileSystem("ext4-journal", "ext4", "data=journal", "data=journal,barrier=0", harmless={
+            "barrier_left_out": "a start syncs the store's folder, which commits the store's bytes too",
+            "body_not_synced": "one transaction of the journal has a batch's body and its gate"}),
         FileSystem("xfs", "xfs"),
-        FileSystem("btrfs", "btrfs", no_barrier="nobarrier"),
-        FileSystem("f2fs", "f2fs", no_barrier="nobarrier"),
+        # By default it writes a batch's body and its gate to new places, to which one commit of its log refers.
+        FileSystem("btrfs", "btrfs", no_barrier="nobarrier", harmful_with={"body_not_synced": "nodatacow"}),
+        # Without fastboot the first sync after a checkpoint sends its flush before it has waited for the inode's block.
+        FileSystem("f2fs-fastboot", "f2fs", "fastboot", "fastboot,nobarrier", lossy={"without fastboot": ""}),
     )
 }
 

@@ -96,11 +96,15 @@ class Trial:
             self.controls["no flushes"] = f"not tried: {self._of.kind} has no option to send none"
         else:
             self._control("no flushes", self._without_flushes)
+        for name, options in self._of.lossy.items():
+            self._control(name, partial(self._with_options, name.replace(" ", "-"), options))
         for number, name in enumerate(MUTANTS, 1) if self._setting.wrong is not None else ():
             if name in self._of.harmless:
                 self.controls[name] = f"not tried: {self._of.harmless[name]}"
+            elif options := self._of.harmful_with.get(name):
+                self._control(f"{name} with {options}", partial(self._of_mutant, number, options))
             else:
-                self._control(name, partial(self._of_mutant, number))
+                self._control(name, partial(self._of_mutant, number, self._of.options))
 
     def _control(self, name: str, finds: Callable[[int], str | None]) -> None:
         for each in range(TRIES):
@@ -121,9 +125,14 @@ class Trial:
         run = self._run(seed=seed, orders=self._setting.orders // 2, options=self._of.no_barrier)
         return self._finds(self._record("no-flushes", run), seed)
 
-    def _of_mutant(self, number: int, seed: int) -> str | None:
+    def _with_options(self, name: str, options: str, seed: int) -> str | None:
+        """The program as it is, with other mount options, in a run in which many kills find unsynced writes."""
+        folder = self._record(name, self._run(seed=seed, options=options, **KILLS))
+        return self._finds(folder, seed, KILLED)
+
+    def _of_mutant(self, number: int, options: str, seed: int) -> str | None:
         """A mutant. The barrier at a start matters if a kill has left unsynced bytes."""
         name = MUTANTS[number - 1]
         values, places = (KILLS, KILLED) if name == WITHOUT_BARRIER else ({"orders": 40, "noise": False}, Places())
-        folder = self._record(name, self._run(seed=seed, program=1, mutant=number, **values), self._setting.wrong_machine)
+        folder = self._record(name, self._run(seed=seed, options=options, program=1, mutant=number, **values), self._setting.wrong_machine)
         return self._finds(folder, seed, places)
