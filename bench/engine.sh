@@ -1,7 +1,8 @@
 #!/usr/bin/env bash
 # How many steps a second callers of one engine get settled, with how many syncs each and how long each
-# takes, with 1, 4, 16 and 64 callers, over a file and over one whose syncs wait a millisecond; and how many flights and syncs one wave over a ring of 64 nodes with chords takes. Each
-# stands beside as many raw pairs of a write and a sync in the same run. The program of bench/engine is
+# takes, with 1, 4, 16 and 64 callers, over a file and over one whose syncs wait a millisecond; and how
+# many flights and syncs one wave over a ring of 64 nodes with chords takes. Each is printed beside as
+# many raw pairs of a write and a sync in the same run. The program of bench/engine is
 # proved and built in a scratch repository over copies of the crates with what rt keeps in their out/,
 # and runs ROUNDS times, with its files in the folder FOLDER; of several runs each is printed. Its files end
 # in .txt, since CI refuses a source file that belongs to no crate.

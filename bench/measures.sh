@@ -1,11 +1,11 @@
 #!/usr/bin/env bash
 # How long a step of a wave takes, and copying, writing, reading and checking of worlds and batches, in
 # both versions: one program that neither parses nor prints while its clock runs, and of several rounds
-# the least counts. Below stand the bytes of memory that a message, a step and a lane take. The program of bench/measures is proved and built in a scratch repository over copies of
-# the crates with what rt keeps in their out/, and runs ROUNDS times. Its files end in .txt, since the
-# gate refuses a source file that belongs to no crate. Where YARDSTICK names a folder with a program
-# yardstick.rs that prints lines 'NAME NANOSECONDS', that one is built by rustc, runs in between, and
-# its least times stand below.
+# the least counts. The bytes of memory that a message, a step and a lane take follow. The program of
+# bench/measures is proved and built in a scratch repository over copies of the crates with what rt keeps
+# in their out/, and runs ROUNDS times. Its files end in .txt, since CI refuses a source file that belongs
+# to no crate. If YARDSTICK names a folder with a program yardstick.rs that prints lines 'NAME NANOSECONDS',
+# that one is built by rustc, runs in between, and its least times follow.
 set -euo pipefail
 rounds=${1:-5}
 here=$(cd "$(dirname "$0")/.." && pwd)
