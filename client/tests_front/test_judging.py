@@ -14,8 +14,8 @@ from resetd_front.requests import Request
 from resetd_front.views import Views
 
 
-class Confirms(unittest.TestCase):
-    """Nodes 1, 2 and 3 are linked; a reset has gone through node 1 and is at node 3. Node 4 is alone."""
+class OverViews(unittest.TestCase):
+    """The front's own last order had number 7."""
 
     def setUp(self) -> None:
         temporary = tempfile.TemporaryDirectory()
@@ -24,6 +24,13 @@ class Confirms(unittest.TestCase):
         self.addCleanup(self.own.close)
         self.own.found(7)
         self.views = Views()
+
+
+class Confirms(OverViews):
+    """Nodes 1, 2 and 3 are linked; a reset has gone through node 1 and is at node 3. Node 4 is alone."""
+
+    def setUp(self) -> None:
+        super().setUp()
         self.note("abort")
 
     def note(self, mode: str) -> None:
@@ -57,16 +64,11 @@ class Confirms(unittest.TestCase):
         self.assertEqual(self.judged(Request("show", {})), (Place.LOOK, False))
 
 
-class Gathering(unittest.TestCase):
+class Gathering(OverViews):
     """Nodes 1 and 2 are linked, a reset is over at both, and neither is confirmed; node 3 is alone."""
 
     def setUp(self) -> None:
-        temporary = tempfile.TemporaryDirectory()
-        self.addCleanup(temporary.cleanup)
-        self.own = OwnOrders(15, temporary.name)
-        self.addCleanup(self.own.close)
-        self.own.found(7)
-        self.views = Views()
+        super().setUp()
         nodes = [[node, 1, "ready", 0, 1, 0] for node in (1, 2, 3)]
         view = {"accepted": 9, "links": [[1, 2, 5]], "nodes": nodes, "settled": 9}
         self.views.note(json.dumps(view, separators=(",", ":")).encode(), 99.0)
