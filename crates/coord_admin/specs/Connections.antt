@@ -31,7 +31,8 @@ has_closed (Err f) = false
 
 -- `keeps d n`: the desk d may keep n steps. Its instance has `most` steps
 module _ {D : Type 0} (answers : D → Request → Answer → D → Type 0) (keeps : D → ℕ → Type 0) (most : ℕ) where
-  -- a connection began while the desk kept fewer steps than its instance has, was served, and was cut only after it kept twice as many
+  -- a connection began while the desk kept fewer steps than its instance has, was served, and was cut only once the desk kept twice as
+  -- many
   abbrev pub IsServed : D → Connection → D → Type 0
   IsServed d c e = HasKeptFewer keeps d most × Served answers d c.talk.bytes_read c.talk.bytes_written c.ended e × (c.ended ≡ Ok Cut → HasKept keeps e (2 * most))
 

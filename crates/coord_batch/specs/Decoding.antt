@@ -12,7 +12,7 @@ use Rattle.coord_batch.specs.Format.{Format, whole}
 abbrev pub fault_at : FaultKind → ℕ → CodecFault
 fault_at k n = record { kind = k; at = n }
 
--- a flaw has the number of remaining bytes, a fault the number of bytes before it
+-- a flaw names the number of remaining bytes, a fault the number of bytes before it
 abbrev pub placed : ℕ → Flaw → CodecFault
 placed n flaw.Short = fault_at kind.Short n
 placed n (flaw.BadByte left) = fault_at kind.BadByte (n - left)

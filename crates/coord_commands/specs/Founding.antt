@@ -50,7 +50,7 @@ pub record IsRefusedBy (steps : List Step) (refusal : Refusal) : Type 0 where
 abbrev pub RefusesToBegin : List Step → Refusal → Type 0
 RefusesToBegin steps refusal = IsRefusedBy steps refusal ⊎ ((refusal ≡ PendingFull) × (MAX_BATCH_STEPS < length steps))
 
--- The steps that were submitted to an empty store, none of them settled yet, have all been taken.
+-- All steps that were submitted to an empty store have been accepted, and none of them is settled yet.
 pub record IsUnderWay (f : Founding) : Type 0 where
   pub nothing_settled : f.settled ≡ no_world 2
   pub world : f.world ≡ fold (no_world 2) f.steps.items

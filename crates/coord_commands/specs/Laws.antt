@@ -8,8 +8,8 @@ use Rattle.coord_commands.specs.Arguments as asked
 abbrev pub AreTakenAs : List Text → AskedCommand → Type 0
 AreTakenAs arguments asked = (takes resetd arguments ≡ true) × (task_of arguments ≡ Some asked)
 
--- the arguments of each command are accepted, whatever name the program is called by; of files those with an absolute
--- path, and of addresses those that begin with 1
+-- the arguments of each command are accepted, whatever name the program is called by: files with an absolute path,
+-- and addresses that begin with 1
 pub record CommandsAreTaken : Type 0 where
   pub drill : (name : Text) → AreTakenAs (name ∷ codes "drill" ∷ []) asked.drill
   pub init : (name file topology : Text) → AreTakenAs (name ∷ codes "init" ∷ (47 ∷ file) ∷ (47 ∷ topology) ∷ []) (asked.init (47 ∷ file) (47 ∷ topology))

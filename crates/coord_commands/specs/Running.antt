@@ -19,7 +19,7 @@ use Rattle.coord_commands.specs.Arguments.{AskedCommand, check, drill, init, mig
 use Rattle.coord_commands.specs.declared.fault.Fault.{Fault}
 use Rattle.coord_commands.specs.declared.fault.Fault.TheVariants.{Usage, OutOfMemory}
 
--- the surroundings of a run: its streams, and by name the contents of disks and texts
+-- the environment of a run: its streams, and by name the contents of disks and texts
 pub record Around : Type 0 where
   pub streams : Streams
   pub holds : List ℕ → Option Present
@@ -32,7 +32,7 @@ pub record HasDrilled (status : ℕ) (old new : Streams) : Type 0 where
   pub end : IsAtEnd new.input
   pub silent : Keeps old.errors new.errors
 
--- it has failed for this fault, at the end of the input read and the output written
+-- it failed with this fault, at the end of the input read and the output written
 pub record FailsToDrill (status : ℕ) (old new : Streams) : Type 0 where
   pub fault : DrillFault
   pub number : status ≡ fault_status (fault_of_drill fault)
@@ -57,7 +57,7 @@ Does (show file) status old new = ShowsStore (reads (old.holds file)) status old
 Does (migrate file) status old new = CommandEnds (IsOfMigrating (old.holds file) (new.holds file)) (IsMigratedLine (old.holds file) (new.holds file)) status old.streams new.streams
 Does (serve file address) status old new = ServesAt (IsOfServing (reads (old.holds file))) address (reads (old.holds file)) (reads (new.holds file)) status old.streams.errors new.streams.errors
 
--- the arguments are refused, or there is no memory to read them
+-- the arguments are refused, or memory to read them runs out
 abbrev pub IsOfArguments : List Text → Fault → Type 0
 IsOfArguments arguments OutOfMemory = Unit {0}
 IsOfArguments arguments Usage = takes resetd arguments ≡ true → task_of arguments ≡ None

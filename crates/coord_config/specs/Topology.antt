@@ -24,7 +24,7 @@ abbrev pub with_both : {A B C : Type 0} → (A → B → C) → Option A → Opt
 with_both f (Some a) (Some b) = Some (f a b)
 with_both f a b = None
 
--- the value as a whole number, if it lies between these
+-- the value as a whole number within these limits
 abbrev pub number_within : ℕ → ℕ → Data → Option ℕ
 number_within least most (integer (pos n)) = if nat_le least n && nat_le n most then Some n else None
 number_within least most other = None

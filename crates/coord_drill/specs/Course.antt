@@ -128,8 +128,8 @@ pub record DrillEnded {D : Type 0} (disk : DiskModel D) (crashes : D → D → T
   pub wrote : written ≡ place.printed
   pub given_back : last ≡ place.disk
 
--- The request was cut short, and the drill gives up this disk: after some of its events, which left this machine and disk;
--- in a crash possibly after an image was chosen, and in `version 2` at a moment of the migration.
+-- The request was cut short, and the drill gives up this disk: after some of its events, which led to this machine and
+-- disk; in a crash possibly after an image was chosen, and in `version 2` at a moment of the migration.
 abbrev pub IsLeftBy : {D : Type 0} → DiskModel D → (D → D → Type 0) → Asked → Machine → D → D → Type 0
 IsLeftBy disk crashes Crash s mid lost = (lost ≡ mid) ⊎ Reopens disk crashes (Survives s) mid lost
 IsLeftBy disk crashes Version2 s mid lost = RaisesEmpty disk mid lost
@@ -176,18 +176,18 @@ pub record StopsWriting {D : Type 0} (disk : DiskModel D) (crashes : D → D →
   pub wrote : IsShortPart written p.printed
   pub given_back : (refused.1 ≡ p.disk) ⊎ ((why : Fault) × FirstCutShort disk crashes p others (why, refused.1))
 
--- all lines were carried out and written, and the writer could not be flushed
+-- all lines were carried out and written, and then flushing the writer failed
 pub record StopsFlushing {D : Type 0} (p : Place D) (others : List Line) (written : List ℕ) (refused : Fault × D) : Type 0 where
   pub cause : IsOfWriting refused.0
   pub wrote : written ≡ p.printed
   pub ended : others ≡ []
   pub same : refused.1 ≡ p.disk
 
--- a line or the writer stopped them
+-- the cause is a line or the writer
 abbrev pub StopsWork : {D : Type 0} → DiskModel D → (D → D → Type 0) → Place D → List Line → List ℕ → Fault × D → Type 0
 StopsWork disk crashes p others written refused = StopsAtLine disk crashes p others written refused ⊎ StopsWriting disk crashes p others written refused
 
--- or the input did, or the end
+-- or it is the input, or the end
 abbrev pub StopsDrill : {D : Type 0} → DiskModel D → (D → D → Type 0) → Place D → List Line → List ℕ → Fault × D → Type 0
 StopsDrill disk crashes p others written refused = StopsReading p others written refused ⊎ (StopsFlushing p others written refused ⊎ StopsWork disk crashes p others written refused)
 

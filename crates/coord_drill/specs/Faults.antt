@@ -45,7 +45,7 @@ abbrev pub store_fault : StoreFault → Fault
 store_fault store.OutOfMemory = OutOfMemory
 store_fault why = Store why
 
--- a crash whose disk was not opened again is reported as out of memory, or as its store's fault
+-- a crash after which the disk could not be opened is reported as out of memory, or as its store's fault
 abbrev pub reopen_fault : RunFaultKind → Fault
 reopen_fault of_run.OutOfMemory = OutOfMemory
 reopen_fault (of_run.Store fault) = store_fault fault
@@ -65,6 +65,6 @@ abbrev pub MayCutShort : Bool → Fault → Type 0
 MayCutShort true why = IsPassingFault why
 MayCutShort false why = IsOfMemory why
 
--- the result of a write: the number of bytes taken; a fault takes no bytes, and a success may take none
+-- the result of a write: the number of bytes written; a fault writes none, and a success may write none
 abbrev pub ReportsOfWrite : {E : Type 0} → Result ℕ E → Result ℕ Fault → Type 0
 ReportsOfWrite answer reported = MatchResult reported (λ count. (answer ≡ Ok count) ⊎ (IsErr answer × (count ≡ 0))) (λ _. (answer ≡ Ok 0) ⊎ IsErr answer)

@@ -56,7 +56,7 @@ Lands old flown.Nothing new = ⊥
 Lands old (flown.Settled releases) new = Settles old releases new
 Lands old (flown.Failed fault) new = new.base ≡ old.base
 
--- the next steps go out in one, if they may
+-- the next steps leave in a flight, if they may
 abbrev pub FlownTo : Log → Flown → Log → Type 0
 FlownTo old flown.Nothing new = new ≡ old
 FlownTo old r new = Lands old r new

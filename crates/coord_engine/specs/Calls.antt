@@ -1,4 +1,4 @@
--- What the value under an engine's lock says to steps and to tickets.
+-- What the value under an engine's lock answers to steps and to tickets.
 use Rattle.std.specs.Prelude.{◌≡◌, ◌⊎◌, ◌<◌, ◌≤◌, true, false, List, [], ◌∷◌, ◌++◌, is_some, Result, Ok, Err, if◌then◌else◌}
 use Rattle.coord_types.specs.declared.refusals.Refusal.{Refusal}
 use Rattle.coord_types.specs.declared.refusals.Refusal.TheVariants.{OutOfMemory, Stopped, Stranger}
@@ -17,11 +17,11 @@ use Rattle.coord_engine.specs.declared.collected.Collected.TheVariants.{Settled,
 abbrev pub note_of : Claim → Note
 note_of claim = record { step = claim.step; what = claim.what; kind = claim.kind }
 
--- the answer to a step, memory aside: none is accepted once the engine is finishing
+-- the answer to a step, apart from out of memory: none is accepted once the engine is finishing
 abbrev pub engine_verdict : {D : Type 0} → GuardedState D → Step → Result Verdict Refusal
 engine_verdict g s = if g.finishing then Err Stopped else verdict g.ledger.log s
 
--- what submitting a step changes
+-- the change that submitting a step makes
 pub record LedgerAndNotes (D : Type 0) : Type 0 where
   pub ledger : LedgerState D
   pub notes : List Note
@@ -35,13 +35,13 @@ AnswersStep s (Err why) before (Ok claim) after = ⊥
 AnswersStep s (Ok verdict) before (Err refusal) after = (refusal ≡ OutOfMemory) × (after ≡ before)
 AnswersStep s (Err why) before (Err refusal) after = ((refusal ≡ why) ⊎ (refusal ≡ OutOfMemory)) × (after ≡ before)
 
--- why there will be no reply to a ticket: a step with its number is settled, but isn't the ticket's; or its step will not be settled any more
+-- why a ticket gets no reply: a step with its number is settled, but isn't the ticket's; or its step will not be settled any more
 abbrev pub RefusesTicket : {D : Type 0} → LedgerState D → Claim → Refusal → Type 0
 RefusesTicket l claim Stranger = (claim.step ≤ settled_count l.log) × ¬ IsCollectable l.log claim
 RefusesTicket l claim Stopped = (settled_count l.log < claim.step) × (is_some l.log.doubt ≡ true)
 RefusesTicket l claim refusal = ⊥
 
--- the answer to a ticket: its reply once its step is settled, that there will be none, or that it has to wait
+-- the answer to a ticket: its reply once its step is settled, that there will be none, or that it must wait
 abbrev pub CollectsAs : {D : Type 0} → LedgerState D → Claim → Collected → Type 0
 CollectsAs l claim (Settled reply) = (reply ≡ reply_of claim) × IsCollectable l.log claim
 CollectsAs l claim (Refused refusal back) = (back ≡ claim) × RefusesTicket l claim refusal

@@ -1,4 +1,4 @@
--- Why an engine isn't taken apart, and the numbers and names of these faults.
+-- Why an engine can't be taken apart, and the numbers and names of these faults.
 use Rattle.std.specs.Prelude.{◌≡◌, ◌≢◌, ℕ, ◌+◌, ◌<◌, ◌≤◌, true, false, List, codes, drop, is_none, length, take}
 use Rattle.coord_types.specs.declared.steps.Step.{Step}
 use Rattle.coord_world.specs.protocol.NumberedWorld.{World}
@@ -39,7 +39,8 @@ pub record MayClose {D : Type 0} (g : GuardedState D) (shares : List (List Note)
   pub all : length shares ≡ g.given
   pub named : IsNamedBy g shares
 
--- why an engine isn't taken apart with these shares, where callers have seen the settled world up to this step: the first that applies
+-- why an engine can't be taken apart with these shares, if callers have seen the settled world up to this step: the first reason that
+-- applies
 abbrev pub RefusesClosing : {D : Type 0} → GuardedState D → List (List Note) → ℕ → CloseFault → Type 0
 RefusesClosing g shares seen FlightOut = is_none g.ledger.disk ≡ true
 RefusesClosing g shares seen SharesMissing = (is_none g.ledger.disk ≡ false) × (length shares ≢ g.given)

@@ -1,4 +1,4 @@
--- What a flusher does: it flushes and hands on what each flight releases, until nothing will be flushed any more or a flight fails for good.
+-- The work of a flusher: it flushes and passes on what each flight releases, until nothing more will be flushed or a flight fails for good.
 use Rattle.std.specs.Prelude.{◌≡◌, ◌≢◌, ◌⊎◌, ℕ, zero, suc, Bool, true, false, List, Option, Some, None, Result, Ok, Err}
 use Rattle.coord_types.specs.declared.packets.Packet.{Packet}
 use Rattle.coord_store.specs.declared.faults.CommitFault.{CommitFault}
@@ -12,19 +12,20 @@ use Rattle.coord_engine.specs.Threads.{AtSomeMoment}
 use Rattle.coord_engine.specs.declared.flushing.TheConstants.{CALLERS_PART, TIMEOUT, REST}
 use Rattle.coord_engine.specs.declared.guarded.pacing.TheConstants.{MOST_AWAITED}
 
--- how many milliseconds a flight waits for packets, which part of the last flight's time for callers and for how many steps at most, and how many milliseconds a flusher rests that found no memory (docs/DECISIONS.md)
+-- how many milliseconds a flight waits for packets, for which part of the last flight's time and for how many steps at most it waits for callers, and how many milliseconds a flusher pauses after out of memory
+-- (docs/DECISIONS.md)
 pub record TimesAreUsual : Type 0 where
   pub packets : TIMEOUT ≡ 5
   pub callers : CALLERS_PART ≡ 16
   pub awaited : MOST_AWAITED ≡ 32
   pub rest : REST ≡ 1
 
--- whether a flush found no memory: then a rest is due before the next one
+-- whether a flush ran out of memory: then there is a pause before the next one
 abbrev pub finds_no_memory : Result (Option (List Release)) CommitFault → Bool
 finds_no_memory (Err OutOfMemory) = true
 finds_no_memory answer = false
 
--- the meaning of an engine, and of the port that it hands to
+-- the meaning of an engine, and of the port that it passes releases to
 module _ {D P : Type 0} (b : Basis D) (carried : P → ℕ → Packet → Bool → P → Type 0) (signalled : P → ℕ → ℕ → ℕ → Bool → P → Type 0) (handed_on : P → ℕ → P → Type 0) where
   -- between a flush and the next one: every release is requested from the port, each delivery once and in order, and
   -- then the port hands on what it has gathered; nothing if no flight left or memory ran out; after any other fault

@@ -1,4 +1,4 @@
--- A history that is written on, and beginnings of it that were read.
+-- A history that grows, and beginnings of it that were read.
 use Rattle.std.specs.Prelude.{◌≡◌, ℕ, List, [], ◌++◌}
 use mathlib.Core.Option.{some}
 use lib.ListN.{get_elem?}
@@ -11,7 +11,7 @@ use Rattle.coord_engine.specs.declared.history.Known.{Known}
 abbrev pub StartsWith : List Step → List Step → Type 0
 StartsWith steps first = (others : List Step) × (steps ≡ first ++ others)
 
--- a beginning of a history: which history, and its first steps, some number of them
+-- a beginning of a history: which history, and some number of its first steps
 pub record Beginning : Type 0 where
   pub history : TableId
   pub steps : List Step

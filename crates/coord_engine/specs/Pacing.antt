@@ -1,6 +1,6 @@
--- When a flight starts. One that starts while packets of the last one are still on their way back as
--- steps, or while callers that the last one answered are about to come again, goes out less full than
--- it could. So those are counted, and waited for a little.
+-- When a flight starts. If it starts while packets of the last one are still on their way back as steps, or while
+-- callers that the last one answered are about to send again, it is less full than it could be. So those are counted,
+-- and waited for briefly.
 use Rattle.std.specs.Prelude.{ℕ, ◌+◌, Bool, true, false, ◌&&◌, ◌||◌, not, if◌then◌else◌, nat_eq, nat_le, is_some, length, take}
 use Rattle.std.specs.List.{count_by}
 use Rattle.coord_types.specs.declared.limits.TheConstants.{MAX_BATCH_STEPS}
@@ -10,11 +10,11 @@ use Rattle.coord_ledger.specs.machine.Log.{pending}
 use Rattle.coord_engine.specs.declared.guarded.pacing.TheConstants.{MOST_AWAITED}
 use Rattle.coord_engine.specs.State.{GuardedState}
 
--- how many steps are accepted and not settled
+-- the number of steps that are accepted and not settled
 abbrev pub pending_count : {D : Type 0} → GuardedState D → ℕ
 pending_count g = length (pending g.ledger.log)
 
--- nothing will be flushed any more: the ledger has stopped, or nothing is pending and nothing more is accepted
+-- nothing more will be flushed: the ledger has stopped, or nothing is pending and nothing more is accepted
 abbrev pub is_over : {D : Type 0} → GuardedState D → Bool
 is_over g = is_some g.ledger.log.doubt || (g.finishing && nat_eq (pending_count g) 0)
 
@@ -22,7 +22,7 @@ is_over g = is_some g.ledger.log.doubt || (g.finishing && nat_eq (pending_count 
 abbrev pub is_idle : {D : Type 0} → GuardedState D → Bool
 is_idle g = not (is_over g) && (nat_eq (pending_count g) 0 || is_some g.ledger.out)
 
--- nothing is waited for: no packet is in hand, and as many steps are pending as are awaited
+-- nothing is waited for: no packet is being handled, and as many steps are pending as are expected
 abbrev pub is_gathered : {D : Type 0} → GuardedState D → Bool
 is_gathered g = nat_eq g.in_hand 0 && nat_le g.awaited (pending_count g)
 
@@ -30,16 +30,16 @@ is_gathered g = nat_eq g.in_hand 0 && nat_le g.awaited (pending_count g)
 abbrev pub starts_at_once : {D : Type 0} → GuardedState D → Bool
 starts_at_once g = is_gathered g || (nat_le MAX_BATCH_STEPS (pending_count g) || g.finishing)
 
--- a flusher must be woken: if nothing could be flushed before, since it then waits only a little, and at once when a
+-- a flusher must be woken: if nothing could be flushed before, since it then waits only briefly, and at once when a
 -- flight starts
 abbrev pub wakes_flusher : {D : Type 0} → Bool → GuardedState D → Bool
 wakes_flusher was_idle g = not (is_idle g) && (was_idle || starts_at_once g)
 
--- with another count of packets in hand
+-- with another number of packets being handled
 abbrev pub with_in_hand : {D : Type 0} → GuardedState D → ℕ → GuardedState D
 with_in_hand g n = record g { in_hand = n }
 
--- with another count of steps that the next flight waits for
+-- with another number of steps that the next flight waits for
 abbrev pub with_awaited : {D : Type 0} → GuardedState D → ℕ → GuardedState D
 with_awaited g n = record g { awaited = n }
 
@@ -49,15 +49,15 @@ is_order (Order client number command) = true
 is_order (Take packet) = false
 is_order (Clear receipt) = false
 
--- how many orders leave with the next flight
+-- the number of orders that leave with the next flight
 abbrev pub leaving_orders : {D : Type 0} → GuardedState D → ℕ
 leaving_orders g = count_by is_order (take MAX_BATCH_STEPS (pending g.ledger.log))
 
--- of the steps that are likely to come, how many are waited for: all, or none if they would fill a flight well
--- without waiting
+-- how many of the steps that are likely to come are waited for: all, or none if they would fill most of a flight
+-- anyway
 abbrev pub worth_awaiting : ℕ → ℕ
 worth_awaiting n = if nat_le n MOST_AWAITED then n else 0
 
--- Who was answered is likely to come again, beside those whose steps are pending already. A caller that is alone is never waited for, since its own step is the one that is awaited.
+-- A caller that was answered is likely to send again, beside those whose steps are pending already. A single caller is never waited for, since its own step is the expected one.
 abbrev pub with_callers_awaited : {D : Type 0} → GuardedState D → GuardedState D
 with_callers_awaited g = with_awaited g (worth_awaiting (g.awaited + pending_count g))

@@ -1,4 +1,4 @@
--- What an engine's disk was when the engine was made, and what a crash may have left since: worlds after the first of the steps that were accepted.
+-- The engine's disk when the engine was created, and what a crash may have left since: worlds after the first of the accepted steps.
 use Rattle.std.specs.Prelude.{◌≡◌, ◌⊎◌, ℕ, ◌+◌, ◌≤◌, Bool, false, true, List, ◌++◌, Option, Some, None, Result, length, take, IsErrOf}
 use Rattle.coord_disk.specs.Model.DiskModel.{DiskModel}
 use Rattle.coord_disk.specs.Model.Moments.{LeavesOnly}
@@ -15,7 +15,8 @@ use Rattle.coord_ledger.specs.Facade.{FlightState, Log, settled_steps}
 use Rattle.coord_engine.specs.MonotoneLog.{Beginning}
 use Rattle.coord_engine.specs.Released.{HasReadSettled}
 
--- A disk at a moment, as later ones are compared with it: whether it kept the model, the moment, and what a crash might have left since each earlier one. It names no type of disks, so it can be a ghost of an engine's name.
+-- A disk at a moment, kept to compare later ones with it: whether it kept the model, the moment, and what a crash could have left since each earlier moment. It names no type of disks, so it can be a ghost of an engine's
+-- name.
 pub record Past : Type 1 where
   pub keeps_model : Bool
   pub clock : ℕ
@@ -49,13 +50,13 @@ pub record IsOnTheWay (base end : World) (bytes : List ℕ) : Type 0 where
   pub leads : fold base (steps ++ others) ≡ end
   pub recovered : Recovered bytes (fold base steps)
 
--- A crash at any moment since a disk was so, up to now, left only bytes that have P: `LeavesOnly`, from what the disk was.
+-- A crash at any moment since a disk was in this state left only bytes that have P: `LeavesOnly`, from that state.
 pub record HasLeft {D : Type 0} (m : DiskModel D) (first : Past) (now : D) (P : List ℕ → Type 0) : Type 0 where
   pub later : first.clock ≤ m.clock now
   pub each : (image : List ℕ) → m.left_since now first.clock image → P image
   pub before : (t : ℕ) (image : List ℕ) → t ≤ first.clock → m.left_since now t image → first.left_since t image ⊎ P image
 
--- These bytes give the world after the first steps of a list, some number of them.
+-- These bytes give the world after some number of the first steps of a list.
 pub record IsAfterSome (base : World) (steps : List Step) (bytes : List ℕ) : Type 0 where
   pub number : ℕ
   pub within : number ≤ length steps
@@ -94,7 +95,7 @@ pub record FliesBehind {D : Type 0} (m : DiskModel D) (history : TableId) (earli
   pub flies : FliesFrom m first base settled f
 
 -- A new flight was committed with this answer: its disk keeps the model as before, and a crash at any moment of the
--- call left the world before its steps or the one after them; if memory ran out, the one before.
+-- call left the world before its steps or the one after them; if memory ran out, only the one before.
 pub record LeavesFlown {D : Type 0} (m : DiskModel D) (left now : FlightState D) (answer : Result (Unit {0}) CommitFault) : Type 0 where
   pub same_model : m.keeps_model now.disk ≡ m.keeps_model left.disk
   pub moments : m.keeps_model left.disk ≡ true → LeavesOnly m left.disk now.disk (GivesEither left.world (fold left.world left.steps))

@@ -1,4 +1,5 @@
--- What a flight releases, and by which steps of the history: of each signal it is known which settled step gives it out.
+-- The releases of a flight, and the steps of the history that send them: for each signal it is known which settled step
+-- sent it.
 use Rattle.std.specs.Prelude.{◌≡◌, ℕ, ◌-◌, List, ◌∷◌, ◌++◌, take}
 use Rattle.atomic_table.specs.Seated.{TableId}
 use Rattle.coord_types.specs.declared.outputs.Output.TheVariants.{Signalled}
@@ -9,7 +10,7 @@ use Rattle.coord_ledger.specs.machine.After.{release_of, releases_of}
 use Rattle.coord_engine.specs.MonotoneLog.{Beginning}
 use Rattle.coord_engine.specs.Port.{MayAskAll}
 
--- one of these steps, taken from this world on, has this number and gives out this signal
+-- one of these steps, accepted from this world on, has this number and sends this signal
 pub record GivesSignal (base : World) (steps : List Step) (step node epoch : ℕ) : Type 0 where
   pub before : List Release
   pub after : List Release
@@ -20,11 +21,11 @@ pub record GivesSignal (base : World) (steps : List Step) (step node epoch : ℕ
 abbrev pub HasReadSettled : TableId → List Step → List Step → Beginning → Type 0
 HasReadSettled history earlier settled read = read ≡ record { history = history; steps = earlier ++ settled }
 
--- the settled steps of a trail that goes on from this world, where this many are settled in all
+-- the settled steps of a trail that continues from this world, if this many are settled in all
 abbrev pub first_settled : World → List Step → ℕ → List Step
 first_settled base trail settled = take (settled - base.count) trail
 
--- settled steps that were read give out each signal among these
+-- the settled steps that were read send each signal among these
 pub record AreOfSettled (history : TableId) (earlier : List Step) (base : World) (read : Beginning) (released : List Release) : Type 0 where
   pub settled : List Step
   pub read_them : HasReadSettled history earlier settled read

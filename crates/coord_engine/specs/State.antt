@@ -1,4 +1,4 @@
--- The value under an engine's lock as contracts see it, what a lock can hold, and what becomes of it.
+-- The value under an engine's lock as contracts see it, the states that a lock can hold, and how they change.
 use Rattle.std.specs.Prelude.{◌≡◌, ℕ, ◌+◌, ◌≤◌, Bool, true, false, List, None, is_none, is_some, length, take, IfSome}
 use Rattle.coord_disk.specs.Model.DiskModel.{DiskModel}
 use Rattle.coord_disk.specs.Model.Present.{Present}
@@ -15,11 +15,12 @@ pub record GuardedState (D : Type 0) : Type 0 where
   pub in_hand : ℕ  -- how many packets callers may still turn into steps: a hint
   pub awaited : ℕ  -- how many steps the next flight waits for, and while one is out how many orders left with it: a hint
 
--- the number of shares; one more part of the count stays with the value under the lock
+-- the number of shares; one more part of the count belongs to the value under the lock
 abbrev pub most_shares : ℕ
 most_shares = 65535
 
--- What an engine is based on: what its disk's bytes may be and how often it has failed, and the base and the steps of the ledger that it was made over.
+-- The basis of an engine: the bytes that its disk may hold and how often it has failed, and the base and the steps of the ledger over which it was
+-- created.
 pub record Basis (D : Type 0) : Type 0 where
   pub keeps_model : D → Bool
   pub present : D → Present
@@ -47,7 +48,7 @@ pub record CanHold {D : Type 0} (b : Basis D) (g : GuardedState D) : Type 0 wher
   pub doubt : IfSome g.ledger.log.doubt (λ size. (1 ≤ size) × (g.ledger.log.settled + size ≤ length g.ledger.log.trail) × (g.ledger.out ≡ None))
   pub images : IfSome g.ledger.disk (λ disk. b.keeps_model disk ≡ true → LedgerGives b.present g.ledger disk)
 
--- the engine was just made over this ledger
+-- the engine was just created over this ledger
 abbrev pub guarded_over : {D : Type 0} → LedgerState D → GuardedState D
 guarded_over l = record { ledger = l; start = length l.log.trail; noted = 0; given = 0; finishing = false; in_hand = 0; awaited = 0 }
 
@@ -59,7 +60,7 @@ with_ledger g l = record g { ledger = l }
 abbrev pub with_noted : {D : Type 0} → GuardedState D → LedgerState D → ℕ → GuardedState D
 with_noted g l n = record g { ledger = l; noted = n }
 
--- with one more share given out
+-- with one more share issued
 abbrev pub with_share : {D : Type 0} → GuardedState D → GuardedState D
 with_share g = record g { given = g.given + 1 }
 

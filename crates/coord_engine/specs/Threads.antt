@@ -1,4 +1,4 @@
--- What an engine's calls answer while other threads call too. Nothing is known of what a lock holds when it is taken but what its type keeps, so a call answers as the value under the lock does in some state that it can have.
+-- The answers of an engine's calls while other threads call too. Of what a lock holds when it is taken only its type's invariant is known, so a call answers as the value under the lock does in some state that it can have.
 use Rattle.std.specs.Prelude.{◌≡◌, ℕ, ◌≤◌, ◌<◌, false, true, List, is_some, take, Option, Result, Ok, Err, Some, IfNone, IfSome}
 use Rattle.atomic_table.specs.Seated.{TableId}
 use Rattle.coord_types.specs.declared.limits.TheConstants.{MAX_BATCH_STEPS}
@@ -33,7 +33,7 @@ AtMomentRead {D} b history earlier read P = AtSomeMoment {D = D} b (λ g. P g ×
 abbrev pub Submits : {D : Type 0} → Step → Result Claim Refusal → List Note → List Note → GuardedState D → Type 0
 Submits {D} s answer notes later g = (l : LedgerState D) × AnswersStep s (engine_verdict g s) (record { ledger = g.ledger; notes = notes }) answer (record { ledger = l; notes = later })
 
--- the settled world was shown to a caller that had seen so much of it
+-- the settled world was shown to a caller that had seen this much of it
 abbrev pub Shows : {D : Type 0} → Shown → ℕ → ℕ → GuardedState D → Type 0
 Shows view seen later g = (is_some g.ledger.log.doubt ≡ false) × (seen ≤ settled_count g.ledger.log) × (view ≡ shown (accepted_count g.ledger.log) (settled_world g.ledger.log)) × (later ≡ settled_count g.ledger.log)
 
@@ -58,11 +58,11 @@ AnswersTicket {D} b history earlier read claim answer = AtMomentRead {D = D} b h
 abbrev pub Leaves : {D : Type 0} → FlightState D → GuardedState D → Type 0
 Leaves flight g = (keeps_store g.ledger ≡ false) × (flight ≡ next_flight g.ledger.log flight.disk)
 
--- the next flight went out, was committed, and gave this out
+-- the next flight left, was committed, and gave out this
 abbrev pub Flushes : {D : Type 0} → List Release → GuardedState D → Type 0
 Flushes released g = (keeps_store g.ledger ≡ false) × (released ≡ releases_of (outs (settled_world g.ledger.log) (take MAX_BATCH_STEPS (pending g.ledger.log))))
 
--- what may have been lost was sent again
+-- packets that may have been lost were sent again
 abbrev pub SendsAgain : {D : Type 0} → List Release → GuardedState D → Type 0
 SendsAgain released g = released ≡ resent (settled_world g.ledger.log)
 

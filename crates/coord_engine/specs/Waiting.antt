@@ -1,5 +1,5 @@
--- The packets that wait for another try: at most one of each lane and kind, data or receipt, in the
--- order in which their lanes and kinds came.
+-- The packets that wait for another attempt: at most one of each lane and kind, data or receipt, in the order in
+-- which their lanes and kinds came.
 use Rattle.std.specs.Prelude.{List, [], ◌∷◌, Bool, false, ◌&&◌, ◌==◌, if◌then◌else◌}
 use Rattle.coord_types.specs.declared.packets.Packet.{Packet}
 use Rattle.coord_types.specs.declared.packets.Packet.TheVariants.{Carried, Receipted}
@@ -11,7 +11,7 @@ is_alike (Receipted p) (Receipted q) = (p.from == q.from) && (p.to == q.to)
 is_alike (Carried p) (Receipted q) = false
 is_alike (Receipted p) (Carried q) = false
 
--- those that wait once a packet has come: it takes the place of the one like it, or else goes last
+-- the waiting packets after one more has come: it replaces the one like it, or else goes last
 abbrev pub with_packet : List Packet → Packet → List Packet
 with_packet [] p = p ∷ []
 with_packet (q ∷ qs) p = if is_alike p q then p ∷ qs else q ∷ with_packet qs p

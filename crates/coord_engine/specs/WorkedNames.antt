@@ -1,4 +1,4 @@
--- Notes against steps, worked out.
+-- Worked examples: notes against steps.
 use Rattle.std.specs.Prelude.{List, [], ◌∷◌}
 use Rattle.coord_types.specs.declared.steps.Command.TheVariants.{Reset}
 use Rattle.coord_types.specs.declared.steps.Kind.{Kind}
@@ -40,6 +40,6 @@ NotOneShort = ¬ IsNamed ((third_note ∷ []) ∷ []) 2 (first ∷ second ∷ []
 abbrev pub NotOfAnotherKind : Type 0
 NotOfAnotherKind = ¬ IsNamed ((record third_note { kind = Joined } ∷ []) ∷ []) 2 (first ∷ []) (Started ∷ [])
 
--- after a base of two steps, the fourth note's step stands second, and a note with another number isn't among them
+-- after a base of two steps, the fourth note's step is second, and a note with another number isn't among them
 abbrev pub NamesInPlace : Type 0
 NamesInPlace = IsAmong 2 (first ∷ second ∷ []) fourth_note × ¬ IsAmong 2 (first ∷ second ∷ []) (record { step = 2; what = second; kind = Joined })

@@ -1,4 +1,4 @@
--- Packets that wait, worked out.
+-- Worked examples: packets that wait.
 use Rattle.std.specs.Prelude.{◌≡◌, ℕ, [], ◌∷◌}
 use Rattle.coord_types.specs.declared.messages.Msg.TheVariants.{Abort}
 use Rattle.coord_types.specs.declared.packets.Packet.{Packet}

@@ -37,7 +37,7 @@ waits_after (Err refusal) = has_to_wait refusal
 abbrev pub one_more : ℕ → ℕ
 one_more n = min (n + 1) (2 ^ 64 - 1)
 
--- one more packet was put down
+-- one more packet counts as handled
 abbrev pub with_put_down : Hand → Hand
 with_put_down hand = record hand { put_down = one_more hand.put_down }
 
@@ -65,7 +65,7 @@ module _ {D : Type 0} (b : Basis D) where
       (next : List Note) × (waits : Bool) × Tries notes p waits next
       × (((waits ≡ true) × (later ≡ next) × (left ≡ p ∷ ps)) ⊎ ((waits ≡ false) × TriesAll next ps later left))
 
-  -- a packet was submitted, kept if it has to wait, and put down
+  -- a packet was submitted, kept if it has to wait, and counted as handled
   pub record TakesPacket (notes : List Note) (hand : Hand) (p : Packet) (later : List Note) (left : Hand) : Type 0 where
     pub waits : Bool
     pub tries : Tries notes p waits later

@@ -1,4 +1,4 @@
--- Fences of starts that were shown the worlds of one store.
+-- Fences of starts that saw the worlds of one store.
 use Rattle.std.specs.Prelude.{◌≡◌, ◌⊎◌, ℕ, ◌<◌, true, false, List}
 use Rattle.coord_world.specs.Facade.{World}
 use Rattle.coord_world.specs.laws.Trails.{IsSound}
@@ -15,12 +15,12 @@ use Rattle.coord_following.specs.Histories.{IsHistory, Turn, life_at, world_at}
 abbrev pub Tags : Type 0
 Tags = List Entry → ℕ → List ℕ
 
--- equal tags are of equal parties, and of one look if the start was alone, since it shares its run with nobody
+-- equal tags belong to equal parties, and to one look if the start was alone, since it shares its run with nobody
 abbrev pub NamesRuns : Tags → Type 0
 NamesRuns tag = (p q : List Entry) (m n : ℕ) → tag p m ≡ tag q n → (p ≡ q) × (is_alone p ≡ true → m ≡ n)
 
--- a start of node i fixes its party when it is shown the world after this many turns: all are through, its own node
--- too. Its fence has the count of that world
+-- a start of node i fixes its party when it sees the world after this many turns: all are through, its own node too.
+-- Its fence has the count of that world
 pub record Fixes (w : World) (turns : List Turn) (tag : Tags) (i : ℕ) (f : Fence) : Type 0 where
   pub turn : ℕ
   pub row : Row
@@ -36,7 +36,7 @@ pub record IsOlder (w : World) (turns : List Turn) (tag : Tags) (i j : ℕ) (f g
   pub there : IsOneOf (Node i epoch) newer.party
   pub later : (life_at older.turn turns i < life_at newer.turn turns i) ⊎ ((life_at older.turn turns i ≡ life_at newer.turn turns i) × (older.row.epoch < epoch))
 
--- then the other one's count is greater, whichever was fixed by which of its members' looks, and by looks that were late
+-- then the other one's count is greater, whichever member's look fixed either party, even if looks were late
 abbrev pub NewerHasMore : Type 0
 NewerHasMore =
     (w : World) (turns : List Turn) (tag : Tags) (i j : ℕ) (f g : Fence) (older : Fixes w turns tag i f) (newer : Fixes w turns tag j g) →

@@ -1,4 +1,4 @@
--- What a store goes through in all its life: steps, and its migration to version 2.
+-- The history of a store: steps, and its migration to version 2.
 use Rattle.std.specs.Prelude.{◌≡◌, ℕ, zero, suc, ◌+◌, ◌==◌, List, [], ◌∷◌, if◌then◌else◌}
 use Rattle.coord_types.specs.declared.steps.Command.TheVariants.{Add}
 use Rattle.coord_types.specs.declared.steps.Step.{Step}

@@ -1,4 +1,4 @@
--- Members that are shown what a ledger shows, crashes of the ledger included.
+-- Members that see what a ledger shows, including crashes of the ledger.
 use Rattle.std.specs.Prelude.{ℕ, zero, suc, ◌==◌, ◌≤◌, List, [], ◌∷◌, if◌then◌else◌}
 use Rattle.std.specs.List.{AllByRecursion}
 use Rattle.coord_world.specs.Facade.{World}
@@ -21,15 +21,16 @@ machine_at s (suc t) [] given = s
 machine_at s (suc t) (e ∷ events) [] = s
 machine_at s (suc t) (e ∷ events) (a ∷ given) = machine_at (after s e a) t events given
 
--- each look is shown the settled world of some moment, no earlier than the one of the same member's look before
+-- each look sees the settled world of some moment, not earlier than that of the same member's previous look
 abbrev pub AreShownBy : Machine → List Event → List Answer → (ℕ → ℕ) → List member.Event → Type 0
 AreShownBy s events given last [] = Unit {0}
 AreShownBy s events given last (member.Look i row now ∷ looks) =
     (t : ℕ) × ((last i ≤ t) × (IsShownTo (settled_world (machine_at s t events given).log) i row now × AreShownBy s events given (λ j. if j == i then t else last j) looks))
 AreShownBy s events given last (_ ∷ looks) = AreShownBy s events given last looks
 
--- From a ledger that was just made of a sound world, whatever it is asked and however it is answered, and wherever it crashes:
--- members that are shown its settled worlds, begin with nothing and follow the rule mix no runs, wherever they lose their files.
+-- Over a ledger that was just created with a sound world, whatever it is asked, whatever it answers and wherever it crashes:
+-- members that see its settled worlds, begin with nothing and follow the rule mix no runs, even if they lose their files at any
+-- point.
 abbrev pub NoMixOverALedger : Type 0
 NoMixOverALedger = (w : World) (events : List Event) (given : List Answer) (looks : List member.Event) → IsSound w → AllByRecursion EventInRange events → Answered (adopted w) events given →
     AreShownBy (adopted w) events given (λ i. 0) looks → IsUnmixed (member.run member.new_world looks)

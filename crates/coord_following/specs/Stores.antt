@@ -1,4 +1,4 @@
--- Members that are shown the worlds of one store.
+-- Members that see the worlds of one store.
 use Rattle.std.specs.Prelude.{ℕ, ◌==◌, ◌≤◌, List, [], ◌∷◌, if◌then◌else◌}
 use Rattle.coord_world.specs.Facade.{World}
 use Rattle.coord_world.specs.laws.Trails.{IsSound}
@@ -15,7 +15,7 @@ AreShown w turns last [] = Unit {0}
 AreShown w turns last (Look i row now ∷ events) = (k : ℕ) × ((last i ≤ k) × (IsShownTo (world_at w k turns) i row now × AreShown w turns (λ j. if j == i then k else last j) events))
 AreShown w turns last (_ ∷ events) = AreShown w turns last events
 
--- whatever a store goes through from a sound world on, its migration too, members that begin with nothing and follow the rule mix
--- no runs, wherever they lose their files
+-- whatever a store goes through after a sound world, including its migration, members that begin with nothing and follow the rule
+-- mix no runs, even if they lose their files at any point
 abbrev pub NoMixOverAStore : Type 0
 NoMixOverAStore = (w : World) (turns : List Turn) (events : List Event) → IsSound w → IsHistory w turns → AreShown w turns (λ i. 0) events → IsUnmixed (run new_world events)

@@ -1,4 +1,5 @@
--- The lines that the server prints of a view, a reply and a refusal are read as these, and the line that a client prints of an order as that order.
+-- The lines that the server prints for a view, a reply and a refusal are parsed as these, and the line that a client prints for an order is parsed
+-- as that order.
 use Rattle.std.specs.Prelude.{◌≡◌, ◌≤◌, ◌<◌, ◌^◌, ℕ, List, [], ◌∷◌, ◌++◌, Option, Some, None, Ok}
 use Rattle.std.specs.List.{AllByRecursion}
 use Rattle.coord_types.specs.declared.limits.TheConstants.{MAX_CLIENTS, MAX_GROUPS, MAX_NODES}
@@ -76,7 +77,7 @@ IsCommand (Drop a b) = IsIn MAX_NODES a × IsIn MAX_NODES b
 IsCommand (Reset u) = IsIn MAX_NODES u
 IsCommand (Confirm u e) = IsIn MAX_NODES u × IsWord e
 
--- the line of each order, without its line feed, asks for that order of that client with that number
+-- the line of each order, without its line feed, is parsed as that order of that client with that number
 abbrev pub OrderIsRead : Type 0
 OrderIsRead =
     (client : ℕ) (line : Line) (text : List ℕ) → IsIn MAX_CLIENTS client → IsWord line.number → IsCommand line.command

@@ -27,7 +27,8 @@ half_of word lines = encode_lower (take 16 (sha256 (text_of word lines)))
 abbrev pub tag_of : List ℕ → List (String Global) → List (String Global) → List ℕ
 tag_of word first shown = if length first == 1 then [] else half_of word first ++ (codes "-" ++ half_of word shown)
 
--- of a start's fence: what names its run; a start that was alone shares its run with nobody, so the count names it too
+-- of a start's fence, which names its run; a start that was alone shares its run with nobody, so the count is part of
+-- the name too
 abbrev pub fence_tag : List ℕ → ℕ → List (String Global) → List ℕ
 fence_tag word count first = if length first == 1 then half_of (word ++ (codes "@" ++ decimal count)) first else half_of word first
 

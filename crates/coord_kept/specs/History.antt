@@ -1,4 +1,4 @@
--- The file of a history: a digest a line. A last line that lacks its line feed was torn, and does not count.
+-- The file of a history: one digest on each line. A last line without a line feed was torn, and does not count.
 use Rattle.std.specs.Prelude.{ℕ, zero, suc, ◌*◌, ◌/◌, ◌%◌, ◌==◌, ◌&&◌, ◌||◌, nat_le, Bool, true, false, List, codes, length, slice_index, take, drop, if◌then◌else◌, Option, Some, None}
 use Rattle.std.specs.List.{list_all}
 use Rattle.std.specs.Str.{bytes_eq}

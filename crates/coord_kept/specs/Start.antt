@@ -1,7 +1,6 @@
 -- The file of a start, as JSON: for the node, the epoch that is begun, the lines of the party that the start first talked with, and
--- how many steps were settled then.
--- As long as it has talked with nobody, `loaded` has the epoch in the place of `begun`, with the name of the machine's boot: the file
--- is not synced, so after a power cut it may say so of a start that has talked.
+-- how many steps were settled then. As long as it has talked with nobody, `loaded` has the epoch instead of `begun`, with the name of
+-- the machine's boot: the file is not synced, so after a power cut it may have this form although the start has talked.
 use Rattle.std.specs.Prelude.{ℕ, ◌-◌, ◌==◌, ◌&&◌, not, Bool, false, List, [], ◌∷◌, ◌++◌, codes, decimal, length, map, slice_index, is_some, if◌then◌else◌, Option, Some, None, option_and_then, String, string_bytes}
 use Rattle.std.specs.declared.alloc.Global.{Global}
 use Rattle.std.specs.List.{flat_map}
@@ -83,15 +82,15 @@ carried_of boot (Some d) = at_boot boot d (seen_with (option_and_then begun_of (
 abbrev pub carried_at : List ℕ → ℕ → Data → Option Seen
 carried_at boot node d = if is_some (as_object d) then carried_of boot (get (decimal node) d) else None
 
--- a text that has no line feed at its end was torn by a power cut, or is a file that is not there
+-- a text without a line feed at its end was torn by a power cut, or its file does not exist
 abbrev pub is_whole : List ℕ → Bool
 is_whole text = not (length text == 0) && (slice_index text (length text - 1) == 10)
 
--- in a boot of this name. None: it does not read
+-- in the boot with this name. None: it can't be read
 unfoldable pub carried_in : List ℕ → ℕ → List ℕ → Option Seen
 carried_in boot node text = if is_whole text then option_and_then (carried_at boot node) (read text) else Some nothing
 
--- in whatever boot
+-- in any boot
 abbrev pub seen_in : ℕ → List ℕ → Option Seen
 seen_in node text = carried_in [] node text
 
@@ -120,7 +119,7 @@ abbrev pub start_text : ℕ → Option ℕ → Option (List (String Global)) →
 start_text node begun party count =
     codes "{\"" ++ (decimal node ++ (codes "\": {\"begun\": " ++ (begun_text begun ++ (codes ", \"party\": " ++ (party_text party ++ (count_text count ++ codes "}}\n"))))))
 
--- work is loaded for an epoch, in the boot of this name
+-- work is loaded for an epoch, in the boot with this name
 abbrev pub loaded_text : ℕ → ℕ → List ℕ → List ℕ
 loaded_text node epoch boot =
     codes "{\"" ++ (decimal node ++ (codes "\": {\"begun\": null, \"party\": null, \"loaded\": " ++ (decimal epoch ++ (codes ", \"foreseen\": [], \"boot\": \"" ++ (boot ++ codes "\"}}\n")))))

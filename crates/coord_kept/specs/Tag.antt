@@ -6,17 +6,17 @@ use Rattle.std.specs.Str.{bytes_eq}
 abbrev pub is_dash : ℕ → Bool
 is_dash byte = byte == 45
 
--- the digest of the party that its start first talked with, and of the one that was shown to it
+-- the digest of the party that its start first talked with, and of the one that it saw
 abbrev pub run_of : List ℕ → List ℕ
 run_of tag = before_first is_dash tag
 
 abbrev pub shown_of : List ℕ → List ℕ
 shown_of tag = after_first is_dash tag
 
--- a receiver without a tag takes no message
+-- a receiver without a tag accepts no message
 abbrev pub is_same_run : List ℕ → List ℕ → Bool
 is_same_run own other = not (length own == 0) && bytes_eq (run_of own) (run_of other)
 
--- two runs, though the same was shown to both last: no look of either can bring them together
+-- two runs that saw the same last: no look of either can bring them together
 abbrev pub are_parted : List ℕ → List ℕ → Bool
 are_parted own other = not (length own == 0) && (not (length other == 0) && (not (bytes_eq (run_of own) (run_of other)) && bytes_eq (shown_of own) (shown_of other)))

@@ -1,2 +1,2 @@
--- What only the bodies here need.
+-- Definitions that only the bodies of this crate need.
 pub mod Holding

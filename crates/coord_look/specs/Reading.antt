@@ -15,7 +15,7 @@ use Rattle.coord_member.specs.declared.view.Row.{Row}
 
 -- ---- who is connected
 
--- a link that joins one of these with one that is none of them
+-- a link between one of these nodes and a node that is not one of them
 abbrev pub crosses : NodeSet → LinkView → Bool
 crosses reached link = not (beq (contains reached link.a) (contains reached link.b))
 
@@ -25,12 +25,12 @@ pub record AreLinked (links : List LinkView) (x y : ℕ) : Type 0 where
   pub shown : IsOneOf link links
   pub ends : ((link.a ≡ x) × (link.b ≡ y)) ⊎ ((link.a ≡ y) × (link.b ≡ x))
 
--- a way from u to v: each of its nodes is linked with the one before it
+-- a path from u to v: each of its nodes is linked with the one before it
 abbrev pub IsWay : List LinkView → ℕ → List ℕ → ℕ → Type 0
 IsWay links u [] v = u ≡ v
 IsWay links u (x ∷ way) v = AreLinked links u x × IsWay links x way v
 
--- just those to which there is a way
+-- exactly the nodes to which there is a path
 abbrev pub AreConnected : List LinkView → ℕ → NodeSet → Type 0
 AreConnected links u reached = (v : ℕ) → (contains reached v ≡ true) ↔ ((way : List ℕ) × IsWay links u way v)
 
@@ -44,11 +44,11 @@ is_ready_mode Ready = true
 is_ready_mode Abort = false
 is_ready_mode Converge = false
 
--- a node that is one of these is in no reset
+-- if a node is one of these, it is in no reset
 abbrev pub is_quiet : NodeSet → NodeView → Bool
 is_quiet reached row = not (contains reached row.node) || is_ready_mode row.mode
 
--- a node that is one of these is in no reset, and its epoch is confirmed
+-- if a node is one of these, it is in no reset, and its epoch is confirmed
 abbrev pub is_through : NodeSet → NodeView → Bool
 is_through reached row = not (contains reached row.node) || (is_ready_mode row.mode && (row.epoch == row.confirmed))
 

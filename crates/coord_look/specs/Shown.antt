@@ -1,5 +1,5 @@
--- What the member of a node is shown of a world: its node's row, how those that are connected with it stand, and who they are.
--- Connected is what the law of waves means by it.
+-- What the member of a node sees of a world: its node's row, the state of the connected nodes, and which they are. Connected
+-- has the same meaning as in the law of waves.
 use Rattle.std.specs.Prelude.{◌≡◌, ℕ, ◌<◌, ◌↔◌, true, List, [], ◌∷◌, Some}
 use Rattle.coord_types.specs.Table.{has}
 use Rattle.coord_types.specs.declared.messages.Mode.TheVariants.{Ready}
@@ -11,7 +11,7 @@ use Rattle.coord_member.specs.declared.view.Entry.{Entry}
 use Rattle.coord_member.specs.declared.view.Entry.TheVariants.{Node, Link}
 use Rattle.coord_member.specs.declared.view.Row.{Row}
 
--- no item stands twice
+-- no item occurs twice
 abbrev pub AllDistinct : {A : Type 0} → List A → Type 0
 AllDistinct [] = Unit {0}
 AllDistinct (x ∷ xs) = (IsOneOf x xs → ⊥) × AllDistinct xs
@@ -23,7 +23,7 @@ pub record IsWorldLink (w : World) (a b incarnation : ℕ) : Type 0 where
   pub there : lane_at w.links a b ≡ Some lane
   pub made : lane.inc ≡ incarnation
 
--- just the nodes that are connected with node i, each at its epoch, and just the links between them
+-- exactly the nodes that are connected with node i, each with its epoch, and exactly the links between them
 pub record IsPartyOf (w : World) (i : ℕ) (now : List Entry) : Type 0 where
   pub every_node : (n : ℕ) → has w.nodes n ≡ true → Connected w i n → IsOneOf (Node n (state w n).epoch) now
   pub every_link : (a b incarnation : ℕ) → Connected w i a → IsWorldLink w a b incarnation → IsOneOf (Link a b incarnation) now
@@ -31,7 +31,7 @@ pub record IsPartyOf (w : World) (i : ℕ) (now : List Entry) : Type 0 where
   pub links : (a b incarnation : ℕ) → IsOneOf (Link a b incarnation) now → Connected w i a × IsWorldLink w a b incarnation
   pub once : AllDistinct now
 
--- out of its resets, with its epoch confirmed
+-- in no reset, with its epoch confirmed
 pub record IsThrough (w : World) (v : ℕ) : Type 0 where
   pub ready : (state w v).mode ≡ Ready
   pub confirmed : (state w v).epoch ≡ (state w v).confirmed

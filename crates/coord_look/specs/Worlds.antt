@@ -1,4 +1,4 @@
--- A member reads in the view of a world exactly what it is shown of that world.
+-- A member reads in the view of a world exactly what that world shows it.
 use Rattle.std.specs.Prelude.{◌≡◌, ℕ, false, List, Option, Some, None, find}
 use Rattle.coord_types.specs.Table.{has}
 use Rattle.coord_view.specs.Shown.{shown}
@@ -9,10 +9,10 @@ use Rattle.coord_member.specs.declared.view.Row.{Row}
 use Rattle.coord_look.specs.Reading.{IsReadOf, is_of}
 use Rattle.coord_look.specs.Shown.{IsShownTo}
 
--- of a world in its ranges, whose view also says how many steps are accepted
+-- for a world in its ranges; the view also has the number of accepted steps
 abbrev pub LookIsShown : Type 0
 LookIsShown = (w : World) (accepted i : ℕ) (own : NodeView) (row : Row) (party : List Entry) → InRange w → find (is_of i) (shown accepted w).nodes ≡ Some own → IsReadOf (shown accepted w) i own row party → IsShownTo w i row party
 
--- if no row is read, the node is not there
+-- if no row is read, the node does not exist
 abbrev pub NoLookIsAbsent : Type 0
 NoLookIsAbsent = (w : World) (accepted i : ℕ) → find (is_of i) (shown accepted w).nodes ≡ None → has w.nodes i ≡ false

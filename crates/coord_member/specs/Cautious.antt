@@ -17,7 +17,7 @@ use Rattle.coord_member.specs.Fair.{IsFair}
 abbrev pub due_with : List (List Entry) → Kept → Row → List Entry → Due
 due_with more kept row now = due_of kept.begun kept.party (was_before now (more ++ kept.history)) row now
 
--- they turn the due action into waiting or a reset, or change nothing: it is as if the member had not looked, or had
+-- they turn the due action into waiting or a reset, or change nothing: as if the member had not looked, or had
 -- crashed
 abbrev pub MoreOnlyForbids : Type 0
 MoreOnlyForbids = (more : List (List Entry)) (kept : Kept) (row : Row) (now : List Entry) → (due_with more kept row now ≡ due kept row now) ⊎ ((due_with more kept row now ≡ Wait) ⊎ (due_with more kept row now ≡ Reset))
@@ -28,11 +28,11 @@ happens_with w more (Look i row now) =
     let m = w.member i in let d = due_with more m.kept row now in looked w i (member_for m (kept_for m.kept now d) row d)
 happens_with w more event = happens w event
 
--- at each event others
+-- with different parties at each event
 abbrev pub run_with : (ℕ → List (List Entry)) → MemberWorld → List Event → MemberWorld
 run_with more w [] = w
 run_with more w (event ∷ events) = run_with (λ k. more (suc k)) (happens_with w (more 0) event) events
 
--- whichever members may lose their files, and whatever else their histories have at each look
+-- whichever members may lose their files, and whatever other parties their histories have at each look
 abbrev pub NoMixWithMore : Type 0
 NoMixWithMore = (keeps : ℕ → Bool) (made : ℕ → Entry → ℕ) (more : ℕ → List (List Entry)) (events : List Event) → IsFair keeps made nothing_shown events → IsUnmixed (run_with more new_world events)

@@ -13,7 +13,8 @@ use Rattle.coord_member.specs.declared.fence.Gate.{Gate}
 abbrev pub new_gate : Gate
 new_gate = record { floor = 0; count = 0 }
 
--- a count that is greater than all that came, or, of the run that came last, greater than all that came of others
+-- a count that is greater than all accepted ones, or, for the run that was accepted last, greater than all those of
+-- other runs
 abbrev pub admits : Gate → Bool → ℕ → Bool
 admits gate is_own count = nat_lt gate.count count || (is_own && nat_lt gate.floor count)
 
@@ -23,7 +24,7 @@ passed gate is_own count = record { floor = if is_own then gate.floor else gate.
 
 -- ---- a resource
 
--- what a start presents: the count of the look by which its party was fixed, and the name of its run
+-- the fence of a start: the count of the look that fixed its party, and the name of its run
 pub record Fence : Type 0 where
   pub count : ℕ
   pub tag : List ℕ
@@ -44,7 +45,7 @@ accepts r f = admits r.gate (is_own r f) f.count
 abbrev pub held_by : Bool → Resource → Fence → Resource
 held_by own r f = record { gate = passed r.gate own f.count; tag = f.tag }
 
--- after a fence that is presented, and after several. One that is refused changes nothing
+-- the gate after one fence is presented, and after several. A rejected one changes nothing
 abbrev pub behind : Resource → Fence → Resource
 behind r f = if accepts r f then held_by (is_own r f) r f else r
 

@@ -1,4 +1,4 @@
--- Members, the views that are shown to them, and the messages between them.
+-- Members, the views that they see, and the messages between them.
 use Rattle.std.specs.Prelude.{ℕ, ◌+◌, ◌==◌, Bool, false, List, [], ◌∷◌, ◌++◌, Option, Some, None, if◌then◌else◌, slice_get}
 use Rattle.coord_member.specs.declared.view.Entry.{Entry}
 use Rattle.coord_member.specs.declared.view.Row.{Row}
@@ -41,7 +41,7 @@ idle kept = record { kept = kept; tag = None; loading = None; work = None; causa
 abbrev pub new_world : MemberWorld
 new_world = record { member = λ i. idle new_kept; messages = []; talked = []; serial = 0 }
 
--- what may happen next, to member i. A message that is lost is never heard
+-- the next event, at member i. A lost message is never heard
 pub data Event : Type 0 where
   Look : (i : ℕ) → Row → List Entry → Event  -- it is shown a row of its node and those that are connected
   Load : (i : ℕ) → Event  -- it has loaded the common start for the epoch that it begins

@@ -20,7 +20,7 @@ pub record IsLeftOf (kept read : Kept) : Type 0 where
   pub history : (party : List Entry) → IsOneOf party kept.history → IsOneOf party read.history
   pub start : (read.begun ≡ None) ⊎ ((read.begun ≡ kept.begun) × (read.party ≡ kept.party))
 
--- then the member goes on as one that has crashed, or whose work is gone, and whose history has more parties
+-- then the member continues like one that has crashed, or whose work is gone, and whose history has more parties
 abbrev pub LeftIsEnough : Type 0
 LeftIsEnough =
     (kept read : Kept) (row : Row) (now : List Entry) → IsLeftOf kept read →

@@ -1,4 +1,4 @@
--- Two members that refuse each other: each talks in another run, and both are shown the same.
+-- Two members that refuse each other: each talks in another run, and both see the same.
 use Rattle.std.specs.Prelude.{◌≡◌, false, List, Some}
 use Rattle.coord_member.specs.declared.view.Entry.{Entry}
 use Rattle.coord_member.specs.declared.view.Row.{Row}
@@ -6,11 +6,11 @@ use Rattle.coord_member.specs.declared.rule.Due.{Due}
 use Rattle.coord_member.specs.declared.rule.Due.TheVariants.{Talk, Reset}
 use Rattle.coord_member.specs.Rule.{Kept, due, due_when_refused, kept_after, same_party, tag_for}
 
--- the due action after the look that a rejected message led to; the message says what its sender was shown
+-- the due action after the look that a rejected message caused; the message says what its sender saw
 abbrev pub due_at_refusal : Kept → Row → List Entry → List Entry → List Entry → List Entry → Due
 due_at_refusal kept row now own tag shown = due_when_refused (due kept row now) (same_party own tag) (same_party now shown)
 
--- a member that talks, with its tag
+-- a talking member, with its tag
 pub record TalksBy (kept : Kept) (row : Row) (now tag : List Entry) : Type 0 where
   pub talks : due kept row now ≡ Talk
   pub by : tag_for (kept_after kept row now) Talk ≡ Some tag

@@ -1,4 +1,4 @@
--- What a member does when it looks.
+-- The action of a member when it looks.
 use Rattle.std.specs.Prelude.{ℕ, ◌==◌, ◌&&◌, not, nat_lt, Bool, true, false, List, [], ◌∷◌, ◌++◌, Option, Some, None, if◌then◌else◌, unwrap_or}
 use Rattle.std.specs.List.{list_all, list_any}
 use Rattle.coord_member.specs.declared.view.Entry.{Entry}
@@ -9,7 +9,7 @@ use Rattle.coord_member.specs.declared.rule.Due.TheVariants.{Talk, Wait, Begin, 
 use Rattle.coord_member.specs.declared.rule.Change.{Change}
 use Rattle.coord_member.specs.declared.rule.Change.TheVariants.{Keeps, Drops, NotesAlone, NotesFirst}
 
--- what a member has on the disk
+-- a member's state on disk
 pub record Kept : Type 0 where
   pub begun : Option ℕ  -- the epoch of the work in hand
   pub party : Option (List Entry)  -- with whom the present start first talked
@@ -33,7 +33,7 @@ same_party [] [] = true
 same_party (x ∷ xs) (y ∷ ys) = same_entry x y && same_party xs ys
 same_party _ _ = false
 
--- a start talked with just these
+-- a start talked with exactly these
 abbrev pub was_before : List Entry → List (List Entry) → Bool
 was_before now history = list_any (same_party now) history
 
@@ -48,11 +48,12 @@ abbrev pub is_at : ℕ → Option ℕ → Bool
 is_at epoch None = false
 is_at epoch (Some e) = e == epoch
 
--- the work in hand is of the epoch that is shown and confirmed
+-- the work in hand belongs to the shown and confirmed epoch
 abbrev pub is_begun : Option ℕ → Row → Bool
 is_begun begun row = (row.epoch == row.confirmed) && is_at row.epoch begun
 
--- a start that talked talks on if nobody has come; one that didn't, if no start before it talked with just these
+-- a start that talked continues if nobody has come; one that didn't talks if no start before it talked with exactly
+-- these
 abbrev pub admits : Option (List Entry) → Bool → List Entry → Bool
 admits None was now = not was
 admits (Some party) was now = is_within now party
@@ -122,7 +123,7 @@ tag_for kept Wait = None
 tag_for kept Begin = None
 tag_for kept Reset = None
 
--- the due action after the look that a rejected tag led to
+-- the due action after the look that a rejected tag caused
 abbrev pub due_when_refused : Due → Bool → Bool → Due
 due_when_refused Talk is_same_tag is_same_view = if not is_same_tag && is_same_view then Reset else Talk
 due_when_refused Wait is_same_tag is_same_view = Wait

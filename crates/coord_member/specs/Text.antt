@@ -11,11 +11,11 @@ entry_line (Link a b incarnation) = decimal a ++ (codes " " ++ (decimal b ++ (co
 abbrev pub party_text : List Entry → List ℕ
 party_text = flat_map entry_line
 
--- the numbers of the type
+-- the numbers fit into their type
 abbrev pub IsWritten : Entry → Type 0
 IsWritten (Node n e) = (n < 2 ^ 64) × (e < 2 ^ 64)
 IsWritten (Link a b incarnation) = (a < 2 ^ 64) × (b < 2 ^ 64) × (incarnation < 2 ^ 64)
 
--- equal texts are of equal parties
+-- parties with equal texts are equal
 abbrev pub PartyTextInjective : Type 0
 PartyTextInjective = (p q : List Entry) → AllByRecursion IsWritten p → AllByRecursion IsWritten q → party_text p ≡ party_text q → p ≡ q

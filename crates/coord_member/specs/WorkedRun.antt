@@ -1,5 +1,5 @@
 -- Two members talk; the second loses its files, and its node is removed and added again, so that it begins its epoch 1 twice. And
--- a store is put back, so that the first is shown an old party again.
+-- a store is restored, so that the first sees an old party again.
 use Rattle.std.specs.Prelude.{◌≡◌, ℕ, ◌==◌, ◌&&◌, List, [], ◌∷◌, ◌++◌, Some, None, true, false, if◌then◌else◌}
 use Rattle.coord_member.specs.declared.view.Entry.{Entry}
 use Rattle.coord_member.specs.declared.view.Entry.TheVariants.{Node, Link}
@@ -34,7 +34,7 @@ worked =
     -- the old message is refused, and the new one heard
     ∷ Look 1 (talks 2) behind ∷ Look 2 (talks 1) behind ∷ Send 2 ∷ Hear 1 1 ∷ Hear 1 0 ∷ []
 
--- a store is put back: member 1 is shown a party again that it talked with
+-- a store is restored: member 1 sees a party again that it talked with
 abbrev pub talked_once : List Event
 talked_once = Look 1 (begins 1) before ∷ Load 1 ∷ Look 1 (talks 1) before ∷ []
 

@@ -1,4 +1,5 @@
--- The information about a client's last number in the answers to a probe: the order to confirm epoch 0, with some number.
+-- What the answers to a probe reveal about a client's last number. A probe is the order to confirm epoch 0, with some
+-- number.
 use Rattle.std.specs.Prelude.{◌≡◌, ◌≢◌, ℕ, ◌+◌, ◌==◌, false, Option, Some, None, Err, if◌then◌else◌}
 use Rattle.coord_types.specs.Table.{get}
 use Rattle.coord_types.specs.declared.refusals.Refusal.{Refusal}
@@ -19,7 +20,7 @@ answer_to_probe w last n u =
     else (if n == 0 then OutOfTurn
     else (if n == last then NumberReused else OutOfTurn))
 
--- the client's last order is no probe
+-- the client's last order is not a probe
 abbrev pub IsNoProbe : Option Session → Type 0
 IsNoProbe None = Unit {0}
 IsNoProbe (Some s) = (u : ℕ) → s.command ≢ probe u

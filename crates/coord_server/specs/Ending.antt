@@ -17,7 +17,7 @@ use Rattle.coord_server.specs.declared.instance.Instance.{Instance}
 use Rattle.coord_server.specs.declared.instance_end.InstanceEnd.{InstanceEnd}
 use Rattle.coord_server.specs.declared.instance_end.InstanceEnd.TheVariants as end
 
--- a desk over this port that has noted nothing and seen nothing
+-- a desk over this port that has no notes and has read nothing
 abbrev pub new_desk : {P : Type 0} → P → DeskState P
 new_desk port = record { notes = []; seen = 0; read = []; port = port }
 
@@ -47,8 +47,8 @@ pub record RefusesShares {D P : Type 0} (b : Basis D) (desk : DeskState P) (left
   pub all : length (desk.notes ∷ workers) ≡ 10
   pub so : AtSomeMoment b (λ g. IsLeftOf {D = D} left.store left.base left.trail.items left.settled g × RefusesClosing {D = D} g (desk.notes ∷ workers) desk.seen why)
 
--- the known parts of an instance that ends so: one history, unless the instance did not begin, or its engine refused
--- to be taken apart
+-- the known parts of an instance with this ending: one history, unless the instance did not begin, or its engine
+-- could not be taken apart
 abbrev pub IsLeftAs : {D P : Type 0} → Basis D → DeskState P → Closed D → Option ServerFault → Type 0
 IsLeftAs b desk left (Some fault.NotBegun) = LeavesLedger b left
 IsLeftAs b desk left (Some (fault.NotClosed why)) = RefusesShares b desk left why
@@ -88,15 +88,16 @@ module _ {D : Type 0} (b : Basis D) {V : Type 0} (talked : V → List Talk → V
     ServesInstance port v w desk (end.Ended (Some fault.Socket)) = (last : V) × ServedWhileOpen most port v last desk × failed last w
     ServesInstance port v w desk (end.Ended (Some other)) = ⊥
 
-    -- How the desk served in an instance that was left so. If memory for the next one ran out it rested; if it did
-    -- not begin nobody was served; if its engine refused to be taken apart the desk had served until some end.
+    -- How the desk served in an instance with these remains. If memory for the next one ran out it rested; if it did
+    -- not begin nobody was served; if its engine could not be taken apart the desk had served until some end.
     abbrev pub LeavesInstance : {P : Type 0} → P → V → V → DeskState P → InstanceEnd → Type 0
     LeavesInstance port v w desk end.Unfollowed = ServesInstance port v w desk end.Resting
     LeavesInstance port v w desk (end.Ended (Some fault.NotBegun)) = talked v [] w × (desk ≡ new_desk port)
     LeavesInstance port v w desk (end.Ended (Some (fault.NotClosed why))) = (served : InstanceEnd) × ServesInstance port v w desk served
     LeavesInstance port v w desk left = ServesInstance port v w desk left
 
-    -- how the desk went on in the last instance of a server that ends so: a store that has stopped, or out of memory for the next instance, is met where an instance rests, an output that fails before the first instance serves
+    -- what the desk did in the last instance of a server with this ending: a store that has stopped, or out of memory for the next instance, is found when an instance rests, and an output that fails before the first instance
+    -- serves
     abbrev pub Serves : {P : Type 0} → P → V → V → DeskState P → Option ServerFault → Type 0
     Serves port v w desk (Some fault.Device) = ServesInstance port v w desk end.Resting
     Serves port v w desk (Some fault.Write) = ServesInstance port v w desk end.Unprinted

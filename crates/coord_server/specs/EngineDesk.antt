@@ -37,16 +37,16 @@ read_in earlier read = drop (length earlier) read.steps
 abbrev pub IsReadIn : TableId → List Step → Beginning → Type 0
 IsReadIn history earlier read = HasReadSettled history earlier (read_in earlier read) read
 
--- This holds in some state that the engine can have, whose settled steps are those that have been read now. They begin with those that were read before.
+-- This holds in some state that the engine can have, whose settled steps are those read now. They begin with those read before.
 pub record AtMomentAnswered {D : Type 0} (b : Basis D) (before now : List Step) (P : GuardedState D → Type 0) : Type 0 where
   pub at : AtSomeMoment b (λ g. P g × (settled_steps g.ledger.log ≡ now))
   pub begins : StartsWith now before
 
--- a step was submitted, and its ticket is this claim
+-- a step was submitted, and its ticket has this claim
 abbrev pub AcceptsOrder : {D : Type 0} → Basis D → Step → Claim → List Note → List Note → Type 0
 AcceptsOrder {D} b s claim before after = AtSomeMoment b (Submits {D = D} s (Ok claim) before after)
 
--- the answer to a ticket, without the ticket that came back with a refusal
+-- the answer to a ticket, without the ticket that a refusal returned
 abbrev pub without_ticket : Result Reply (Refusal × Claim) → Result Reply Refusal
 without_ticket (Ok reply) = Ok reply
 without_ticket (Err refused) = Err refused.0
@@ -68,8 +68,7 @@ AnswersOrder {D} b s (Err refusal) before after read now =
     (AtSomeMoment b (Submits {D = D} s (Err refusal) before after) × (now ≡ read))
     ⊎ ((claim : Claim) × AcceptsOrder b s claim before after × AtMomentAnswered b read now (λ g. CollectsAs {D = D} g.ledger claim (Refused refusal claim)))
 
--- the settled world is shown as it is after the steps that have been read now; or a refusal, for a reason that holds
--- then
+-- the settled world is shown unchanged after the steps read now; or a refusal, for a reason that holds then
 abbrev pub ShowsTo : {D : Type 0} → Basis D → Result shown.Shown Refusal → ℕ → ℕ → List Step → List Step → Type 0
 ShowsTo {D} b (Ok view) seen later before now = AtMomentAnswered b before now (Shows {D = D} view seen later)
 ShowsTo {D} b (Err refusal) seen later before now = AtMomentAnswered b before now (RefusesShow {D = D} refusal seen) × (later ≡ seen)
@@ -78,14 +77,14 @@ abbrev pub seen_after : Result Reply Refusal → ℕ → ℕ
 seen_after (Ok reply) seen = max seen reply.step
 seen_after (Err refusal) seen = seen
 
--- how many packets were sent again
+-- the number of packets that were sent again
 abbrev pub Resends : {D : Type 0} → Basis D → Result ℕ Refusal → Type 0
 Resends {D} b (Ok count) = (released : List Release) × AtSomeMoment b (SendsAgain {D = D} released) × (count ≡ length released)
 Resends {D} b (Err refusal) = refusal ≡ OutOfMemory
 
 -- The packets that may have been lost were requested from a port again, each once and in order, and then the port was
--- to hand them on; and this is their number. `carried`, `signalled`, `handed_on`: the possible states of the port
--- after each request.
+-- told to pass them on; and this is their number. `carried`, `signalled`, `handed_on`: the possible states of the
+-- port after each request.
 abbrev pub HandsAgain : {D P : Type 0} → Basis D → (P → ℕ → Packet → Bool → P → Type 0) → (P → ℕ → ℕ → ℕ → Bool → P → Type 0) → (P → ℕ → P → Type 0) → ℕ → P → P → Type 0
 HandsAgain {D} b carried signalled handed_on count port later =
     (released : List Release) × AtSomeMoment b (SendsAgain {D = D} released) × (count ≡ length released) × AreHanded carried signalled handed_on port (deliveries_of released) later
@@ -103,10 +102,10 @@ abbrev pub DeskPosts : {D P : Type 0} → Basis D → DeskState P → Request �
 DeskPosts {D} b d (request.Order client number command) posted e = AtSomeMoment b (Submits {D = D} (step.Order client number command) posted d.notes e.notes) × (e.seen ≡ d.seen) × (e.read ≡ d.read) × (e.port ≡ d.port)
 DeskPosts {D} b d request posted e = ⊥
 
--- once an order was accepted its reply is waited for, and nothing more is noted
+-- once an order was accepted its reply is awaited, and nothing more is noted
 abbrev pub DeskReplies : {D P : Type 0} → Basis D → DeskState P → Result Claim Refusal → Result Reply Refusal → DeskState P → Type 0
 DeskReplies {D} b d posted reply e = Replies b posted reply d.read e.read × (e.notes ≡ d.notes) × (e.seen ≡ seen_after reply d.seen) × (e.port ≡ d.port)
 
--- how many steps its engine has kept at some moment, and no fewer than the desk has noted itself
+-- the number of steps that its engine kept at some moment, at least as many as the desk has noted itself
 abbrev pub DeskKeeps : {D P : Type 0} → Basis D → DeskState P → ℕ → Type 0
 DeskKeeps {D} b d kept = (trail : ℕ) × AtSomeMoment {D = D} b (λ g. trail ≡ length g.ledger.log.trail) × (kept ≡ max trail (length d.notes))

@@ -1,5 +1,5 @@
--- The answers of an instance in its one history: each follows from some first settled steps, and the number of these
--- steps never falls.
+-- The answers of an instance in its one history: each follows from some number of first settled steps, and that
+-- number never falls.
 use Rattle.std.specs.List.{AllByRecursion}
 use Rattle.std.specs.Prelude.{◌≡◌, ◌⊎◌, ℕ, List, [], ◌∷◌, ◌++◌, Result, Ok, Some, map, slice_get, take}
 use Rattle.coord_types.specs.declared.steps.Reply.{Reply}
@@ -28,23 +28,23 @@ pub record Returned : Type 0 where
   pub answer : Answer
   pub after : List Step
 
--- The reply is that to the order's own step: the order stands among these steps, and was answered so there. Or the world before them kept that reply for that order.
+-- The reply is that to the order's own step: the order is among these steps, and got this reply there. Or the world before them kept that reply for that order.
 abbrev pub IsOwnReply : World → List Step → Step → Reply → Type 0
 IsOwnReply base steps s r =
     ((place : ℕ) × (slice_get steps place ≡ Some s) × (reply (fold base (take place steps)) s ≡ r))
     ⊎ IsKeptBy base (record { step = r.step; what = s; kind = r.kind })
 
--- a reply is given to an order alone, and is that of its step
+-- only an order gets a reply, and it is that of its step
 abbrev pub RepliesTo : World → List Step → Reply → Result Request LineFault → Type 0
 RepliesTo base steps r (Ok (request.Order client number command)) = IsOwnReply base steps (step.Order client number command) r
 RepliesTo base steps r asked = ⊥
 
--- a view is shown to whoever asks for it, and is that of the world after these steps
+-- whoever asks for a view gets that of the world after these steps
 abbrev pub ShowsAfter : World → List Step → Shown → Result Request LineFault → Type 0
 ShowsAfter base steps view (Ok request.Show) = (accepted : ℕ) × (view ≡ shown accepted (fold base steps))
 ShowsAfter base steps view asked = ⊥
 
--- these steps from a world bear out the answer to the request
+-- the answer to the request follows from these steps from a world
 abbrev pub BearOut : World → List Step → Result Request LineFault → Answer → Type 0
 BearOut base steps asked (answer.Replied r) = RepliesTo base steps r asked
 BearOut base steps asked (answer.Shown view) = ShowsAfter base steps view asked
@@ -56,13 +56,13 @@ BearOut base steps asked (answer.Faulted f) = Unit {0}
 abbrev pub IsBorneOut : World → Returned → Type 0
 IsBorneOut base t = BearOut base t.after (asked_by t.line) t.answer
 
--- the steps by which these are given begin with those by which the one before was, from these on, and lead to those
+-- the steps of these answers begin with those of the answer before, and lead to those
 abbrev pub GoOn : List Step → List Returned → List Step → Type 0
 GoOn first [] last = StartsWith last first
 GoOn first (t ∷ returned) last = StartsWith t.after first × GoOn t.after returned last
 
--- The output of a connection is the answers to its first lines, each borne out by settled steps, which include these
--- first ones and those of the answer before. In one more line it may break off.
+-- The output of a connection is the answers to its first lines, each following from settled steps, which include
+-- these first ones and those of the answer before. It may break off in one more line.
 pub record WritesInOrder (base : World) (first : List Step) (talk : Talk) (last : List Step) : Type 0 where
   pub returned : List Returned
   pub torn : List Returned
@@ -79,7 +79,8 @@ abbrev pub AllInOrder : World → List Step → List Connection → List Step �
 AllInOrder base first [] last = StartsWith last first
 AllInOrder base first (c ∷ cs) last = (now : List Step) × WritesInOrder base first c.talk now × AllInOrder base now cs last
 
--- All that the desk of an instance replied or showed, over one connection after the other, whether or not a line closed it, is borne out so, by the settled steps that the desk has read.
+-- Everything that the desk of an instance replied or showed, over one connection after another, whether or not a line closed it, follows in this way from the settled steps that the desk
+-- has read.
 abbrev pub AnsweredInOrder : Type 0 → Type 0 → {V : Type 0} → (V → List Talk → V → Type 0) → Type 0
 AnsweredInOrder D P {V} talked =
     (b : Basis D) (most : ℕ) (port : P) (v w : V) (desk : DeskState P)

@@ -37,7 +37,7 @@ HasFaultForCause most ended = (ended.served ≡ Some fault.Write → ended.print
 abbrev pub instance_steps : ℕ
 instance_steps = 262144
 
--- One instance: the port of its desk and the desk in the end, the remaining parts of its engine, and the callers
+-- One instance: the port of its desk and the desk at its end, the remaining parts of its engine, and the callers
 -- then.
 pub record InstanceRun (D V : Type 0) : Type 0 where
   pub port : Local
@@ -45,7 +45,7 @@ pub record InstanceRun (D V : Type 0) : Type 0 where
   pub left : Closed D
   pub callers : V
 
--- the steps that these instances accepted, those of each after those of the instance before
+-- the steps that these instances accepted, each instance's after those of the one before
 abbrev pub all_steps : {D V : Type 0} → List (InstanceRun D V) → List Step
 all_steps instances = flat_map (λ l. l.left.trail.items) instances
 

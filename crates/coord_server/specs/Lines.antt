@@ -2,11 +2,11 @@
 use Rattle.std.specs.Prelude.{ℕ, Bool, true, ◌&&◌, ◌||◌, ◌==◌, nat_lt, not}
 use Rattle.coord_server.specs.declared.last_line.LastLine.{LastLine}
 
--- no signal of a step up to this one is to be printed
+-- no signal of a step up to this one will be printed
 abbrev pub nothing_since : ℕ → LastLine
 nothing_since step = record { step = step; node = 0; is_second = true }
 
--- whether the signal of a step at a node comes after the last one: its step is a later one, or it is the second signal of the same step, at another node
+-- whether the signal of a step at a node comes after the last one: its step is later, or it is the second signal of the same step, at another node
 abbrev pub is_next : LastLine → ℕ → ℕ → Bool
 is_next last step node = nat_lt last.step step || (((last.step == step) && not last.is_second) && not (last.node == node))
 

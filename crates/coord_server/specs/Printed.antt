@@ -20,14 +20,14 @@ listening_line address = codes "listening " ++ socket_text address ++ codes "\n"
 abbrev pub signal_line : ℕ → ℕ → List ℕ
 signal_line node epoch = codes "signal " ++ decimal node ++ codes " " ++ decimal epoch ++ codes "\n"
 
--- an output as contracts see it, whether a line to it has failed, how many signals were lost, because they did not come after the last one, and the last one that was printed
+-- an output as contracts see it, whether a line to it has failed, how many signals were lost because they did not come after the last one, and the last one printed
 pub record PrinterState (W : Type 0) : Type 0 where
   pub output : W
   pub is_broken : Bool
   pub lost : ℕ
   pub last : LastLine
 
--- nothing was printed to it yet, and signals will be of the steps after this one
+-- nothing was printed yet, and signals will be of later steps than this one
 abbrev pub new_printer : {W : Type 0} → W → ℕ → PrinterState W
 new_printer output since = record { output = output; is_broken = false; lost = 0; last = nothing_since since }
 
@@ -44,7 +44,7 @@ Follow first (s ∷ later) last = (is_next first s.step s.node ≡ true) × Foll
 abbrev pub with_lost : {W : Type 0} → PrinterState W → PrinterState W
 with_lost p = record p { lost = one_more p.lost }
 
--- whether a line to it has failed, or a signal was printed of a step after this one
+-- whether a line to it has failed, or a signal of a later step than this one was printed
 abbrev pub is_amiss : {W : Type 0} → PrinterState W → ℕ → Bool
 is_amiss p settled = p.is_broken || not (nat_le p.last.step settled)
 
@@ -90,7 +90,7 @@ module _ {W : Type 0} (contents : W → Option (List ℕ)) where
       ((is_next p.last s.step s.node ≡ true) × Appends (contents p.output) (contents q.output) (signal_line s.node s.epoch) × (q.is_broken ≡ false) × (q.lost ≡ p.lost) × (q.last ≡ after_line p.last s.step s.node))
       ⊎ ((is_next p.last s.step s.node ≡ false) × (q ≡ with_lost p))
 
-  -- these signals came, in order: each was printed once, or lost because it did not come after the one that was printed last
+  -- these signals came, in order: each was printed once, or lost because it did not come after the last one printed
   abbrev pub PrintsEach : PrinterState W → List StepSignal → PrinterState W → Type 0
   PrintsEach p [] q = q ≡ p
   PrintsEach p (s ∷ later) q = (m : PrinterState W) × Prints p s m × PrintsEach m later q

@@ -44,7 +44,7 @@ pub record IsReplied {D : Type 0} (left : Closed D) (note : Note) : Type 0 where
 abbrev pub NotesAreReplies : Type 0 → Type 0 → Type 0
 NotesAreReplies D P = (b : Basis D) (desk : DeskState P) (left : Closed D) → IsOneHistory b desk left → (note : Note) → Contains desk.notes note → IsReplied left note
 
--- an answer names no step after this one, in its reply or in its view
+-- an answer names no later step than this one, in its reply or in its view
 abbrev pub AnswersUpTo : ℕ → Answer → Type 0
 AnswersUpTo step (Replied r) = r.step ≤ step
 AnswersUpTo step (Shown v) = v.settled ≤ step
@@ -53,7 +53,7 @@ AnswersUpTo step (Resent n) = Unit {0}
 AnswersUpTo step answer.Closed = Unit {0}
 AnswersUpTo step (Faulted f) = Unit {0}
 
--- the output is lines, each of which names no step after this one; in the last of them it may break off
+-- the output is lines, each of which names no later step than this one; in the last of them it may break off
 pub record WritesUpTo (step : ℕ) (text : List ℕ) : Type 0 where
   pub returned : List Answer
   pub up_to : AllByRecursion (AnswersUpTo step) returned

@@ -26,7 +26,7 @@ abbrev pub returned_over : (world : World) (first : List Step) (connections : Li
 returned_over world first [] last is = []
 returned_over world first (c ∷ connections) last is = (is.1.returned ++ is.1.torn) ++ returned_over world is.0 connections last is.2
 
--- the member of a node reads this in a view: the node's row, and who is connected with it
+-- what the member of a node reads in a view: the node's row, and which nodes are connected with it
 pub record IsLookAt (view : Shown) (node : ℕ) (row : Row) (party : List Entry) : Type 0 where
   pub own : NodeView
   pub there : find (is_of node) view.nodes ≡ Some own
@@ -40,7 +40,8 @@ AreReadIn returned last (member.Look i row now ∷ looks) =
     (place : ℕ) × ((last i ≤ place) × ((t : Returned) × ((slice_get returned place ≡ Some t) × ((view : Shown) × ((t.answer ≡ answer.Shown view) × (IsLookAt view i row now × AreReadIn returned (λ j. if j == i then place else last j) looks))))))
 AreReadIn returned last (_ ∷ looks) = AreReadIn returned last looks
 
--- A server ran: members that read the views which it showed over all its connections, begin with nothing and follow the rule mix no runs, wherever they lose their files.
+-- A server ran: members that read the views which it showed over all its connections, begin with nothing and follow the rule mix no runs, even if they lose their files
+-- at any point.
 abbrev pub NoMixOverAServer : {D V W : Type 0} → DiskModel D → (V → List Talk → V → Type 0) → (V → V → Type 0) → (W → Option (List ℕ)) → (List Step → ℕ → ℕ → ℕ → Type 0) → Type 0
 NoMixOverAServer {D} {V} {W} model talked failed contents gives =
     (most : ℕ) (store : Kept D) (v : V) (printer : PrinterState W) (ended : ServerEnd D V W) → (run : ServerRun model talked failed most contents gives store v printer ended)

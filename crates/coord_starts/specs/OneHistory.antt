@@ -10,7 +10,7 @@ use Rattle.coord_following.specs.Histories.{IsHistory}
 use Rattle.coord_starts.specs.Starts.{AreStarts, Start, left_by, released_of, replied_of, turns_of}
 use Rattle.coord_starts.specs.Returned.{IsReplyTo, KeepsLast, led, outcomes, steps_of}
 
--- What the starts of a store have made of an empty world.
+-- The result of a store's starts on an empty world.
 pub record IsHistoryOfStarts (w : World) (starts : List Start) : Type 0 where
   -- The steps that were kept are one history, each of them fresh over the world after those before it, and the last
   -- start left the legal world after all of them.
@@ -25,9 +25,9 @@ pub record IsHistoryOfStarts (w : World) (starts : List Start) : Type 0 where
   pub replied : AllByRecursion (IsReplyTo 0 (outcomes w (turns_of w starts))) (replied_of w starts)
   -- The releases of all starts are a sublist of the outputs of the kept steps, in order, no item twice.
   pub released : IsPartOf (released_first (released_of w starts)) (releases_of (outcomes w (turns_of w starts)))
-  -- The reply that is kept for a client is that of its last kept order.
+  -- The reply that is kept for a client is that of its last order.
   pub kept : (c : ℕ) → KeepsLast w (turns_of w starts) c
 
--- Whatever the starts of a store were, from the making of the store on.
+-- For all starts of a store, from its creation on.
 abbrev pub StartsAreOne : Type 0
 StartsAreOne = (version : ℕ) (starts : List Start) → 1 ≤ version → version ≤ MAX_VERSIONS → AreStarts (no_world version) starts → IsHistoryOfStarts (no_world version) starts

@@ -1,4 +1,4 @@
--- What the turns of a history give out and leave.
+-- The outputs of a history's turns, and the world after them.
 use Rattle.std.specs.Prelude.{◌≡◌, ◌⊎◌, ℕ, ◌+◌, List, [], ◌∷◌, ◌++◌, length, Some, map}
 use Rattle.std.specs.List.{AllByRecursion}
 use Rattle.coord_types.specs.Table.{get}
@@ -22,7 +22,7 @@ steps_of [] = []
 steps_of (Takes s ∷ turns) = s ∷ steps_of turns
 steps_of (Raises ∷ turns) = steps_of turns
 
--- what each of these steps is answered and gives out
+-- the replies and outputs of each of these steps
 abbrev pub outcomes : World → List Turn → List StepOutcome
 outcomes w [] = []
 outcomes w (Takes s ∷ turns) = record { reply = reply w s; outputs = outputs w s } ∷ outcomes (next w s) turns
@@ -37,7 +37,7 @@ pub record IsReplyTo (count : ℕ) (given : List StepOutcome) (r : Reply) : Type
   pub same : outcome.reply ≡ r
   pub number : r.step ≡ count + length before + 1
 
--- what client c's last order among these turns leaves: its number, its command and its reply
+-- the session after client c's last order among these turns: its number, its command and its reply
 pub record IsLastKeptOrder (w : World) (turns : List Turn) (c : ℕ) (o : Session) : Type 0 where
   pub before : List Turn
   pub rest : List Turn

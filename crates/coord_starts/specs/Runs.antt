@@ -1,4 +1,4 @@
--- Starts of a store, one after the other, as they are run.
+-- Starts of a store, one after another, as they are run.
 use Rattle.std.specs.Prelude.{◌≡◌, ◌⊎◌, ℕ, List, [], ◌∷◌}
 use Rattle.coord_store.specs.Facade.{RefusesMigration, Recovered}
 use Rattle.coord_store.specs.declared.faults.StoreFault.{StoreFault}
@@ -35,14 +35,14 @@ IsOf w Migrate Raised start = (start ≡ Raises) ⊎ ((start ≡ idle_start) × 
 IsOf w Migrate (Refused fault) start = RefusesMigration w fault × ((start ≡ idle_start) ⊎ ((start ≡ Raises) × (fault ≡ Device)))
 IsOf w task outcome start = ⊥
 
--- a start that serves these events, with these answers and releases, and leaves these bytes once the power was cut after it
+-- a start that serves these events, with these answers and releases, and leaves these bytes when the power is cut after it
 pub record ServesOnce (w : World) (events : List Event) (given : List Answer) (released : List Release) (bytes : List ℕ) : Type 0 where
   pub kept : ℕ
   pub may : MayServe w events given kept
   pub all : released ≡ (at_end w events given).released
   pub left : Recovered bytes (led w (turns_in w (Serves events given kept)))
 
--- any start from a world, which leaves these bytes once the power was cut after it
+-- any start from a world, which leaves these bytes when the power is cut after it
 pub record StartsOnce (w : World) (task : Task) (outcome : Outcome) (bytes : List ℕ) : Type 0 where
   pub start : Start
   pub is_of : IsOf w task outcome start
@@ -55,14 +55,14 @@ AreOf w [] [] [] = Unit {0}
 AreOf w (task ∷ tasks) (outcome ∷ outcomes) (start ∷ starts) = IsOf w task outcome start × AreOf (led w (turns_in w start)) tasks outcomes starts
 AreOf w tasks outcomes starts = ⊥
 
--- the tasks were starts of a store that was just made, and left these bytes
+-- the tasks were starts of a store that was just created, and left these bytes
 pub record HasRun (version : ℕ) (tasks : List Task) (outcomes : List Outcome) (bytes : List ℕ) : Type 0 where
   pub starts : List Start
   pub are_of : AreOf (no_world version) tasks outcomes starts
   pub may : AreStarts (no_world version) starts
   pub left : Recovered bytes (left_by (no_world version) starts)
 
--- the tasks were starts of a store that was just made, and all of them are one history
+-- the tasks were starts of a store that was just created, and all of them are one history
 pub record IsOneRun (version : ℕ) (tasks : List Task) (outcomes : List Outcome) (bytes : List ℕ) : Type 0 where
   pub run : HasRun version tasks outcomes bytes
   pub one : IsHistoryOfStarts (no_world version) run.starts

@@ -21,10 +21,10 @@ use Rattle.coord_starts.specs.Returned.{led}
 pub data Start : Type 0 where
   -- a ledger receives these events and gives these answers, and then this many steps of its trail are kept
   Serves : List Event → List Answer → ℕ → Start
-  -- the store is raised to version 2
+  -- the store is migrated to version 2
   Raises : Start
 
--- the ledger's machine where such a start ends
+-- the ledger's machine at the end of such a start
 abbrev pub at_end : World → List Event → List Answer → Machine
 at_end w events given = run (adopted w) events given
 
@@ -34,7 +34,7 @@ pub record MayServe (w : World) (events : List Event) (given : List Answer) (n :
   pub answered : Answered (adopted w) events given
   pub kept : IsOneOf n (kept (at_end w events given))
 
--- what a start from this world may be
+-- the possible starts from this world
 abbrev pub IsStart : World → Start → Type 0
 IsStart w (Serves events given n) = MayServe w events given n
 IsStart w Raises = IsTurn w raising
@@ -74,7 +74,7 @@ abbrev pub replied_of : World → List Start → List Reply
 replied_of w [] = []
 replied_of w (s ∷ starts) = replied_in w s ++ replied_of (led w (turns_in w s)) starts
 
--- all that was released, in all starts
+-- all releases, in all starts
 abbrev pub released_of : World → List Start → List Release
 released_of w [] = []
 released_of w (s ∷ starts) = released_in w s ++ released_of (led w (turns_in w s)) starts

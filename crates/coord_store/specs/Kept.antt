@@ -15,7 +15,7 @@ pub record Kept (D : Type 0) : Type 0 where
   pub world : World
   pub torn : Option World
 
--- whether a commit was torn; then every later one is refused
+-- whether a commit was torn; then each later one is refused
 abbrev pub has_stopped : {D : Type 0} → Kept D → Bool
 has_stopped kept = is_some kept.torn
 

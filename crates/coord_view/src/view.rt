@@ -3,7 +3,7 @@
 use coord_types::{Group, Mode, NodeId};
 use std::marker::Model;
 
-/// A node's row in a view.
+/// the number of a parent; 0 means none
 #[derive(Clone, Copy, Debug, PartialEq, Eq)]
 pub struct NodeView {
     pub node: NodeId,

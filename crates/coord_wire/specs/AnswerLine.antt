@@ -1,4 +1,4 @@
--- What a line says of the order that it answers (docs/FORMATS.md, "Administration lines").
+-- What an answer line says about its order (docs/FORMATS.md, "Administration lines").
 use Rattle.std.specs.Prelude.{ℕ, List, [], ◌∷◌, codes, Option, Some, None, option_and_then, Result, Ok, Err, if◌then◌else◌}
 use Rattle.std.specs.Str.{bytes_eq}
 use Rattle.serde_json.specs.Data.{Data}

@@ -1,4 +1,4 @@
--- What a line says that answers `show` (docs/FORMATS.md, "Administration lines").
+-- The content of a line that answers `show` (docs/FORMATS.md, "Administration lines").
 use Rattle.std.specs.Prelude.{ℕ, ◌==◌, ◌&&◌, nat_le, List, [], ◌∷◌, codes, Option, Some, None, option_and_then, Result, Ok, Err, if◌then◌else◌}
 use Rattle.serde_json.specs.Data.{Data, Items, no_items, item}
 use Rattle.serde_json.specs.Read.{read}
@@ -106,6 +106,6 @@ abbrev pub or_no_view : Option Shown → Result Shown ReadFault
 or_no_view None = Err NoAnswer
 or_no_view (Some shown) = Ok shown
 
--- what a text shows, read as JSON
+-- the view in a text, parsed as JSON
 unfoldable pub shown_in : List ℕ → Result Shown ReadFault
 shown_in text = or_no_view (option_and_then shown_of (read text))

@@ -1,4 +1,4 @@
--- What only the bodies of this crate need; nothing above cites it.
+-- Definitions that only the bodies of this crate need; nothing above cites them.
 pub mod NodeTransitions
 pub mod Fronts
 pub mod Sends

@@ -1,4 +1,4 @@
--- The laws of the protocol, each the contract of a function of `laws`, and runs that are known.
+-- The laws of the protocol, each the contract of a function of `laws`, and runs with known results.
 pub mod Laws
 pub mod Waves
 pub mod Overlaps

@@ -1,4 +1,4 @@
--- The protocol: what a world is, which steps it takes, and what each makes of it and gives out.
+-- The protocol: a world, the steps that it accepts, and the effect and outputs of each.
 pub mod NumberedWorld
 pub mod Acceptance
 pub mod InTurn

@@ -29,7 +29,8 @@ held c f = count_by (is_from c) f.flight + count_by (is_from c) f.waiting
 
 -- ---- a line arrives
 
--- what becomes of it: at most 64 lines of a connection are held, and a denial comes after the answers to all lines before it
+-- the effect of a line: at most 64 lines of a connection are held, and a denial comes after the answers to all lines before
+-- it
 abbrev pub admission : Rules → ℕ → ℕ → List ℕ → Proxy → Admission
 admission r c role line f =
     if r.allows role line then (if nat_lt (held c f) 64 then Queued else Deferred)
@@ -78,7 +79,7 @@ abbrev pub is_among : ℕ → List ℕ → Bool
 is_among c [] = false
 is_among c (d ∷ ds) = (d == c) || is_among c ds
 
--- the connections that no further line may be picked of, after this line was: if its number is refused, it waits again
+-- the connections of which no further line may be picked after this line: if its number is refused, it waits again
 abbrev pub stay_with : Pending → List ℕ → List ℕ
 stay_with a stay = if a.is_unnumbered then a.from ∷ stay else stay
 

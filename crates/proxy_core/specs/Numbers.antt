@@ -22,7 +22,7 @@ IsNumberRefused r answers s = (h : Answer) × Contains answers h × (h.sent ≡ 
 abbrev pub IsOrderRefused : Rules → List Answer → Sent → Type 0
 IsOrderRefused r answers s = (h : Answer) × Contains answers h × (h.sent.is_unnumbered ≡ true) × (h.sent.number ≡ s.number) × (s.serial ≤ h.sent.serial) × (r.is_refusal h.answer ≡ true)
 
--- a last number that was found after this sending is below its number
+-- a last number that was found after this line was sent is below its number
 abbrev pub IsAboveCount : List Count → Sent → Type 0
 IsAboveCount counts s = (c : Count) × Contains counts c × (s.serial < c.sent) × (c.last < s.number)
 
@@ -39,10 +39,11 @@ pub record AreTwo (w : Run) (s t : Sent) : Type 0 where
   pub second_own : t.is_unnumbered ≡ true
   pub before : s.serial < t.serial
 
--- a request is sent with another number only after the server refused the number of each sending before
+-- a request is sent with another number only after the server refused the number of each line sent for it before
 abbrev pub HasOneNumber : Rules → Run → Type 0
 HasOneNumber r w = (s t : Sent) → AreTwo w s t → s.place ≡ t.place → (s.number ≡ t.number) ⊎ IsNumberRefused r w.answers s
 
--- no two requests are sent with one number, unless it is known of each sending for the first one that it did not use the number
+-- no two requests are sent with one number, unless for each line sent for the first one it is known that it did not use the
+-- number
 abbrev pub IsFresh : Rules → Run → Type 0
 IsFresh r w = (s t : Sent) → AreTwo w s t → s.number ≡ t.number → t.number < 18446744073709551615 → (s.place ≡ t.place) ⊎ IsUnused r w.answers w.counts s

@@ -1,4 +1,4 @@
--- What the proxy promises to its clients, to their neighbours and to the server, whatever happens.
+-- What the proxy promises to its clients, to other connections and to the server, whatever happens.
 use Rattle.std.specs.Prelude.{◌≡◌, ◌⊎◌, ℕ, ◌+◌, ◌≤◌, ◌<◌, ◌==◌, ◌&&◌, not, Bool, true, false, List, [], ◌∷◌, ◌++◌, Option, Some, None, length, map, count_by, Contains}
 use Rattle.std.specs.List.{AllByRecursion}
 use Rattle.proxy_core.specs.Rules.{Rules, as_sent, next, needs_number}
@@ -48,7 +48,7 @@ bytes_of (s ∷ more) = (s.line ++ (10 ∷ [])) ++ bytes_of more
 
 -- ---- what is sent
 
--- the line is, byte for byte, a request that arrived before it was written and whose sender may send it, or the proxy's spelling of an
+-- the line is, byte for byte, a request that arrived before it was written and whose sender may send it, or the proxy's form of an
 -- unnumbered order
 pub record IsAllowed (r : Rules) (requests : List Request) (s : Sent) : Type 0 where
   pub ask : Request
@@ -61,15 +61,15 @@ pub record IsAllowed (r : Rules) (requests : List Request) (s : Sent) : Type 0 w
   pub before : ask.place < s.taken
   pub may : r.allows ask.role ask.line ≡ true
 
--- a sending of the line at this place, which must not be sent twice
+-- a line sent for the request at this place, which must not be sent twice
 abbrev pub is_once_at : ℕ → Sent → Bool
 is_once_at place s = (s.place == place) && s.is_once
 
--- the first sending of the line at this place with some number
+-- the first line sent for the request at this place with some number
 abbrev pub is_first_at : ℕ → Sent → Bool
 is_first_at place s = (s.place == place) && s.is_first
 
--- an answer that refuses the number of the line at this place, to its only sending with that number
+-- an answer that refuses the number of the request at this place, to the only line sent with that number
 abbrev pub refuses_number_at : Rules → ℕ → Answer → Bool
 refuses_number_at r place h = (h.sent.place == place) && (h.sent.is_first && (h.sent.is_unnumbered && r.refuses_number h.answer))
 
@@ -79,7 +79,7 @@ IsKnown sent s = (t : Sent) × Contains sent t × (t.is_first ≡ true) × (t.pl
 
 -- ---- what is answered
 
--- the server gave this answer to a sending of that very request, written after the request arrived
+-- the server gave this answer to a line sent for that very request, written after the request arrived
 pub record IsAnswerTo (r : Rules) (requests : List Request) (sent : List Sent) (t : Delivery) (h : Answer) : Type 0 where
   pub ask : Request
   pub requested : Contains requests ask
@@ -117,7 +117,7 @@ IsDeniedRightly r requests t = IsDenied r requests t t.answer
 -- ----
 
 pub record Keeps (r : Rules) (w : Run) : Type 0 where
-  -- the lines that were taken have the places 0, 1, 2 ..
+  -- the accepted lines have the places 0, 1, 2 ..
   pub numbered : AreNumbered 0 w.requests
   -- a connection receives the answers to its lines in turn, none twice and none omitted
   pub in_turn : (c : ℕ) → (more : List ℕ) × (places_delivered c w.delivered ++ more ≡ places_of c w.requests)
@@ -130,8 +130,8 @@ pub record Keeps (r : Rules) (w : Run) : Type 0 where
   pub wire : w.proxy.is_up ≡ true → (taken : ℕ) × (serial : ℕ) × (w.wire ≡ sendings r taken (not w.proxy.is_resent) serial w.proxy.number w.in_flight)
   -- and they were written with the bytes of `flight_text`
   pub text : w.proxy.is_up ≡ true → text_of r w.proxy.number w.proxy.flight ≡ bytes_of w.wire
-  -- the answer that a connection receives to the line at a place, unless it is a denial, is what the server answered to a sending
-  -- of that very line, written after the line arrived; and no answer is delivered twice
+  -- the answer that a connection receives to the line at a place, unless it is a denial, is the server's answer to a line sent
+  -- for that very request, written after it arrived; and no answer is delivered twice
   pub own : AreOf (IsAnswerTo r w.requests w.sent) (by_server w.delivered) w.answers
   -- a line is denied only by the rules
   pub denied : AllByRecursion (IsDeniedRightly r w.requests) w.delivered
@@ -139,23 +139,24 @@ pub record Keeps (r : Rules) (w : Run) : Type 0 where
   pub allowed : AllByRecursion (IsAllowed r w.requests) w.sent
   -- a line that must not be sent twice is sent at most once for each request
   pub once : (place : ℕ) → count_by (is_once_at place) w.sent ≤ 1
-  -- the line at a place is sent with a new number, or for the first time, only once, and once more for each time that the server
-  -- refused its number at its only sending with it
+  -- the line at a place is sent with a new number, or for the first time, only once, and once more each time the server refused
+  -- its number at its only sending with it
   pub renumbered : (place : ℕ) → count_by (is_first_at place) w.sent ≤ 1 + count_by (refuses_number_at r place) w.answers
-  -- every other sending repeats an earlier one for the same request, byte for byte
+  -- each other line sent repeats an earlier one for the same request, byte for byte
   pub again : AllByRecursion (λ s. s.is_first ≡ false → IsKnown w.sent s) w.sent
-  -- the sending that is answered comes after all sendings of older requests of its connection
+  -- an answered line was sent after all lines sent for older requests of its connection
   pub in_order : IsInOrder w
-  -- the sendings have the serial numbers 0, 1, 2 ..
+  -- the lines sent have the serial numbers 0, 1, 2 ..
   pub serial : AreSerial 0 w.sent
-  -- a request is sent with another number only after the server refused the number of each sending before
+  -- a request is sent with another number only after the server refused the number of each line sent for it before
   pub one_number : HasOneNumber r w
-  -- and no two requests have one number, unless it is known of each sending for the first one that it did not use the number
+  -- and no two requests have one number, unless for each line sent for the first one it is known that it did not use the
+  -- number
   pub fresh : IsFresh r w
   -- no connection takes all the room
   pub few : (c : ℕ) → held c w.proxy ≤ 64
   pub flight : length w.proxy.flight ≤ 256
-  -- no query flies with an order, so no query makes the server commit before it answers
+  -- no query is sent in a flight with an order, so no query makes the server commit before it answers
   pub alike : is_alike w.proxy.flight ≡ true
 
 abbrev pub EveryRun : Type 0

@@ -12,7 +12,7 @@ pub record Rules : Type 0 where
   pub is_refusal : List ℕ → Bool  -- the answer refuses the order on its merits, so its number was the next one and is not used
   pub is_inconclusive : List ℕ → Bool  -- the answer leaves open what became of a line that was sent twice
 
--- a line that the proxy spells with its own number; one that must not be sent twice has none
+-- a line to which the proxy adds its own number; one that must not be sent twice has none
 abbrev pub needs_number : Rules → List ℕ → Bool
 needs_number r line = r.is_unnumbered line && not (r.is_once line)
 

@@ -1,4 +1,4 @@
--- A run of the proxy: all that arrives and leaves, over its clients' connections and over those to the server.
+-- A run of the proxy: everything that arrives and leaves, over its clients' connections and over those to the server.
 use Rattle.std.specs.Prelude.{ℕ, ◌+◌, ◌==◌, not, Bool, true, false, List, [], ◌∷◌, ◌++◌, Option, Some, None, if◌then◌else◌, filter, length}
 use Rattle.proxy_core.specs.declared.proxy.Admission.{Admission}
 use Rattle.proxy_core.specs.declared.proxy.Admission.TheVariants.{Queued, Denied, Deferred}
@@ -8,7 +8,7 @@ use Rattle.proxy_core.specs.Rules.{Rules, as_sent, next, needs_number}
 use Rattle.proxy_core.specs.Pending.{Pending, new_pending, step}
 use Rattle.proxy_core.specs.Machine.{Proxy, new_proxy, admission, after_admission, is_among, may_go, flown, picked, left, rest, firsts, counted, without_connection, outcome, after_outcome, lost, after_broken}
 
--- a line that was taken from a connection
+-- a line that was accepted from a connection
 pub record Request : Type 0 where
   pub place : ℕ  -- the number of lines taken before it, which no code knows
   pub from : ℕ
@@ -33,7 +33,8 @@ pub record Delivery : Type 0 where
   pub place : ℕ  -- of the request
   pub answer : Option (List ℕ)  -- None: the proxy denies the line
 
--- an answer of the server, and the sending that it answers: over each connection, the k-th answer is to the k-th line
+-- an answer of the server, and the sent line that it answers: over each connection, the k-th answer is to the k-th
+-- line
 pub record Answer : Type 0 where
   pub sent : Sent
   pub answer : List ℕ

@@ -1,4 +1,4 @@
--- The server's session rule for the proxy's client, as it judges sendings one after the other.
+-- The server's session rule for the proxy's client, as it judges sent lines one after another.
 use Rattle.std.specs.Prelude.{◌≡◌, ◌⊎◌, ℕ, ◌+◌, ◌<◌, true, List, [], ◌∷◌, Contains}
 use Rattle.std.specs.List.{AllByRecursion}
 use Rattle.proxy_core.specs.Rules.{Rules}
@@ -47,16 +47,16 @@ with_sent OrderRefused s more = more
 with_sent NumberRefused s more = more
 with_sent NotJudged s more = more
 
--- the sendings that were carried out
+-- the sent lines that were carried out
 abbrev pub carried_out : List Judged → List Sent
 carried_out [] = []
 carried_out (j ∷ more) = with_sent j.verdict j.sent (carried_out more)
 
--- a verdict on the sending that an answer answers
+-- a verdict on the sent line that an answer answers
 abbrev pub HasVerdict : List Judged → Answer → (Verdict → Type 0) → Type 0
 HasVerdict judged h P = (j : Judged) × Contains judged j × (j.sent ≡ h.sent) × P j.verdict
 
--- a server that began with this last number judged these sendings by the rule, and the proxy heard some of its answers
+-- a server that began with this last number judged these lines by the rule, and the proxy received some of its answers
 pub record Serves (r : Rules) (w : Run) (last : ℕ) (judged : List Judged) : Type 0 where
   pub of_run : (j : Judged) → Contains judged j → Contains w.sent j.sent
   pub own : (j : Judged) → Contains judged j → j.sent.is_unnumbered ≡ true
@@ -67,7 +67,7 @@ pub record Serves (r : Rules) (w : Run) (last : ℕ) (judged : List Judged) : Ty
   pub replies : (h : Answer) → Contains w.answers h → h.sent.is_unnumbered ≡ true → r.uses_number h.answer ≡ true → HasVerdict judged h (λ v. (v ≡ CarriedOut) ⊎ (v ≡ Repeated))
   -- the loop found no last number below the one that the server began with, so all numbers of the proxy are above it
   pub above : (j : Judged) → Contains judged j → last < j.sent.number
-  -- the server takes at most 2^40 steps
+  -- the server accepts at most 2^40 steps
   pub small : (j : Judged) → Contains judged j → j.sent.number < 18446744073709551615
 
 -- a server that judges by its session rule gives the premise of the joint laws

@@ -37,7 +37,7 @@ CountsAreRight w done = (c : Count) → Contains w.counts c → (s : Sent) → C
 abbrev pub AtMostOnce : Type 0
 AtMostOnce = (r : Rules) (events : List Event) (done : List Sent) → Session r (run r new_run events) done → (place : ℕ) → count_by (is_order_at place) done ≤ 1
 
--- a reply to an unnumbered order is to the carrying out of that very request
+-- a reply to an unnumbered order is that of carrying out exactly that request
 abbrev pub OwnReplies : Type 0
 OwnReplies = (r : Rules) (events : List Event) (done : List Sent) → Session r (run r new_run events) done → CountsAreRight (run r new_run events) done
     → (h : Answer) → Contains (run r new_run events).answers h → h.sent.is_unnumbered ≡ true → r.uses_number h.answer ≡ true

@@ -1,5 +1,5 @@
--- A run whose outcome is known: two orders without a number, of which the server refuses the first one on its merits, so that it refuses
--- the number of the second; that one flies again with the number that is free, its connection breaks, and it is sent again.
+-- A run with a known result: two orders without a number, of which the server refuses the first one on its merits, so that it refuses
+-- the number of the second; that one is sent again with the number that is free, its connection breaks, and it is sent again.
 use Rattle.std.specs.Prelude.{◌≡◌, ℕ, ◌==◌, not, Bool, true, false, List, [], ◌∷◌, Some, map}
 use Rattle.proxy_core.specs.Rules.{Rules}
 use Rattle.proxy_core.specs.Session.{CountsAreRight, Session}

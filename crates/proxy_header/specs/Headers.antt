@@ -27,7 +27,7 @@ abbrev pub BeginsWith : List ℕ → HeaderLength → Type 0
 BeginsWith bytes (Whole n) = (n ≤ length bytes) × (n ≤ MOST_HEADER_BYTES) × IsAnyHeader (take n bytes)
 -- a part of a header
 BeginsWith bytes Unfinished = (more : List ℕ) × (1 ≤ length more) × (length (bytes ++ more) ≤ MOST_HEADER_BYTES) × IsAnyHeader (bytes ++ more)
--- no header, whatever follows
+-- not a header, whatever follows
 BeginsWith bytes Refused = (header more after : List ℕ) → IsAnyHeader header → length header ≤ MOST_HEADER_BYTES → header ++ more ≡ bytes ++ after → ⊥
 
 -- ---- the client

@@ -45,7 +45,7 @@ abbrev pub in_front : {X : Type 0} → Option X → Option (List X) → Option (
 in_front (Some x) (Some xs) = Some (x ∷ xs)
 in_front x xs = None
 
--- what each item is, if each is something
+-- the value of each item, if each has one
 abbrev pub each : {X : Type 0} → (Data → Option X) → Items → Option (List X)
 each read no_items = Some []
 each read (item d ds) = in_front (read d) (each read ds)

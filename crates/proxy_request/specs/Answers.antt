@@ -1,4 +1,4 @@
--- The number of an order in the light of its answer's bytes.
+-- What the bytes of an answer say about the number of its order.
 use Rattle.std.specs.Prelude.{◌≡◌, ℕ, ◌&&◌, ◌||◌, not, nat_eq, Bool, true, false, List, codes}
 use Rattle.std.specs.List.{AllByRecursion, starts_with}
 use Rattle.std.specs.Str.{bytes_eq}
@@ -31,7 +31,7 @@ is_refusal line =
     && not (bytes_eq line (codes "{\"name\":\"OutOfMemory\",\"refused\":2}"))
     && not (bytes_eq line (codes "{\"name\":\"PendingFull\",\"refused\":20}"))
 
--- the refusals that are no judgement of the order
+-- the refusals that don't judge the order
 abbrev pub is_of_order : Refusal → Bool
 is_of_order Stopped = false
 is_of_order OutOfMemory = false

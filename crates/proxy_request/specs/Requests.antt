@@ -43,7 +43,7 @@ reset_of d = option_and_then (λ u. Some (Reset u)) (admin.node_at (codes "node"
 abbrev pub reset_at_of : Data → Option Request
 reset_at_of d = admin.with_both (λ u e. ResetAt u e) (admin.node_at (codes "node") d) (admin.number_at (codes "epoch") d)
 
--- an op and the number of members tell the forms that only the proxy has from those of the server
+-- an op and the number of members distinguish the forms that only the proxy has from those of the server
 abbrev pub request_by : List ℕ → ℕ → Data → Result Request LineFault
 request_by name members d =
     if bytes_eq name (codes "watch") then (if members == 1 then Ok Watch else Err BadRequest)
@@ -56,7 +56,7 @@ abbrev pub request_named : Data → Option (List ℕ) → Result Request LineFau
 request_named d None = Err BadRequest
 request_named d (Some name) = request_by name (admin.member_count d) d
 
--- the request of a JSON value; a value that is no object has no `op`
+-- the request of a JSON value; a value that is not an object has no `op`
 abbrev pub request_of : Data → Result Request LineFault
 request_of d = request_named d (option_and_then as_str (get (codes "op") d))
 

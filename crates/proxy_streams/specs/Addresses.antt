@@ -1,4 +1,4 @@
--- Which address of the server is tried next, and after which pause.
+-- The address of the server that is tried next, and the pause before it.
 use Rattle.std.specs.Prelude.{ℕ, ◌+◌, ◌*◌, min, if◌then◌else◌, nat_lt}
 
 -- the index after this one, of `count` addresses; the first one after the last

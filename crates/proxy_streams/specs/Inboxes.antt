@@ -28,7 +28,7 @@ with_line i =
 abbrev pub after_line : Inbox → Inbox
 after_line i = record { line = Some []; is_whole = false; rest = i.rest }
 
--- all that came is in the line, which is not whole
+-- everything that came belongs to the line, which is not complete
 abbrev pub IsDrained : Inbox → Type 0
 IsDrained i = (i.is_whole ≡ false) × (i.rest ≡ [])
 

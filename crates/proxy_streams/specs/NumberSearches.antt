@@ -1,4 +1,4 @@
--- The search of a client's last number: numbers are tried outwards from one that is near it.
+-- The search for a client's last number: numbers are tried outwards from one that is near it.
 use Rattle.std.specs.Prelude.{ℕ, ◌+◌, ◌-◌, min, not, ◌&&◌, ◌==◌, Bool, true, false, if◌then◌else◌}
 
 pub record Search : Type 0 where

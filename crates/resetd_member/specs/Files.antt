@@ -1,4 +1,4 @@
--- What the file of a start says beside a judgement: in one boot of the machine, and to a resource.
+-- The other content of a start's file: in one boot of the machine, and for a resource.
 use Rattle.std.specs.Prelude.{◌≡◌, ◌≤◌, ◌<◌, ◌⊎◌, ℕ, ◌+◌, ◌*◌, ◌^◌, List, [], Option, Some, None, Result, Ok, Err, String, string_bytes}
 use Rattle.std.specs.declared.alloc.Global.{Global}
 use Rattle.std.specs.declared.vec.Vec.{Vec}

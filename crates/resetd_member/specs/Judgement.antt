@@ -1,4 +1,4 @@
--- What a view asks of the member of a node, by the texts of its files.
+-- The action that a view requires of the member of a node, with the texts of its files.
 use Rattle.std.specs.Prelude.{◌≡◌, ◌<◌, ℕ, ◌==◌, ◌++◌, false, List, [], length, take, Option, Some, None, Result, Ok, Err, if◌then◌else◌, find, is_some, String, string_bytes}
 use Rattle.std.specs.declared.alloc.Global.{Global}
 use Rattle.std.specs.Option.{option_map}
@@ -45,7 +45,7 @@ pub record IsAbsent (show : List ℕ) (node : ℕ) : Type 0 where
   pub shown : shown_in show ≡ Ok view
   pub absent : find (is_of node) view.nodes ≡ None
 
--- why nothing was shown
+-- why no view was shown
 abbrev pub IsUnseen : List ℕ → ℕ → Fault → Type 0
 IsUnseen show node OutOfMemory = Unit {0}
 IsUnseen show node BadLine = shown_in show ≡ Err NoAnswer
@@ -69,7 +69,7 @@ begun_at None work = None
 begun_at (Some epoch) None = None
 begun_at (Some epoch) (Some e) = if epoch == e then Some epoch else None
 
--- of those that the start first talked with, the ones that are shown
+-- the shown entries among those that the start first talked with
 abbrev pub first_known : Start → List Entry → Option (List Entry)
 first_known kept party = option_map (λ lines. known lines.items party) kept.party
 
@@ -80,7 +80,7 @@ start_after node begun lines settled Drops = start_text node None None None
 start_after node begun lines settled NotesAlone = start_text node begun (Some lines) (Some settled)
 start_after node begun lines settled NotesFirst = start_text node begun (Some lines) (Some settled)
 
--- where `line` is the history's line of the party that is shown
+-- `line` is the history's line of the shown party
 abbrev pub line_of_change : List ℕ → Change → List ℕ
 line_of_change line Keeps = []
 line_of_change line Drops = []
@@ -103,7 +103,7 @@ pub record IsDueOf (node : ℕ) (row : Row) (party : List Entry) (lines : List (
   pub found_is : looked_up history (history_line lines) ≡ Some found
   pub is : IsDueBy node row party lines settled (history_line lines) kept found work j
 
--- why a file does not read
+-- why a file can't be read
 abbrev pub IsUnread : ℕ → List ℕ → List ℕ → Fault → Type 0
 IsUnread node file history OutOfMemory = Unit {0}
 IsUnread node file history BadStart = seen_in node file ≡ None
@@ -179,7 +179,7 @@ IsTagged show node file word (Err _) = ⊥
 
 -- ---- the judgement as C hears of it
 
--- the start's text and the history's line stand one after the other
+-- the start's text and the history's line follow one another
 abbrev pub out_of : Judgement → List ℕ
 out_of j = string_bytes j.start ++ string_bytes j.line
 

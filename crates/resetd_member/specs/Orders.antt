@@ -1,4 +1,4 @@
--- Orders as numbers, and what the order book makes of them.
+-- Orders as numbers, and their effect on the order book.
 use Rattle.std.specs.Prelude.{◌≡◌, ℕ, ◌+◌, ◌^◌, ◌-◌, ◌==◌, List, [], Option, Some, None, option_and_then, Result, Ok, Err, if◌then◌else◌}
 use Rattle.std.specs.Option.{option_map}
 use Rattle.coord_types.specs.declared.limits.TheConstants.{MAX_CLIENTS, MAX_GROUPS, MAX_NODES}
@@ -88,7 +88,7 @@ line_by None client = Err BadNumber
 line_by (Some kept) None = Err BadNumber
 line_by (Some kept) (Some c) = if kept.last == 2 ^ 64 - 1 then Err BadNumber else Ok (text_of c (line_of kept))
 
--- the line that is to be sent; empty: no order is in hand
+-- the line to send; empty if no order is in hand
 abbrev pub line_for : Orders → ℕ → Result (List ℕ) Fault
 line_for orders client = line_by (kept_of orders) (from_1_to MAX_CLIENTS client)
 

@@ -45,15 +45,15 @@ pub record IsUnreached {D R : Type 0} (old new : FailingDisk D R) : Type 0 where
   pub same : inner_of new ≡ inner_of old
   pub counted : failed_of new ≡ failed_of old + 1
 
--- The effect of a write that is to fail. If the rule tears it, its first bytes are written, provided that the
--- disk inside does not fail; otherwise the disk inside is unchanged.
+-- The effect of a write that must fail. If the rule tears it, its first bytes are written, provided that the disk
+-- inside does not fail; otherwise the disk inside is unchanged.
 abbrev pub IsTorn : {D R : Type 0} → DiskModel D → Option ℕ → ℕ → List ℕ → FailingDisk D R → FailingDisk D R → Type 0
 IsTorn m None at bytes old new = IsUnreached old new
 IsTorn m (Some kept) at bytes old new =
     m.keeps_model (inner_of old) ≡ true → m.failures (inner_of new) ≡ m.failures (inner_of old) → m.present (inner_of new) ≡ written_at at (take kept bytes) (m.present (inner_of old))
 
--- Each call through such a disk is counted, and the rule says whether it fails. If it is to fail, this
--- is its effect. Otherwise the call is passed on, and fails only if the disk inside fails.
+-- Each call through such a disk is counted, and the rule decides whether it fails. If so, this is its effect.
+-- Otherwise the call is passed on, and fails only if the disk inside fails.
 pub record IsCounted {D R T : Type 0} (m : DiskModel D) (says : R → Call → Bool → R → Type 0) (call : Call) (old new : FailingDisk D R) (result : Result T DiskFault) (leaves : Type 0) : Type 0 where
   pub counted : calls_of new ≡ one_more (calls_of old)
   pub fails : Bool

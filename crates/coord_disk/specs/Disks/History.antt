@@ -24,8 +24,7 @@ pub record Past : Type 0 where
 abbrev pub present_after : Past → Present
 present_after past = replayed (whole past.first) past.entries
 
--- A crash after the first n writes and syncs, or after more of them, might have left
--- these bytes.
+-- A crash after the first n writes and syncs, or after more of them, could have left these bytes.
 abbrev pub LeftSince : Past → ℕ → List ℕ → Type 0
 LeftSince past t image = (k : ℕ) × (t ≤ k) × (k ≤ length past.entries) × IsImage (replayed (whole past.first) (take k past.entries)) image
 
@@ -39,7 +38,7 @@ recorded past failures = record {
   failures = failures;
 }
 
--- a disk that reads as these bytes, to which nothing was done
+-- a disk that reads as these bytes, before any operation
 abbrev pub past_with : List ℕ → Option History → Past
 past_with read None = record { first = read; entries = [] }
 past_with read (Some history) = record { first = history.first.items; entries = history.entries.items }

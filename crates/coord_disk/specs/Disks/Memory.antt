@@ -14,7 +14,7 @@ past_of disk = past_with disk.read.items disk.history
 abbrev pub present_of : MemDisk → Present
 present_of disk = present_after (past_of disk)
 
--- what the next crash leaves
+-- the bytes that the next crash leaves
 abbrev pub choice_of : MemDisk → Choice
 choice_of disk = disk.choice
 

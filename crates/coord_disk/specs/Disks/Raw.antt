@@ -14,6 +14,6 @@ failures_of disk = length disk.failed.items
 abbrev pub has_grown : {F : Type 0} {raw : Ghosts F} → RawDisk F raw → Bool
 has_grown disk = disk.grown
 
--- whether a sync has failed; then every later sync fails too
+-- whether a sync has failed; then each later sync fails too
 abbrev pub has_lost : {F : Type 0} {raw : Ghosts F} → RawDisk F raw → Bool
 has_lost disk = disk.lost

@@ -52,7 +52,6 @@ pub record WritesWithin (at : ℕ) (bytes : List ℕ) (old new : Present) : Type
 abbrev pub FitsNoMore : Present → Present → Type 0
 FitsNoMore old new = (image : List ℕ) → IsImage new image → IsImage old image
 
--- The bytes that a crash may leave while these bytes are written at this place over bytes that are
--- synced.
+-- The bytes that a crash may leave while these bytes are written at this place over synced bytes.
 abbrev pub Torn : List ℕ → ℕ → List ℕ → List ℕ → Type 0
 Torn bytes at new = IsImage (written_at at new (whole bytes))

@@ -1,4 +1,4 @@
--- What the types of a ledger and of a flight keep of their parts.
+-- The invariants of the types of a ledger and of a flight.
 use Rattle.std.specs.Prelude.{◌≡◌, ℕ, ◌+◌, ◌≤◌, List, [], ◌∷◌, ◌++◌, map, length, Option, Some, None, IfSome, IfNone, Vec}
 use Rattle.std.specs.List.{AllByRecursion}
 use Rattle.std.specs.declared.alloc.Global.{Global}
@@ -25,7 +25,7 @@ abbrev pub listed : List (Vec Output Global) → List (List Output)
 listed [] = []
 listed (v ∷ vs) = v.items ∷ listed vs
 
--- what steps release that are numbered from here on and gave these out
+-- the releases of steps with these outputs, numbered from here on
 abbrev pub released_from : ℕ → List (List Output) → List Release
 released_from n [] = []
 released_from n (given ∷ others) = map (release_of n) given ++ released_from (n + 1) others
@@ -40,7 +40,7 @@ pub record AddsSome (all old new : List Release) : Type 0 where
 
 -- ---- a ledger
 
--- how many steps are out, which counts only while the store is away
+-- the number of steps that are out, which counts only while the store is away
 abbrev pub out_of : {D : Type 0} → Option (Kept D) → ℕ → Option ℕ
 out_of None n = Some n
 out_of (Some kept) n = None
@@ -49,7 +49,7 @@ abbrev pub disk_at : {D : Type 0} → Option (Kept D) → Option D
 disk_at None = None
 disk_at (Some kept) = Some kept.disk
 
--- the world that the flight in doubt was to make
+-- the world that the flight in doubt was meant to make
 abbrev pub doubted : Log → Option ℕ → Option World
 doubted log None = None
 doubted log (Some b) = Some (world_after log (log.settled + b))

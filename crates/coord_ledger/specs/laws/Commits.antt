@@ -1,4 +1,4 @@
--- What a commit may leave.
+-- The worlds that a commit may leave.
 use Rattle.std.specs.Prelude.{◌≡◌, ℕ, ◌+◌, Some}
 use Rattle.coord_ledger.specs.declared.mark.Mark.TheVariants.{New}
 use Rattle.coord_ledger.specs.machine.Consistent.{IsConsistent}

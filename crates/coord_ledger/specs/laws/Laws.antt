@@ -27,7 +27,7 @@ use Rattle.coord_ledger.specs.promises.Headline.{CrashPrefix, IsSafe, SignalledO
 
 -- ---- the order of refusals
 
--- a client's last order that comes again is answered with its reply
+-- a client's last order that is repeated gets its reply
 abbrev pub unless_repeat : World → Step → Result Verdict Refusal → Result Verdict Refusal
 unless_repeat front (Order client number command) verdict = or_repeat (get front.sessions client) number command verdict
 unless_repeat front (Take p) verdict = verdict
@@ -88,10 +88,10 @@ KeptIsSafe = (s : Machine) (n : ℕ) → IsConsistent s → IsOneOf n (kept s) �
 abbrev pub NoSignalTwice : Type 0
 NoSignalTwice = (s : Machine) → IsConsistent s → SignalledOnce s
 
--- a flight that comes back at the end of a run changes nothing of what a crash may keep
+-- a flight that returns at the end of a run does not change what a crash may keep
 abbrev pub FinishKeepsKept : Type 0
 FinishKeepsKept = (s : Machine) → IsConsistent s → kept (finished s s.flight) ≡ kept s
 
--- where each image of a disk gives the world after steps that a crash may keep, the crash prefix holds
+-- if each image of a disk gives the world after steps that a crash may keep, the crash prefix holds
 abbrev pub PrefixFromImages : Type 0
 PrefixFromImages = (s : Machine) (keeps_model : Bool) (present : Present) → IsConsistent s → ImagesGiveOneOf keeps_model present s.log (kept s) → CrashPrefix s keeps_model present

@@ -9,7 +9,7 @@ use Rattle.coord_ledger.specs.machine.Log.{Log, rebased, world_after}
 use Rattle.coord_ledger.specs.machine.Machine.{Machine, adopted}
 use Rattle.coord_ledger.specs.promises.Headline.{is_crash}
 
--- the same machine with its base moved along its first n steps
+-- the same machine with its base moved past its first n steps
 abbrev pub rebased_machine : Machine → ℕ → Machine
 rebased_machine s n = record s { log = rebased s.log n }
 
@@ -24,6 +24,6 @@ RebasedAnswersAlike = (s : Machine) (n : ℕ) (e : Event) → IsConsistent s →
 abbrev pub RebasedGoesOn : Type 0
 RebasedGoesOn = (s : Machine) (n : ℕ) (e : Event) (a : Answer) → IsConsistent s → n ≤ s.log.settled → is_crash e ≡ false → IsOneOf a (answers s e) → after (rebased_machine s n) e a ≡ rebased_machine (after s e a) n
 
--- after a crash that keeps n steps, it is one that was just made of a store of their world
+-- after a crash that keeps n steps, the machine is a new one over their world
 abbrev pub CrashReopens : Type 0
 CrashReopens = (s : Machine) (n : ℕ) → rebased_machine (crashed s n) n ≡ record (adopted (world_after s.log n)) { released = s.released; replied = s.replied }

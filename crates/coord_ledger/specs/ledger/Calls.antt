@@ -1,4 +1,4 @@
--- What the calls of a ledger make of it.
+-- The effects of a ledger's calls.
 use Rattle.std.specs.Prelude.{◌≡◌, ℕ, ◌+◌, Bool, List, [], take, is_some, Option, Some, None, Result, Ok, Err}
 use Rattle.coord_disk.specs.Model.Present.{Present, IsImage}
 use Rattle.coord_types.specs.declared.limits.TheConstants.{MAX_BATCH_STEPS}
@@ -36,7 +36,7 @@ abbrev pub claim_of : Handed → Claim
 claim_of (handed.Accepted claim) = claim
 claim_of (handed.Repeated claim) = claim
 
--- Why no ticket was given: the step is refused, or it is fresh and there is no memory.
+-- Why no ticket was issued: the step is refused, or it is fresh and memory runs out.
 abbrev pub RefusesStep : Refusal → Result Verdict Refusal → Type 0
 RefusesStep refusal (Ok (Fresh kind)) = refusal ≡ OutOfMemory
 RefusesStep refusal (Ok (Repeat reply)) = ⊥
@@ -61,17 +61,17 @@ pub record IsRefused {D : Type 0} (l : LedgerState D) (s : Step) (refusal : Refu
   pub why : RefusesStep refusal (verdict l.log s)
   pub now : new ≡ l
 
--- a step that is handed in
+-- a submitted step
 abbrev pub HandedTo : {D : Type 0} → LedgerState D → Step → Result Handed Refusal → LedgerState D → Type 0
 HandedTo l s (Ok (handed.Accepted claim)) new = IsAccepted l s claim new
 HandedTo l s (Ok (handed.Repeated claim)) new = IsRepeated l s claim new
 HandedTo l s (Err refusal) new = IsRefused l s refusal new
 
--- no flight goes out of it
+-- no flight leaves it
 abbrev pub keeps_store : {D : Type 0} → LedgerState D → Bool
 keeps_store l = cannot_flush (is_some l.out) l.log
 
--- the flight that goes out next, with this disk
+-- the flight that leaves next, with this disk
 abbrev pub next_flight : {D : Type 0} → Log → D → FlightState D
 next_flight log disk = record { first = settled_count log + 1; steps = take MAX_BATCH_STEPS (pending log); world = settled_world log; mark = New; disk = disk }
 
@@ -79,18 +79,17 @@ next_flight log disk = record { first = settled_count log + 1; steps = take MAX_
 abbrev pub with_store_out : {D : Type 0} → LedgerState D → ℕ → LedgerState D
 with_store_out l n = record l { out = Some n; disk = None }
 
--- a flight of n steps is back
+-- a flight of n steps has returned
 abbrev pub taken_back : {D : Type 0} → LedgerState D → ℕ → Mark → D → LedgerState D
 taken_back l n mark disk = record { log = log_back l.log n mark; out = None; disk = Some disk }
 
--- what a flight releases when it is taken back
+-- the releases of a flight when it is taken back
 abbrev pub releases_in : {D : Type 0} → FlightState D → Mark → List Release
 releases_in f New = []
 releases_in f Good = releases_of (outs f.world f.steps)
 releases_in f Torn = []
 
--- Why a flight is not taken back: it is not the one that is out, or there is no memory for the list
--- of its releases.
+-- Why a flight is not taken back: it is not the one that is out, or memory for the list of its releases runs out.
 abbrev pub RefusesFlight : {D : Type 0} → LedgerState D → FlightState D → Refusal → Type 0
 RefusesFlight l f Stranger = ¬ IsOut l f
 RefusesFlight l f OutOfMemory = IsOut l f × (f.mark ≡ Good)

@@ -1,4 +1,4 @@
--- What a driver holds: the disk, with the ledger or with the flight, and how the calls change both.
+-- A driver's content: the disk, with the ledger or with the flight, and how the calls change both.
 use Rattle.std.specs.Prelude.{◌≡◌, ◌⊎◌, ℕ, List, [], Bool, true, false, Option, Some, None, length}
 use Rattle.std.specs.Option.{option_map}
 use Rattle.coord_disk.specs.Model.Present.{Present, IsImage}
@@ -22,11 +22,11 @@ use Rattle.coord_ledger.specs.promises.Broken.{IsGivenBack, wants_memory}
 use Rattle.coord_ledger.specs.promises.Headline.{CrashPrefix, EachMoment, Touches, is_crash}
 use Rattle.coord_ledger.specs.promises.Moments.{Reopens}
 
--- the driver's device has failed so often
+-- the driver's device has failed this often
 abbrev pub HasFailed : {D : Type 0} → (D → ℕ) → Option D → ℕ → Type 0
 HasFailed failures disk n = option_map failures disk ≡ Some n
 
--- a ledger with the flight that was out of it taken back
+-- a ledger after its flight was taken back
 abbrev pub brought_home : {D : Type 0} → LedgerState D → Option (FlightState D) → LedgerState D
 brought_home l None = l
 brought_home l (Some f) = taken_back l (length f.steps) f.mark f.disk
@@ -42,7 +42,7 @@ pub record AnImageGives (present : Present) (world : World) : Type 0 where
   pub allowed : IsImage present image
   pub recovered : Recovered image world
 
--- a ledger that was made after a crash of this disk, over the world that one of its images encodes
+-- a ledger that was created after a crash of this disk, over the world that one of its images encodes
 pub record IsReopened {D : Type 0} (model : DiskModel D) (crashes : D → D → Type 0) (before : D) (l : LedgerState D) : Type 0 where
   pub world : World
   pub disk : D
@@ -51,20 +51,20 @@ pub record IsReopened {D : Type 0} (model : DiskModel D) (crashes : D → D → 
   pub from : model.keeps_model before ≡ true → AnImageGives (model.present before) world
   pub moments : model.keeps_model before ≡ true → Reopens model crashes (IsImage (model.present before)) before disk
 
--- one of a disk's images is refused so
+-- one of a disk's images is refused with this fault
 pub record AnImageIsRefused (present : Present) (fault : StoreFault) : Type 0 where
   pub image : List ℕ
   pub allowed : IsImage present image
   pub refused : RefusesOpen image fault
 
--- the disk that is given back reads as one of the images of that disk, and gives a world
+-- the returned disk reads as one of the images of that disk, and gives a world
 pub record IsOpenedOnce (present lost : Present) : Type 0 where
   pub allowed : IsImage present lost.read
   pub world : World
   pub recovered : Recovered lost.read world
 
--- Why no ledger was made after a crash of this disk: the store was opened and there is no memory
--- for the ledger, or the store was not opened.
+-- Why no ledger was created after a crash of this disk: the store was opened and memory for the ledger ran out, or
+-- the store was not opened.
 abbrev pub IsReopenFault : Bool → Present → Present → RunFaultKind → Type 0
 IsReopenFault keeps_model present lost OutOfMemory = keeps_model ≡ true → IsOpenedOnce present lost
 IsReopenFault keeps_model present lost (Store fault) = IsOpenFault fault × (keeps_model ≡ true → AnImageIsRefused present fault)
@@ -74,19 +74,19 @@ abbrev pub IsEventFault : Option Bool → Event → RunFaultKind → Type 0
 IsEventFault model e OutOfMemory = wants_memory e ≡ true
 IsEventFault model e (Store fault) = (e ≡ Crash) × IsOpenFault fault × (model ≡ Some true → IsPassing fault)
 
--- the driver now holds what an event has made of this disk
+-- the driver now has the result of an event on this disk
 pub record DiskAfter {D : Type 0} (model : DiskModel D) (crashes : D → D → Type 0) (found : Machine) (touches : Bool) (e : Event) (old : D) (now : Option D) : Type 0 where
   pub new : D
   pub holds : now ≡ Some new
   pub touched : Touches model crashes (model.keeps_model old) found touches e old new
 
--- What an event does to the disk of the driver, if a crash inside the event finds this machine. `model` has the ghost
+-- The effect of an event on the driver's disk, if a crash inside the event finds this machine. `model` has the ghost
 -- members of the disk's type, which say what its disks may hold, and `crashes` says which disks a crash may leave.
 abbrev pub DiskEffect : {D : Type 0} → DiskModel D → (D → D → Type 0) → Machine → Bool → Event → Option D → Option D → Type 0
 DiskEffect {D} model crashes found touches e was now =
     (old : D) → was ≡ Some old → DiskAfter model crashes found touches e old now
 
--- An event was cut short, and this disk is given back in place of the one that was held.
+-- An event was cut short, and this disk is returned instead of the one before.
 abbrev pub IsLost : {D : Type 0} → DiskModel D → (D → D → Type 0) → Machine → Event → RunFaultKind → Option D → D → Type 0
 IsLost {D} model crashes s e kind was lost =
     (old : D) → was ≡ Some old → IsGivenBack model crashes (model.keeps_model old) s e kind old lost
@@ -95,7 +95,7 @@ IsLost {D} model crashes s e kind was lost =
 abbrev pub DiskSurvives : {D : Type 0} → DiskModel D → Option D → Machine → Type 0
 DiskSurvives {D} model held s = (disk : D) → held ≡ Some disk → CrashPrefix s (model.keeps_model disk) (model.present disk)
 
--- What a driver keeps after events with these answers, if the first event found this disk.
+-- The driver's state after events with these answers, if the first event found this disk.
 pub record RunSoFar {D : Type 0} (model : DiskModel D) (crashes : D → D → Type 0) (keeps_model : Bool) (first : D) (start : LedgerState D) (events : List Event) (given : List Answer) (d : DriverState D) : Type 0 where
   pub answered : Answered (started start) events given
   pub consistent : IsConsistent (run (started start) events given)
@@ -104,7 +104,7 @@ pub record RunSoFar {D : Type 0} (model : DiskModel D) (crashes : D → D → Ty
   pub holds : disk_held d ≡ Some disk
   pub moments : EachMoment model crashes keeps_model (started start) events given first disk
 
--- A run of events may begin at this driver: from its ledger's disk on, it is a run of no event.
+-- A run of events may begin at this driver: from its ledger's disk on, it is a run without events.
 pub record MayBegin {D : Type 0} (model : DiskModel D) (crashes : D → D → Type 0) (d : DriverState D) : Type 0 where
   pub first : D
   pub home : d.ledger.disk ≡ Some first

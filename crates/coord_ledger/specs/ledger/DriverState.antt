@@ -31,7 +31,7 @@ disk_held d = disk_with d.ledger.disk d.flight
 abbrev pub model_held : {D : Type 0} → DiskModel D → DriverState D → Option Bool
 model_held model d = option_map model.keeps_model (disk_held d)
 
--- a driver that was just made, over this world
+-- a driver that was just created, over this world
 pub record IsAnew {D : Type 0} (d : DriverState D) : Type 0 where
   pub world : World
   pub disk : D
@@ -39,13 +39,13 @@ pub record IsAnew {D : Type 0} (d : DriverState D) : Type 0 where
 
 -- ---- a call of the driver as the machine answers it
 
--- a step that is handed in
+-- a submitted step
 abbrev pub answer_to : Result Handed Refusal → Answer
 answer_to (Ok (handed.Accepted claim)) = answer.Accepted claim.step
 answer_to (Ok (handed.Repeated claim)) = answer.Repeated claim.step
 answer_to (Err refusal) = answer.Refused refusal
 
--- a flight that comes back, or does not
+-- a flight that returns, or does not
 abbrev pub finish_answer : {D : Type 0} → Result (Option (List Release)) Refusal → DriverState D → Answer
 finish_answer (Ok None) d = answer.NoFlight
 finish_answer (Ok (Some releases)) d = answer.Finished (settled_count d.ledger.log)

@@ -1,4 +1,4 @@
--- A flight that is out of its ledger, and what the images of a disk give.
+-- A flight that is out of its ledger, and the worlds that the images of a disk give.
 use Rattle.std.specs.Prelude.{◌≡◌, ℕ, ◌+◌, Bool, true, List, length, take, Option, Some, None}
 use Rattle.coord_disk.specs.Model.Present.{Present, IsImage}
 use Rattle.coord_store.specs.Recovered.{Recovered}

@@ -23,7 +23,7 @@ pub record FlightState (D : Type 0) : Type 0 where
   pub mark : Mark
   pub disk : D
 
--- a ledger that was just made of a store with this world and disk
+-- a ledger that was just created over a store with this world and disk
 abbrev pub ledger_over : {D : Type 0} → World → D → LedgerState D
 ledger_over w disk = record { log = log_over w; out = None; disk = Some disk }
 
@@ -31,7 +31,7 @@ ledger_over w disk = record { log = log_over w; out = None; disk = Some disk }
 abbrev pub started : {D : Type 0} → LedgerState D → Machine
 started l = machine_over l.log
 
--- what a ticket claims: that this step has this number, and is answered with this kind
+-- the claim of a ticket: this step has this number, and gets a reply of this kind
 pub record Claim : Type 0 where
   pub step : ℕ
   pub what : Step
@@ -54,7 +54,7 @@ pub record IsKeptBy (base : World) (claim : Claim) : Type 0 where
   pub order : claim.what ≡ Order client last.number last.command
   pub answered : last.reply ≡ reply_of claim
 
--- what the claim says is true here
+-- the claim is true here
 abbrev pub IsGranted : Log → Claim → Type 0
 IsGranted log claim = IsInTrail log claim ⊎ IsKeptBy log.base claim
 

@@ -1,4 +1,4 @@
--- What becomes of the machine with an answer.
+-- The machine after an answer.
 use Rattle.std.specs.Prelude.{ℕ, zero, suc, ◌-◌, List, [], ◌∷◌, ◌++◌, map, take, flat_map, Option, Some, None, Result, Ok}
 use Rattle.coord_types.specs.declared.outputs.Output.{Output}
 use Rattle.coord_types.specs.declared.refusals.Refusal.{Refusal}
@@ -24,15 +24,15 @@ use Rattle.coord_ledger.specs.machine.Submits.{verdict}
 abbrev pub release_of : ℕ → Output → Release
 release_of number output = record { step = number; output = output }
 
--- what outcomes release: all but their replies, which are collected
+-- the releases of outcomes: all except their replies, which are collected
 abbrev pub releases_of : List StepOutcome → List Release
 releases_of outcomes = flat_map (λ r. map (release_of r.reply.step) r.outputs) outcomes
 
--- what the next b pending steps release once they are settled
+-- the releases of the next b pending steps once they are settled
 abbrev pub settling_releases : Log → ℕ → List Release
 settling_releases log b = releases_of (outs (settled_world log) (take b (pending log)))
 
--- what a world sends again, as of step 0
+-- the packets that a world sends again, as of step 0
 abbrev pub resent : World → List Release
 resent w = map (release_of 0) (again w)
 
@@ -50,13 +50,13 @@ abbrev pub marked : Mark → Option FlightOut → Option FlightOut
 marked mark None = None
 marked mark (Some f) = Some (record { size = f.size; mark = mark })
 
--- a flight of b steps is back: one that was committed settles its steps, and a torn one leaves them in doubt
+-- a flight of b steps has returned: a committed one settles its steps, and a torn one leaves them in doubt
 abbrev pub log_back : Log → ℕ → Mark → Log
 log_back log b New = log
 log_back log b Good = with_settled log b
 log_back log b Torn = with_doubt log b
 
--- the releases after a flight of b steps is back: if it was committed, the outputs of its steps too
+-- the releases after a flight of b steps has returned: if it was committed, the outputs of its steps too
 abbrev pub released_back : List Release → Log → ℕ → Mark → List Release
 released_back released log b New = released
 released_back released log b Good = released ++ settling_releases log b
@@ -78,8 +78,7 @@ spent (t ∷ ts) (suc i) = t ∷ spent ts i
 abbrev pub crashed : Machine → ℕ → Machine
 crashed s n = record s { log = cut_to s.log n; flight = None; tickets = []; seen = 0 }
 
--- The machine after an event with this answer. With an answer that has no line here it stays as it
--- was.
+-- The machine after an event with this answer. An answer without a line here leaves it unchanged.
 abbrev pub after : Machine → Event → Answer → Machine
 after s (Submit x) answer = after_submit s x (verdict s.log x) answer
 after s Begin (Begun b) = record s { flight = Some (record { size = b; mark = New }) }

@@ -34,7 +34,7 @@ to_submit number (Err refusal) = Refused refusal ∷ []
 abbrev pub next_size : Log → ℕ
 next_size log = min MAX_BATCH_STEPS (length (pending log))
 
--- no flight goes out: it has stopped, one is out, or nothing is pending
+-- no flight leaves: the ledger has stopped, a flight is out, or nothing is pending
 abbrev pub cannot_flush : Bool → Log → Bool
 cannot_flush is_out log = has_stopped log || is_out || (length (pending log) == 0)
 
@@ -46,8 +46,8 @@ to_commit New = Committed ∷ Failed fault.Device ∷ Failed fault.OutOfMemory �
 to_commit Good = Failed fault.Again ∷ []
 to_commit Torn = Failed fault.Stopped ∷ []
 
--- The settled count. A flight that was committed adds its steps to it; memory can lack only there,
--- for the release of what these gave out.
+-- The settled count. A committed flight adds its steps to it; memory can run out only there, for the releases of its
+-- steps.
 abbrev pub to_finish : ℕ → ℕ → Mark → List Answer
 to_finish count size New = Finished count ∷ []
 to_finish count size Good = Finished (count + size) ∷ Refused OutOfMemory ∷ []
@@ -71,8 +71,7 @@ to_collect count (Some reply) = (if nat_le reply.step count then Collected reply
 abbrev pub to_show : Machine → List Answer
 to_show s = if has_stopped s.log then Refused Stopped ∷ [] else Shown (shown (accepted_count s.log) (settled_world s.log)) ∷ Refused OutOfMemory ∷ []
 
--- How many steps a crash may keep, where d are settled and a flight of b more is out, with this
--- mark.
+-- How many steps a crash may keep, if d are settled and a flight of b more is out, with this mark.
 abbrev pub kept_with : ℕ → ℕ → Mark → List ℕ
 kept_with d b New = d ∷ []
 kept_with d b Good = (d + b) ∷ []
@@ -88,7 +87,7 @@ kept_by d (Some f) doubt = kept_with d f.size f.mark
 abbrev pub kept : Machine → List ℕ
 kept s = kept_by s.log.settled s.flight s.log.doubt
 
--- all that an event may be answered
+-- all possible answers to an event
 abbrev pub answers : Machine → Event → List Answer
 answers s (Submit x) = to_submit (accepted_count s.log + 1) (verdict s.log x)
 answers s Begin = to_begin s

@@ -55,7 +55,7 @@ with_step log s = record log { trail = log.trail ++ s ∷ [] }
 abbrev pub with_settled : Log → ℕ → Log
 with_settled log b = record log { settled = log.settled + b }
 
--- whether the next b steps are on the disk isn't known: it stops
+-- it is unknown whether the next b steps are on disk: the ledger stops
 abbrev pub with_doubt : Log → ℕ → Log
 with_doubt log b = record log { doubt = Some b }
 

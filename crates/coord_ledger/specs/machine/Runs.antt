@@ -13,7 +13,7 @@ Answered s [] (a ∷ given) = ⊥
 Answered s (e ∷ es) [] = ⊥
 Answered s (e ∷ es) (a ∷ given) = IsOneOf a (answers s e) × Answered (after s e a) es given
 
--- what becomes of the machine with these answers
+-- the machine after a run with these answers
 abbrev pub run : Machine → List Event → List Answer → Machine
 run s [] given = s
 run s (e ∷ es) [] = s

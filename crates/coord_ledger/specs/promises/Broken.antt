@@ -22,8 +22,8 @@ use Rattle.coord_ledger.specs.promises.Moments.{Reopens}
 
 -- ---- an event that is cut short
 
--- The list of releases got a first part of what the event releases with one of its answers, and
--- there was no memory for the next item.
+-- The list of releases got a prefix of what the event releases with one of its answers, and memory for the next item
+-- ran out.
 pub record IsLeftOut (before : Machine) (e : Event) (released : List Release) : Type 0 where
   pub answer : Answer
   pub allowed : IsOneOf answer (answers before e)
@@ -33,7 +33,7 @@ pub record IsLeftOut (before : Machine) (e : Event) (released : List Release) : 
   pub ends : (after before e answer).released ≡ released ++ rest
   pub some : 1 ≤ length rest
 
--- The releases at that point. There is no memory for a ticket, for a release, or for the ledger after a crash, or the
+-- The releases at that point. Memory runs out for a ticket, for a release, or for the ledger after a crash, or the
 -- store is not opened after it.
 abbrev pub IsCutShort : Machine → Event → RunFaultKind → List Release → Type 0
 IsCutShort before (Submit step) OutOfMemory released = released ≡ before.released
@@ -42,12 +42,12 @@ IsCutShort before Resend OutOfMemory released = IsLeftOut before Resend released
 IsCutShort before Crash kind released = released ≡ before.released
 IsCutShort before event kind released = ⊥
 
--- A crash has chosen one of the disk's images. If there was no memory for the ledger, the store was opened.
+-- A crash has chosen one of the disk's images. If memory for the ledger ran out, the store was opened.
 pub record IsLostInCrash {D : Type 0} (model : DiskModel D) (crashes : D → D → Type 0) (before : Machine) (kind : RunFaultKind) (disk lost : D) : Type 0 where
   pub reopens : Reopens model crashes (Survives before) disk lost
   pub opened : kind ≡ OutOfMemory → Survives before (model.present lost).read
 
--- which disk is given back
+-- the disk that is returned
 abbrev pub IsGivenBack : {D : Type 0} → DiskModel D → (D → D → Type 0) → Bool → Machine → Event → RunFaultKind → D → D → Type 0
 IsGivenBack model crashes keeps_model before Crash kind disk lost = keeps_model ≡ true → IsLostInCrash model crashes before kind disk lost
 IsGivenBack model crashes keeps_model before event kind disk lost = lost ≡ disk
@@ -60,7 +60,7 @@ pub record IsGivenUp {D : Type 0} (before : Machine) (kind : RunFaultKind) (rele
   pub released_is : released ≡ before.released
   pub same : lost ≡ disk
 
--- a flight is out that was committed
+-- a committed flight is out
 abbrev pub IsCommitted : Option FlightOut → Type 0
 IsCommitted flight = (size : ℕ) × (flight ≡ Some (record { size = size; mark = Good }))
 
@@ -81,7 +81,7 @@ pub record EndedEarly {D : Type 0} (model : DiskModel D) (crashes : D → D → 
 
 -- ---- on any disk
 
--- the events that allocate: a run's lists grow, or its ledger is made again
+-- the events that allocate: a run's lists grow, or its ledger is created again
 abbrev pub wants_memory : Event → Bool
 wants_memory (Submit step) = true
 wants_memory Finish = true

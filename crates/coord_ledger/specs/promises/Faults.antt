@@ -13,7 +13,7 @@ abbrev pub run_fault_number : RunFaultKind → ℕ
 run_fault_number OutOfMemory = 1
 run_fault_number (Store fault) = 2
 
--- how often the device has failed in the opening that ends a run so
+-- the number of device failures in the opening that ends a run with this fault
 abbrev pub failed_in_run : RunFaultKind → ℕ
 failed_in_run OutOfMemory = 0
 failed_in_run (Store fault) = failed_in_opening fault
@@ -23,7 +23,7 @@ abbrev pub failed_at : Event → Answer → ℕ
 failed_at Commit (Failed fault) = failed_in_commit fault
 failed_at event answer = 0
 
--- how often the device has failed in events with these answers
+-- the number of device failures in events with these answers
 abbrev pub failed_until : List Event → List Answer → ℕ
 failed_until [] given = 0
 failed_until (e ∷ es) [] = 0

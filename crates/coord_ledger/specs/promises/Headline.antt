@@ -72,8 +72,8 @@ CrashPrefix s keeps_model present = keeps_model ≡ true → (image : List ℕ) 
 
 -- ---- at each moment
 
--- The machine as a crash inside an event finds it. While a commit is under way its steps are on the disk or not, as
--- they are once the device has failed in it.
+-- The machine as a crash inside an event finds it. While a commit is in progress its steps are on disk or not, as
+-- after a failure of the device in it.
 abbrev pub found_by_crash : Machine → Event → Answer → Machine
 found_by_crash s Commit Committed = after s Commit (Failed fault.Device)
 found_by_crash s Commit (Failed fault.Device) = after s Commit (Failed fault.Device)
@@ -116,7 +116,7 @@ is_signal n u r = (r.step == n) && is_signal_of u r.output
 abbrev pub SignalledOnce : Machine → Type 0
 SignalledOnce s = (n u : ℕ) → 1 ≤ n → count_by (is_signal n u) s.released ≤ 1
 
--- a reply to one of these steps, or one that the world before them keeps for a client's last order
+-- a reply to one of these steps, or one that the world before them has for a client's last order
 abbrev pub IsReplyOf : World → List Step → Reply → Type 0
 IsReplyOf w steps reply = IsOneOf reply (map (λ q. q.reply) (outs w steps)) ⊎ ((client : ℕ) × ((last : Session) × ((get w.sessions client ≡ Some last) × (last.reply ≡ reply))))
 
@@ -134,7 +134,7 @@ is_crash event = false
 abbrev pub Promised : Bool → List Event → Type 0 → Type 0
 Promised keeps_model events Promise = (keeps_model ≡ true) ⊎ AllByRecursion (λ e. is_crash e ≡ false) events → Promise
 
--- the machine once the flight that is out of it has come back
+-- the machine once its flight has returned
 abbrev pub ended : Machine → Machine
 ended s = finished s s.flight
 

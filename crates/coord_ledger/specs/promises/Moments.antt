@@ -1,4 +1,4 @@
--- What an event does to the disk, and what a crash at a moment of it may leave.
+-- The effect of an event on the disk, and what a crash at a moment of it may leave.
 use Rattle.std.specs.Prelude.{◌≡◌, ℕ, List, Bool, true, false}
 use Rattle.coord_disk.specs.Model.Moments.{LeavesOnly}
 use Rattle.coord_disk.specs.Model.Present.{IsImage, whole}
@@ -9,7 +9,7 @@ use Rattle.coord_ledger.specs.declared.events.Answer.TheVariants.{Committed, Fai
 use Rattle.coord_ledger.specs.declared.events.Event.{Event}
 use Rattle.coord_ledger.specs.declared.events.Event.TheVariants.{Commit, Crash}
 
--- a commit that was tried and a crash touch the disk, and nothing else does
+-- an attempted commit and a crash touch the disk, and nothing else does
 abbrev pub touches_disk : Event → Answer → Bool
 touches_disk Commit Committed = true
 touches_disk Commit (Failed fault.Device) = true
@@ -17,8 +17,8 @@ touches_disk Commit (Failed fault.OutOfMemory) = true
 touches_disk Crash answer = true
 touches_disk event answer = false
 
--- A crash has taken one of the disk's images, and at each moment of the opening after it a crash left only images of
--- the taken one. These have P.
+-- A crash has chosen one of the disk's images, and at each moment of the opening after it a crash left only images of
+-- the chosen one. These have P.
 pub record Reopens {D : Type 0} (model : DiskModel D) (crashes : D → D → Type 0) (P : List ℕ → Type 0) (old new : D) : Type 0 where
   pub taken : D
   pub crash : crashes old taken

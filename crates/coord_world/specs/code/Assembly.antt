@@ -1,4 +1,4 @@
--- The world that rows make.
+-- The world of some rows.
 use Rattle.std.specs.Prelude.{◌≡◌, ℕ, ◌-◌, ◌==◌, List, [], ◌∷◌, map, slice_index_or, if◌then◌else◌}
 use Rattle.coord_types.specs.NodeSet as set
 use Rattle.coord_types.specs.Facade.{IsNode, NodeSet, NodeState}
@@ -11,7 +11,7 @@ use Rattle.coord_world.specs.protocol.Rows.{Rows}
 use Rattle.coord_world.specs.declared.rows.parts.NodeRow.{NodeRow}
 use Rattle.coord_world.specs.declared.rows.parts.ClientRow.{ClientRow}
 
--- these, and the far ends of the links that u is an end of
+-- these, and the other ends of u's links
 abbrev pub near_with : ℕ → NodeSet → List LinkRow → NodeSet
 near_with u near [] = near
 near_with u near (r ∷ rs) = near_with u (if u == r.a then set.insert near r.b else (if u == r.b then set.insert near r.a else near)) rs
@@ -20,7 +20,7 @@ near_with u near (r ∷ rs) = near_with u (if u == r.a then set.insert near r.b 
 abbrev pub near_in : List NodeSet → ℕ → NodeSet
 near_in near u = slice_index_or near (u - 1) set.empty
 
--- these are the neighbours that links make
+-- these are the neighbours that the links give
 abbrev pub AreNear : List LinkRow → List NodeSet → Type 0
 AreNear links near = (u : ℕ) → IsNode u → near_in near u ≡ near_with u set.empty links
 

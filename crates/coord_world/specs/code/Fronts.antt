@@ -1,4 +1,4 @@
--- The new fronts of a step, lane by lane: only what the step sends, or clears, makes one.
+-- The new fronts of a step, lane by lane: only a message that the step sends, or a front that it clears, makes one.
 use Rattle.std.specs.Prelude.{◌≡◌, ℕ, ◌-◌, ◌^◌, ◌<◌, nat_lt, List, [], ◌∷◌, ◌++◌, Option, Some, None, if◌then◌else◌}
 use Rattle.coord_types.specs.Facade.{behind_front, is_nil}
 use Rattle.coord_types.specs.declared.messages.Msg.{Msg}
@@ -13,11 +13,11 @@ use Rattle.coord_node.specs.Rules.{lost, request, sends_of, transition}
 use Rattle.coord_world.specs.protocol.NumberedWorld.{Links, World, lane_at, state}
 use Rattle.coord_world.specs.protocol.Outputs.{front_packet}
 
--- one more than the lane's base is a number that the program holds
+-- one more than the lane's base fits into the program's number type
 abbrev pub HasNumber : (ℕ × ℕ) × Lane → Type 0
 HasNumber e = e.1.base < 2 ^ 64 - 1
 
--- one more than the base of each lane is a number that the program holds
+-- one more than the base of each lane fits into the program's number type
 abbrev pub AreNumbered : Links → Type 0
 AreNumbered links = (u v : ℕ) (l : Lane) → lane_at links u v ≡ Some l → l.base < 2 ^ 64 - 1
 
@@ -41,7 +41,7 @@ abbrev pub front_behind : Option Lane → ℕ × ℕ → List Output
 front_behind None k = []
 front_behind (Some l) k = packets_of k (cleared l) (behind_front l.queue)
 
--- the lesser of a link's two ends has the lesser lanes
+-- the lower of a link's two ends has the lower lanes
 abbrev pub by_lesser : ℕ → ℕ → List Output → List Output → List Output
 by_lesser a b of_a of_b = if nat_lt a b then of_a ++ of_b else of_b ++ of_a
 

@@ -20,7 +20,7 @@ pub record IsTransitionOf (node_transition : NodeTransition) (u : ℕ) (d : Tran
   pub sends : node_transition.effects.sends.items ≡ sends_of d
   pub finished : node_transition.effects.finished ≡ d.finished
 
--- the world where node u has the state r and has sent these
+-- the world after node u has entered the state r and sent these
 abbrev pub node_changed : World → ℕ → NodeState → List (ℕ × Msg) → World
 node_changed w u r sends = record w { nodes = insert w.nodes u r; links = sent_lanes u sends w.links }
 

@@ -1,4 +1,4 @@
--- What a node sends: a list of messages, each with the node that it goes to.
+-- The messages that a node sends: a list, each with its receiver.
 use Rattle.std.specs.Prelude.{◌≡◌, ℕ, ◌<◌, List, [], ◌∷◌, length, Some}
 use Rattle.coord_link.specs.declared.lane.TheConstants.{PLACES}
 use Rattle.coord_tables.specs.Links.{Links, change_lane, lane_at}
@@ -14,7 +14,7 @@ abbrev pub sent_lanes : ℕ → List (ℕ × Msg) → Links → Links
 sent_lanes u [] links = links
 sent_lanes u (s ∷ ss) links = sent_lanes u ss (sent_lane u s links)
 
--- each lane has a free place for what u sends on it
+-- each lane has a free place for the messages that u sends on it
 abbrev pub CanSend : ℕ → List (ℕ × Msg) → Links → Type 0
 CanSend u [] links = Unit {0}
 CanSend u (s ∷ ss) links = ((l : Lane) → lane_at links u s.0 ≡ Some l → length l.queue < PLACES) × CanSend u ss (sent_lane u s links)

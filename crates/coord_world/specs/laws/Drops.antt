@@ -11,7 +11,7 @@ use Rattle.coord_world.specs.protocol.Ranges.{InRange}
 use Rattle.coord_world.specs.laws.Overlaps.{IsPart, PartReady, finished_at}
 use Rattle.coord_world.specs.laws.Waves.{signals_of, started}
 
--- a step that adds a link adds it between two nodes of the part, or between two others
+-- a step that adds a link adds it between two nodes of the part, or between two nodes outside it
 abbrev pub KeepsApart : (ℕ → Bool) → Step → Type 0
 KeepsApart part (Order c n (Join a b)) = part a ≡ part b
 KeepsApart part s = Unit {0}
@@ -21,7 +21,8 @@ abbrev pub drops_in : (ℕ → Bool) → Step → Bool
 drops_in part (Order c n (Drop a b)) = part a
 drops_in part s = false
 
--- steps in turn that begin with every node of a part Ready, and never link a node of it with one outside: nodes and links may come and go
+-- steps in turn that begin with every node of a part Ready, and never link a node of it with one outside: otherwise nodes and links may
+-- come and go
 pub record BeginsApart (w : World) (steps : List Step) (part : ℕ → Bool) : Type 0 where
   pub in_range : InRange w
   pub legal : Legal w

@@ -15,7 +15,7 @@ IsNotBy c (Order d n x) = d ≢ c
 IsNotBy c (Take p) = Unit {0}
 IsNotBy c (Clear p) = Unit {0}
 
--- the session that client c's last order among these steps leaves: its number, its command, and its reply from the outputs
+-- the session after client c's last order among these steps: its number, its command, and its reply from the outputs
 pub record IsLastOrder (base : World) (steps : List Step) (c : ℕ) (o : Session) : Type 0 where
   pub before : List Step
   pub rest : List Step

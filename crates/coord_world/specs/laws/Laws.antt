@@ -14,7 +14,7 @@ use Rattle.coord_world.specs.protocol.Links.{aborts}
 use Rattle.coord_world.specs.protocol.Ranges.{InRange, StepInRange}
 use Rattle.coord_world.specs.protocol.Rows.{RowsFit, rows_of}
 
--- a world that takes a step over some settled world also takes it over itself
+-- a world that accepts a step over some settled world also accepts it over itself
 abbrev pub FreshOverItself : Type 0
 FreshOverItself = (w settled : World) (s : Step) → IsFresh w settled s → IsFresh w w s
 
@@ -26,11 +26,11 @@ NextKeepsRanges = (w settled : World) (s : Step) → StepInRange s → InRange w
 abbrev pub NextKeepsLegal : Type 0
 NextKeepsLegal = (w settled : World) (s : Step) → InRange w → Legal w → IsFresh w settled s → Legal (next w s)
 
--- what a step makes of the view is the ideal step, where each lane has taken at most one message more than it cleared
+-- a step's effect on the view is the ideal step, if each lane has taken at most one message more than it cleared
 abbrev pub ViewOfNext : Type 0
 ViewOfNext = (w settled : World) (s : Step) → ((u v : ℕ) (l : Lane) → lane_at w.links u v ≡ Some l → Counts l) → IsFresh w settled s → view (next w s) ≡ ideal_next (view w) s
 
--- in a legal world at most 3 messages are on the way on a lane, and a queue has at most 4, of which at most 2 are Aborts
+-- in a legal world at most 3 messages are in transit on a lane, and a queue has at most 4, of which at most 2 are Aborts
 pub record IsShort (l : Lane) : Type 0 where
   pub on_way : length (transit l) ≤ 3
   pub queued : length l.queue ≤ PLACES

@@ -14,11 +14,11 @@ use Rattle.coord_world.specs.protocol.NumberedWorld.{World}
 use Rattle.coord_world.specs.protocol.Outputs.{again, outs}
 use Rattle.coord_world.specs.laws.Trails.{IsTrail}
 
--- what these steps give out beside their replies
+-- the outputs of these steps, except their replies
 abbrev pub outputs_of : World → List Step → List Output
 outputs_of base steps = flat_map (λ r. r.outputs) (outs base steps)
 
--- released, where these steps from the base are settled: one of them gave it out, or the base sends it again
+-- released, if these steps from the base are settled: one of them sent it, or the base sends it again
 abbrev pub IsReleased : World → List Step → Output → Type 0
 IsReleased base settled o = Contains (outputs_of base settled) o ⊎ Contains (again base) o
 
@@ -27,11 +27,10 @@ abbrev pub IsTakeable : World → DataPacket → Type 0
 IsTakeable front p = (l : Lane) × ((lane front p.from p.to p.inc ≡ Some l) × (judged_take l p.number p.msg ≡ Ok tt))
 
 -- the front world has the lane of a receipt, and the receipt clears its front: the only open question is whether the receipt was released
--- released
 abbrev pub IsClearable : World → ReceiptPacket → Type 0
 IsClearable front p = (l : Lane) × ((lane front p.from p.to p.inc ≡ Some l) × (judged_clear l p.number ≡ Ok tt))
 
--- the settled world shows of each packet that nothing else refuses whether it is out
+-- for each packet that nothing else refuses, the settled world shows whether it was released
 pub record HoldsReleased (front settled : World) (IsOut : Output → Type 0) : Type 0 where
   pub packets : (p : DataPacket) → IsTakeable front p → (has_sent (lane settled p.from p.to p.inc) p.number ≡ true) ↔ IsOut (Sent p)
   pub receipts : (p : ReceiptPacket) → IsClearable front p → (has_receipted (lane settled p.from p.to p.inc) p.number ≡ true) ↔ IsOut (Receipted p)
@@ -40,13 +39,14 @@ pub record HoldsReleased (front settled : World) (IsOut : Output → Type 0) : T
 abbrev pub ReleaseLaw : Type 0
 ReleaseLaw = (base : World) (trail : List Step) (d : ℕ) → IsTrail base trail → HoldsReleased (fold base trail) (fold base (take d trail)) (IsReleased base (take d trail))
 
--- the packet that a step names is out
+-- the packet that a step names was released
 abbrev pub NamesReleased : (Output → Type 0) → Step → Type 0
 NamesReleased IsOut (Order c n x) = Unit {0}
 NamesReleased IsOut (Take p) = IsOut (Sent p)
 NamesReleased IsOut (Clear p) = IsOut (Receipted p)
 
--- the same for the verdict: a step that the front world takes over itself is taken over the settled world exactly if its packet was released
+-- the same for the verdict: a step that the front world accepts over itself is accepted over the settled world exactly if its packet was
+-- released
 abbrev pub FreshWhereReleased : Type 0
 FreshWhereReleased = (base : World) (trail : List Step) (d : ℕ) (s : Step) → IsTrail base trail → IsFresh (fold base trail) (fold base trail) s →
     IsFresh (fold base trail) (fold base (take d trail)) s ↔ NamesReleased (IsReleased base (take d trail)) s
@@ -56,7 +56,7 @@ abbrev pub ReleaseStays : Type 0
 ReleaseStays = (base : World) (trail : List Step) (d e : ℕ) (s : Step) → IsTrail base trail → d ≤ e → accepts (fold base trail) (fold base (take d trail)) s ≢ Err NotReleased →
     accepts (fold base trail) (fold base (take e trail)) s ≡ accepts (fold base trail) (fold base (take d trail)) s
 
--- the resend law: what the settled world sends again is released
+-- the resend law: every packet that the settled world sends again is released
 abbrev pub ResendLaw : Type 0
 ResendLaw = (base : World) (trail : List Step) (d : ℕ) → IsTrail base trail → All (IsReleased base (take d trail)) (again (fold base (take d trail)))
 

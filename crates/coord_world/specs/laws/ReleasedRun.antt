@@ -1,4 +1,4 @@
--- The reset of the stored run, and when each of its packets is released.
+-- The reset of the stored run, and the moment when each of its packets is released.
 use Rattle.std.specs.Prelude.{◌≡◌, ℕ, List, [], ◌∷◌, map, Result, Ok, Err, take as first}
 use Rattle.coord_types.specs.declared.messages.Msg.TheVariants as msg
 use Rattle.coord_types.specs.declared.outputs.Output.TheVariants.{Signalled}
@@ -38,7 +38,7 @@ pub record ReleasedRun : Type 0 where
   pub ack : answers 2 (take 2 1 3 1 msg.Ack) (0 ∷ 1 ∷ 2 ∷ []) ≡ not_yet ∷ not_yet ∷ Ok (Fresh Taken) ∷ []
   pub receipt : answers 3 (clear 1 2 3 1) (0 ∷ 1 ∷ 2 ∷ 3 ∷ []) ≡ not_yet ∷ not_yet ∷ Ok (Fresh Cleared) ∷ Ok (Fresh Cleared) ∷ []
   pub ready : answers 4 (take 1 2 3 2 msg.Ready) (0 ∷ 1 ∷ 2 ∷ 3 ∷ 4 ∷ []) ≡ not_yet ∷ not_yet ∷ not_yet ∷ not_yet ∷ Ok (Fresh Taken) ∷ []
-  -- what its steps give out, in order
+  -- the outputs of its steps, in order
   pub given : outputs_of linked one_reset
       ≡ data_out 1 2 3 1 (msg.Abort 0) ∷ receipt_out 1 2 3 1 ∷ data_out 2 1 3 1 msg.Ack ∷ receipt_out 2 1 3 1 ∷ Signalled 1 1 ∷ data_out 1 2 3 2 msg.Ready ∷ receipt_out 1 2 3 2 ∷ Signalled 2 1 ∷ []
   -- the resend list after each of them

@@ -1,4 +1,4 @@
--- Trails: the steps that a world takes, one after the other.
+-- Trails: the steps that a world accepts, one after another.
 use Rattle.std.specs.Prelude.{◌≡◌, ℕ, ◌+◌, List, [], ◌∷◌, ◌++◌, length, take, drop, All}
 use Rattle.coord_types.specs.declared.steps.Step.{Step}
 use Rattle.coord_world.specs.protocol.Acceptance.{IsFresh}
@@ -24,7 +24,8 @@ pub record IsTrail (base : World) (trail : List Step) : Type 0 where
 abbrev pub TrailKeepsWorlds : Type 0
 TrailKeepsWorlds = (base : World) (trail : List Step) (n : ℕ) → IsTrail base trail → IsSound (fold base (take n trail))
 
--- the first n steps of a trail are one, so are the others from the world after them, and both make of the base what the trail makes
+-- the first n steps of a trail are one, so are the others from the world after them, and both together lead from the base to the
+-- same world
 pub record IsCut (base : World) (trail : List Step) (n : ℕ) : Type 0 where
   pub first : IsTrail base (take n trail)
   pub others : IsTrail (fold base (take n trail)) (drop n trail)
@@ -34,7 +35,7 @@ pub record IsCut (base : World) (trail : List Step) (n : ℕ) : Type 0 where
 abbrev pub TrailIsCut : Type 0
 TrailIsCut = (base : World) (trail : List Step) (n : ℕ) → IsTrail base trail → IsCut base trail n
 
--- a trail goes on with a step that is fresh over its world, with the world of its first steps as settled
+-- a trail continues with a step that is fresh over its world, with the world of its first steps as settled
 abbrev pub TrailGoesOn : Type 0
 TrailGoesOn = (base : World) (trail : List Step) (d : ℕ) (s : Step) → IsTrail base trail → StepInRange s → IsFresh (fold base trail) (fold base (take d trail)) s → IsTrail base (trail ++ s ∷ [])
 

@@ -64,7 +64,7 @@ is_signal_of v (Receipted p) = false
 is_signal_of v (Signalled u e) = u == v
 is_signal_of v (Sent p) = false
 
--- how often node v is signalled by what steps give out
+-- the number of signals of node v in the outputs of steps
 abbrev pub signals_of : ℕ → List StepOutcome → ℕ
 signals_of v given = sum_by (λ r. count_by (is_signal_of v) r.outputs) given
 

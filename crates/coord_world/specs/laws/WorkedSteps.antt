@@ -1,4 +1,4 @@
--- Runs from the empty world whose outcomes are known.
+-- Runs from the empty world with known results.
 use Rattle.std.specs.Prelude.{◌≡◌, ℕ, true, List, [], ◌∷◌, ◌++◌, count_by, map, Result, Ok}
 use Rattle.coord_types.specs.declared.messages.Msg.{Msg}
 use Rattle.coord_types.specs.declared.messages.Msg.TheVariants as msg
@@ -38,16 +38,16 @@ data_out u v i n m = Sent (record { from = u; to = v; inc = i; number = n; msg =
 abbrev pub receipt_out : ℕ → ℕ → ℕ → ℕ → Output
 receipt_out u v i n = Receipted (record { from = u; to = v; inc = i; number = n })
 
--- what step n gives
+-- the outputs of step n
 abbrev pub gives : ℕ → Kind → List Output → StepOutcome
 gives n k os = record { reply = record { step = n; kind = k }; outputs = os }
 
--- what each of these steps is answered, where each one before it is settled
+-- the replies to these steps, if each one before it is settled
 abbrev pub verdicts : World → List Step → List (Result Verdict Refusal)
 verdicts w [] = []
 verdicts w (s ∷ ss) = accepts w w s ∷ verdicts (next w s) ss
 
--- in a world of this version each step is taken, with the reply and the outputs that are given
+-- in a world of this version each step is accepted, with the reply and the outputs that are given
 abbrev pub IsRunIn : ℕ → List Step → List StepOutcome → Type 0
 IsRunIn version steps given = (verdicts (no_world version) steps ≡ map (λ r. Ok (Fresh r.reply.kind)) given) × (outs (no_world version) steps ≡ given)
 
@@ -109,13 +109,13 @@ pub record IsOverlap (steps : List Step) (at : List ℕ) (times : ℕ) : Type 0 
   pub first : signals_of 1 (outs (fold (no_world 1) two_linked) steps) ≡ times
   pub second : signals_of 2 (outs (fold (no_world 1) two_linked) steps) ≡ times
 
--- both ends of the link start a reset, and the two waves go on as one
+-- both ends of the link start a reset, and the two waves merge
 abbrev pub two_starts : List Step
 two_starts =
     order 4 (Reset 1) ∷ order 5 (Reset 2) ∷ take 1 2 3 1 (msg.Abort 0) ∷ take 2 1 3 1 (msg.Abort 0) ∷ clear 1 2 3 1 ∷ clear 2 1 3 1
     ∷ take 1 2 3 2 msg.Ack ∷ take 2 1 3 2 msg.Ack ∷ []
 
--- one end starts another reset before the other one is Ready, and the two waves go on one after the other
+-- one end starts another reset before the other one is Ready, and the two waves continue one after the other
 abbrev pub start_again : List Step
 start_again =
     order 4 (Reset 1) ∷ take 1 2 3 1 (msg.Abort 0) ∷ take 2 1 3 1 msg.Ack ∷ order 5 (Reset 1) ∷ clear 1 2 3 1 ∷ take 1 2 3 2 msg.Ready
@@ -166,7 +166,8 @@ passed_on =
     ∷ take 2 3 6 2 msg.Ready ∷ clear 2 3 6 2 ∷ take 2 3 6 3 (msg.Abort 0) ∷ clear 3 1 5 2 ∷ take 3 1 5 3 msg.Ack
     ∷ clear 3 1 5 3 ∷ take 3 1 5 4 msg.Ready ∷ []
 
--- then the link of the first two is dropped: the first one is signalled again, and the wave of the second goes on to it by the third
+-- then the link of the first two is dropped: the first one is signalled again, and the wave of the second reaches it through the
+-- third
 abbrev pub comes_back : List Step
 comes_back =
     order 9 (Drop 1 2) ∷ clear 3 1 5 4 ∷ take 3 1 5 5 (msg.Abort 0) ∷ clear 1 3 5 4 ∷ take 1 3 5 5 msg.Ready

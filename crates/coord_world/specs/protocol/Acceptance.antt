@@ -1,4 +1,4 @@
--- Which steps a world takes, and why it refuses the others: a list of tests, each with its refusal, that is read from the
+-- Which steps a world accepts, and why it refuses the others: a list of tests, each with its refusal, read from the
 -- front, so the text shows the exact order of refusals.
 use Rattle.std.specs.Prelude.{◌≡◌, ℕ, ◌+◌, ◌==◌, ◌&&◌, ◌||◌, not, nat_le, nat_lt, Bool, false, true, [], ◌∷◌, ◌++◌, Option, Some, None, Result, Ok, if◌then◌else◌}
 use Rattle.coord_types.specs.NodeSet as set
@@ -31,7 +31,7 @@ is_full r = nat_le MAX_DEGREE (set.len r.neighbours)
 abbrev pub has_all_links : World → Bool
 has_all_links w = nat_le MAX_LINKS (len w.links)
 
--- a command is judged by the front world alone
+-- only the front world judges a command
 abbrev pub against_command : World → Command → Tests
 against_command w (Add u g) = (has w.nodes u, NodeExists) ∷ []
 against_command w (Remove u) = (is_unknown w u, UnknownNode) ∷ (not (is_empty (state w u).neighbours), HasLinks) ∷ []
@@ -60,7 +60,7 @@ abbrev pub has_receipted : Option Lane → ℕ → Bool
 has_receipted None n = false
 has_receipted (Some l) n = nat_le n l.got
 
--- a packet is judged by its lane in the front world, and then by that in the settled one
+-- a packet is judged by its lane in the front world, and then by its lane in the settled one
 abbrev pub against_data : Option Lane → Option Lane → DataPacket → Tests
 against_data None settled p = (true, NoLink) ∷ []
 against_data (Some l) settled p = against_take l p.number p.msg ++ (not (has_sent settled p.number), NotReleased) ∷ []
@@ -101,6 +101,6 @@ accepts front settled (Order c n x) = or_repeat (get front.sessions c) n x (judg
 accepts front settled (Take p) = judged front settled (Take p)
 accepts front settled (Clear p) = judged front settled (Clear p)
 
--- a step that a world takes, over some settled world
+-- a step that a world accepts, over some settled world
 abbrev pub IsFresh : World → World → Step → Type 0
 IsFresh front settled s = accepts front settled s ≡ Ok (Fresh (kind (state front) s))

@@ -1,4 +1,4 @@
--- Steps that are taken one after the other.
+-- Steps that are accepted one after another.
 use Rattle.std.specs.Prelude.{◌≡◌, List, ◌∷◌, ◌++◌}
 use Rattle.coord_types.specs.declared.steps.Step.{Step}
 use Rattle.coord_world.specs.protocol.NumberedWorld.{World}

@@ -28,13 +28,13 @@ abbrev pub is_parent_near : Option ℕ → NodeSet → NodeSet → Bool
 is_parent_near None pend neighbours = true
 is_parent_near (Some p) pend neighbours = not (set.contains pend p) && set.contains neighbours p
 
--- a Ready node has no distance, and any other one a lesser one than steps were taken
+-- a Ready node has no distance, and any other one a distance less than the number of steps
 abbrev pub is_distance_right : Mode → ℕ → ℕ → Bool
 is_distance_right Ready distance count = distance == 0
 is_distance_right Abort distance count = nat_lt distance count
 is_distance_right Converge distance count = nat_lt distance count
 
--- N: that, a node awaits only neighbours, and confirmed ≤ epoch ≤ the count of steps
+-- N: these, a node awaits only neighbours, and confirmed ≤ epoch ≤ the number of steps
 abbrev pub is_legal_node : ℕ → NodeState → Bool
 is_legal_node count r =
     awaits_rightly r.mode r.pend && has_right_parent r.mode r.parent && is_parent_near r.parent r.pend r.neighbours && set.is_subset r.pend r.neighbours && nat_le r.confirmed r.epoch && nat_le r.epoch count && is_distance_right r.mode r.distance count

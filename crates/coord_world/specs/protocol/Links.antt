@@ -8,7 +8,8 @@ use Rattle.coord_types.specs.declared.messages.Msg.{Msg}
 use Rattle.coord_types.specs.declared.messages.Msg.TheVariants as msg
 use Rattle.coord_node.specs.Rules.{carries, is_parent}
 
--- one end of a link: whether it awaits the other end, whether that is its parent, its distance, and what an Abort from it carries
+-- one end of a link: whether it awaits the other end, whether that is its parent, its distance, and the distance that an Abort
+-- from it carries
 pub record End : Type 0 where
   pub mode : Mode
   pub awaits : Bool
@@ -94,7 +95,7 @@ waits_for_ready e = is_converge e.mode && e.child
 abbrev pub has_ack_in_one_place : Link → Bool
 has_ack_in_one_place l = (aborts l.out + one (owes_ack l.there) + acks l.back) == one l.here.awaits
 
--- C: at most one Ready is on the way
+-- C: at most one Ready is in transit
 abbrev pub has_one_ready_at_most : Link → Bool
 has_one_ready_at_most l = nat_le (readies l.out) 1
 
@@ -110,7 +111,7 @@ has_ready_for_child l = not (waits_for_ready l.there) || not (readies l.out == 0
 abbrev pub has_one_parent_at_most : Link → Bool
 has_one_parent_at_most l = not (l.here.child && l.there.child)
 
--- G: where this end isn't Ready, the other isn't its parent and no Abort is on the way, no Ready is
+-- G: if this end isn't Ready, the other isn't its parent and no Abort is in transit, then no Ready is
 abbrev pub has_no_early_ready : Link → Bool
 has_no_early_ready l = is_ready l.here.mode || l.here.child || not (aborts l.out == 0) || (readies l.out == 0)
 

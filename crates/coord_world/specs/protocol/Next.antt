@@ -1,4 +1,4 @@
--- What each step makes of a numbered world. A step is prepared, and then nodes act: first comes what changes before any
+-- The effect of each step on a numbered world. A step is prepared, and then nodes act: first the changes before any
 -- node acts, then a list of transitions, each computed from the world before the step, then the session and the count.
 -- The order of the list is the order of the signals. Both transitions of a drop are computed from the world before it,
 -- since its two ends differ.
@@ -15,14 +15,14 @@ use Rattle.coord_tables.specs.Links.{change_lane, change_lanes, joined, parted}
 use Rattle.coord_node.specs.Facade.{Transition, added, kind, transitions, with_neighbour}
 use Rattle.coord_world.specs.protocol.NumberedWorld.{World, state}
 
--- a change of the lane from u to v alone
+-- a change of only the lane from u to v
 abbrev pub on_lane : World → ℕ → ℕ → (Lane → Lane) → World
 on_lane w u v f = record w { links = change_lane w.links u v f }
 
 abbrev pub with_state : World → ℕ → NodeState → World
 with_state w u r = record w { nodes = insert w.nodes u r }
 
--- node u does a transition: its state changes, and its messages join its lanes
+-- node u makes a transition: its state changes, and its messages join its lanes
 abbrev pub with_transition : World → ℕ → Transition → World
 with_transition w u d = record w { nodes = insert w.nodes u d.state; links = change_lanes (λ k l. if k.0 == u then sent (added d k.1) l else l) w.links }
 
@@ -31,7 +31,8 @@ abbrev pub with_transitions : World → List (ℕ × Transition) → World
 with_transitions w [] = w
 with_transitions w (d ∷ ds) = with_transitions (with_transition w d.0 d.1) ds
 
--- what a command changes before any node acts on it; the incarnation of a link is the number of the step that makes it
+-- the changes of a command before any node acts on it; the incarnation of a link is the number of the step that makes
+-- it
 abbrev pub with_command : World → Command → World
 with_command w (Add u g) = with_state w u (new_node g)
 with_command w (Remove u) = record w { nodes = remove w.nodes u }
@@ -52,7 +53,7 @@ prepared w (Clear p) = on_lane w p.from p.to cleared
 abbrev pub reply : World → Step → Reply
 reply w s = record { step = w.count + 1; kind = kind (state w) s }
 
--- an order becomes its client's last one; packets leave the sessions
+-- an order becomes its client's last one; packets don't change the sessions
 abbrev pub with_reply : World → Reply → Step → World
 with_reply w r (Order c n x) = record w { sessions = insert w.sessions c (record { number = n; command = x; reply = r }) }
 with_reply w r (Take p) = w

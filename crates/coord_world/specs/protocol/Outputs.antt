@@ -18,7 +18,7 @@ use Rattle.coord_world.specs.protocol.Next.{next, reply}
 abbrev pub receipt : DataPacket → ReceiptPacket
 receipt p = record { from = p.from; to = p.to; inc = p.inc; number = p.number }
 
--- a Take gives out the receipt of its packet
+-- a Take sends the receipt of its packet
 abbrev pub receipts : Step → List Output
 receipts (Order c n x) = []
 receipts (Take p) = Receipted (receipt p) ∷ []
@@ -33,22 +33,22 @@ signals (d ∷ ds) = if d.1.finished then Signalled d.0 d.1.state.epoch ∷ sign
 abbrev pub front_packet : ℕ × ℕ → Lane → Msg → DataPacket
 front_packet k l m = record { from = k.0; to = k.1; inc = l.inc; number = l.base + 1; msg = m }
 
--- whether a lane had a front of the incarnation and the number that l's front has
+-- whether a lane had a front with the incarnation and the number of l's front
 abbrev pub had_front : Option Lane → Lane → Bool
 had_front None l = false
 had_front (Some o) l = not (is_nil o.queue) && (o.inc == l.inc) && (o.base == l.base)
 
--- what a lane sends: its front, if it has one that wasn't its front before
+-- the packets that a lane sends: its front, if it has one that wasn't its front before
 abbrev pub sent_by : Option Lane → ℕ × ℕ → Lane → List Msg → List Output
 sent_by before k l [] = []
 sent_by before k l (m ∷ ms) = if had_front before l then [] else Sent (front_packet k l m) ∷ []
 
--- what these lanes send that were as in `before`
+-- the packets that lanes send whose state before was `before`
 abbrev pub all_sent : Links → List ((ℕ × ℕ) × Lane) → List Output
 all_sent before [] = []
 all_sent before (e ∷ es) = sent_by (lane_at before e.0.0 e.0.1) e.0 e.1 e.1.queue ++ all_sent before es
 
--- what a step gives out after its reply; packets come in ascending order of their lanes' ends
+-- the outputs of a step after its reply; packets come in ascending order of their lanes' ends
 abbrev pub outputs : World → Step → List Output
 outputs w s = receipts s ++ signals (transitions w.version (state w) s) ++ all_sent w.links (lanes_in_order (next w s).links)
 
@@ -71,6 +71,6 @@ abbrev pub all_again : List ((ℕ × ℕ) × Lane) → List Output
 all_again [] = []
 all_again (e ∷ es) = again_by e.0 e.1 e.1.queue ++ all_again es
 
--- the resend list: what may have been lost and is sent again, in ascending order of the lanes
+-- the resend list: the packets that may have been lost and are sent again, in ascending order of the lanes
 abbrev pub again : World → List Output
 again w = all_again (lanes_in_order w.links)

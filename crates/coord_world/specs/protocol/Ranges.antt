@@ -67,7 +67,7 @@ pub record SessionInRange (count c : ℕ) (s : Session) : Type 0 where
   pub replied_by : s.reply.step ≤ count
   pub answered : answers s.command s.reply.kind ≡ true
 
--- a node's neighbours are those that it has lanes to; a link stands with its lesser end first, and has two lanes, of one
+-- a node's neighbours are those that it has lanes to; a link has its lesser end first, and has two lanes, of one
 -- incarnation, between two nodes of one group
 pub record InRange (w : World) : Type 0 where
   pub first : 1 ≤ w.version

@@ -99,12 +99,12 @@ pub record RowIsDistant (version count : ℕ) (r : NodeRow) : Type 0 where
   pub within : r.distance ≤ farthest version count
   pub ready : r.mode ≡ Ready → r.distance ≡ 0
 
--- what a row's lanes carry
+-- the messages of a row's lanes
 pub record LanesCarryWithin (n : ℕ) (r : LinkRow) : Type 0 where
   pub forth : CarryWithin n r.forth.queue
   pub back : CarryWithin n r.back.queue
 
--- what lists of rows must be to be those of a world
+-- the conditions on lists of rows to be those of a world
 pub record RowsFit (rows : Rows) : Type 0 where
   pub first : 1 ≤ rows.version
   pub last : rows.version ≤ MAX_VERSIONS
