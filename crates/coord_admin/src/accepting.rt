@@ -18,7 +18,7 @@ pub enum Failure {
 }
 
 impl Failure {
-    /// Decides by the error's number if the system gave it one, and else by its kind.
+    /// Decides by the error's number if the system gave one, and else by its kind.
     pub fn of(error: &Error) -> Self
         ensures { result ≡ failure_of (raw_os_error error.now) (error_kind error.now) }
     {

@@ -42,7 +42,7 @@ impl<D: Desk> Queue<D> {
         Ok(Queue { posted, answers })
     }
 
-    /// Drops an empty queue. Nothing is left of which a clause could speak.
+    /// Drops an empty queue. (No postcondition: nothing remains.)
     pub fn destroy(self)
         requires { self.posted.items ≡ [] }
     {

@@ -14,8 +14,8 @@ pub const REPLY_SECONDS: u64 = 10;
 /// The number of seconds that a client may be silent between two lines.
 pub const SILENCE_SECONDS: u64 = 15;
 
-/// The number of seconds that a connection may last. It counts only between lines, so that no reply
-/// that waits for its step is cut off.
+/// The number of seconds that a connection may last. The limit is checked only between lines, so no
+/// reply that waits for its step is cut off.
 pub const CONNECTION_SECONDS: u64 = 600;
 
 /// After a close, the number of milliseconds for which the client's input is discarded, so that

@@ -15,15 +15,15 @@ use std::alloc::{AllocError, Global};
 pub enum Task<'a> {
     /// Read requests from standard input, and print the result of each.
     Drill,
-    /// Check the store on a file.
+    /// Check the store in a file.
     Check { file: &'a str },
-    /// Show the store on a file.
+    /// Show the store in a file.
     Show { file: &'a str },
-    /// Raise the store on a file to version 2.
+    /// Migrate the store in a file to version 2.
     Migrate { file: &'a str },
-    /// Make a store on a file, from a topology file.
+    /// Create a store in a file, from a topology file.
     Init { file: &'a str, topology: &'a str },
-    /// Serve the store on a file at an address.
+    /// Serve the store in a file at an address.
     Serve { file: &'a str, address: &'a str },
 }
 

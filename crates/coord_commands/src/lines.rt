@@ -30,7 +30,7 @@ pub fn print<W: Write>(output: &mut W, text: &str) -> Result<(), Fault>
     Ok(())
 }
 
-/// Prints the line of a fault, which takes no memory.
+/// Prints the line of a fault, which needs no memory.
 pub fn print_fault<W: Write>(output: &mut W, fault: &Fault) -> io::Result<()>
     ensures ok { OnOk result (Appends (W.contents output.old) (W.contents output.new)
         (fault_line fault.now)) }

@@ -23,7 +23,7 @@ pub trait Rule: Drop {
     /// Decides whether a call fails, and returns the rule for the calls after it.
     ghost says: { Self → Call → Bool → Self → Type 0 };
 
-    /// How many bytes of a failing write are written. None: the write does not touch the disk
+    /// How many bytes of a failing write are written. None: the write does not reach the disk
     /// inside.
     ghost torn: { Self → Option ℕ } = { λ _. None };
 

@@ -7,11 +7,11 @@ use http_server::Log;
 use std::error::Error;
 use std::fmt;
 
-/// The device failed in this call. Only its images say what it holds now.
+/// The device failed in this call. Only its images describe its content now.
 #[derive(Clone, Copy, Debug, PartialEq, Eq, Hash)]
 pub struct DiskFault;
 
-/// The answer of a call that is counted if it failed.
+/// Returns the result of a call, and counts the call if it failed.
 pub(crate) fn counted<T, E: Drop>(
     failed: &mut Log<u8, u8>,
     answer: Result<T, E>,

@@ -77,7 +77,7 @@ fn opened<F: RawFile>(file: &mut F) -> io::Result<u64>
     file.len()
 }
 
-/// The position this many bytes after another one, which a file has to have.
+/// Returns the position this many bytes after another one, if a file can have it.
 fn end_of(at: u64, len: usize) -> io::Result<u64>
     ensures ok { IfOk result (λ end. (end ≡ at + len) × (end < 2 ^ 63)) }
     ensures within { at + len < 2 ^ 63 → IsOk result }

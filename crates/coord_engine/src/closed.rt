@@ -20,7 +20,7 @@ pub enum CloseFault {
     FlightOut,
     /// A share was not returned.
     SharesMissing,
-    /// The shares' notes are not the steps that were accepted since the engine was made.
+    /// The shares' notes differ from the steps accepted since the engine was created.
     NotNamed,
     /// A step that callers have seen as settled is not.
     NotSettled,
@@ -60,8 +60,8 @@ pub struct Closed<D: Disk> {
     pub settled: u64,
 }
 
-/// The state of an engine that was taken apart in any case, with the authority of its history; and
-/// why the engine was not closed, if so: then it is unknown whose its steps are.
+/// The state of an engine that was taken apart in any case, with the authority of its history; and,
+/// if the engine could not be closed, the reason: then it is unknown whose its steps are.
 #[derive(Drop)]
 pub struct Retired<D: Disk> {
     pub closed: Closed<D>,

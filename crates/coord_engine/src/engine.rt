@@ -182,7 +182,7 @@ impl<D: Disk, L: Origin> Engine<D, L> {
         unreachable!()
     }
 
-    /// Returns a view of the settled world, unless the caller has seen a later one. A token reads
+    /// Returns a view of the settled world, unless the caller has seen a later one. The token reads
     /// on: the view is the world after the settled steps that it has read then.
     pub fn show<R: Wait>(
         &self,

@@ -22,8 +22,8 @@ use std::{io, thread};
 /// The milliseconds for which a flight waits for packets in hand.
 const TIMEOUT: u64 = 5;
 
-/// A flight waits for returning callers for at most this part of the last flight's time. A wait in
-/// vain costs a sixteenth of a flight; a caller who comes in time saves a whole one.
+/// A flight waits for returning callers for at most this part of the last flight's time. An
+/// unnecessary wait costs a sixteenth of a flight; a caller who comes in time saves a whole one.
 const CALLERS_PART: u32 = 16;
 
 /// The milliseconds for which a flusher without memory rests before it tries again.
@@ -77,9 +77,9 @@ impl<D: Disk, L: Origin> Engine<D, L> {
         unreachable!()
     }
 
-    /// Waits until a flight can start. Then it waits for callers that may come again, as long as
-    /// the last flight's time allows, and a little for packets that are in hand. False once no
-    /// flight will start any more.
+    /// Waits until a flight can start. Then it waits for callers that may send again, as long as
+    /// the last flight's time allows, and briefly for packets that are being handled. Returns false
+    /// once no flight will start any more.
     fn waits_for_flight<R: Wait + Clock>(&self, rt: &R, for_callers: Duration) -> bool
         ensures starts { result ≡ true → AtSomeMoment (based_on D.model L.base L.before) (λ g.
             is_idle g ≡ false) }
@@ -204,7 +204,7 @@ impl Pace {
         }
     }
 
-    /// Rests. Nothing else clears a due rest.
+    /// Pauses. Nothing else clears a due pause.
     fn rest<R: Clock>(&mut self, rt: &R)
         ensures { self.new.rest_is_due ≡ false }
     {

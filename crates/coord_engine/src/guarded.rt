@@ -39,7 +39,7 @@ pub struct Guarded<D: Disk, L: Origin> {
     ledger: Ledger<D>,
     /// Counts the steps that were accepted for shares.
     book: Book<L>,
-    /// Has written the steps of earlier instances, and after them the settled ones.
+    /// The token that has written the steps of earlier instances, and after them the settled ones.
     writer: LogAuthority,
     /// The parts of the count that no share has.
     rest: Part<L>,

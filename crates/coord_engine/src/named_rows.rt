@@ -23,7 +23,7 @@ pub fn not_of_another_kind()
     ensures { NotOfAnotherKind }
 {}
 
-/// A note's number says at which place its step stands.
+/// A note's number gives the place of its step.
 pub fn names_in_place()
     ensures { NamesInPlace }
 {}

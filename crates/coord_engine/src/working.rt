@@ -59,7 +59,7 @@ fn try_waiting<D: Disk, L: Origin>(
     }
 }
 
-/// Submits a packet, keeps it if it has to wait, and puts it down.
+/// Submits a packet, keeps it if it has to wait, and counts it as handled.
 fn take<D: Disk, L: Origin>(
     guarded: &mut Guarded<D, L>,
     packet: &Packet,

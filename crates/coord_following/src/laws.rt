@@ -5,17 +5,17 @@ ghost use Rattle.coord_following.specs.Fences.{NewerHasMore, OlderStaysOut};
 ghost use Rattle.coord_following.specs.Ledgers.{NoMixOverALedger};
 ghost use Rattle.coord_following.specs.Stores.{NoMixOverAStore};
 
-/// Whatever a store goes through from a sound world on, its migration too: members that begin with
-/// nothing, follow the rule and are shown its worlds mix no runs, wherever they lose their files. A
-/// member may be shown any world, if it is none before the one that it was shown last.
+/// Whatever a store goes through after a sound world, including its migration: members that begin
+/// with nothing, follow the rule and see its worlds mix no runs, even if they lose their files at
+/// any point. A member may see any world that is not earlier than the one it saw last.
 #[tactic(auto, using(crate::proofs::OverStores::no_mix_over_a_store))]
 pub fn no_mix_over_a_store()
     ensures { NoMixOverAStore }
 {}
 
-/// From a ledger that was just made of a sound world, whatever it is asked, however it is answered and
-/// wherever it crashes: members that are shown its settled worlds, begin with nothing and follow the
-/// rule mix no runs, wherever they lose their files.
+/// Over a ledger that was just created with a sound world, whatever it is asked, whatever it
+/// answers and wherever it crashes: members that see its settled worlds, begin with nothing and
+/// follow the rule mix no runs, even if they lose their files at any point.
 #[tactic(auto, using(crate::proofs::OverLedgers::no_mix_over_a_ledger))]
 pub fn no_mix_over_a_ledger()
     ensures { NoMixOverALedger }

@@ -2,25 +2,25 @@
 
 ghost use Rattle.coord_heard.specs.Heard.{OrderIsRead, RefusalIsRead, ReplyIsRead, ShownIsRead};
 
-/// The line that the server prints of a view is read as that view.
+/// The line that the server prints for a view is parsed as that view.
 #[tactic(auto, using(crate::proofs::Heard::shown_is_read))]
 pub fn shown_is_read()
     ensures { ShownIsRead }
 {}
 
-/// That of the reply to an order is read as that reply.
+/// The line of the reply to an order is parsed as that reply.
 #[tactic(auto, using(crate::proofs::Heard::reply_is_read))]
 pub fn reply_is_read()
     ensures { ReplyIsRead }
 {}
 
-/// And that of each refusal that an order may get, as that refusal.
+/// The line of each refusal that an order may get is parsed as that refusal.
 #[tactic(auto, using(crate::proofs::Heard::refusal_is_read))]
 pub fn refusal_is_read()
     ensures { RefusalIsRead }
 {}
 
-/// The line that a client prints of an order is read by the server as that order.
+/// The server parses the line that a client prints for an order as that order.
 #[tactic(auto, using(crate::proofs::Orders::order_is_read))]
 pub fn order_is_read()
     ensures { OrderIsRead }

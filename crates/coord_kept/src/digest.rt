@@ -14,7 +14,8 @@ fn push_line(text: &mut String, line: &str) -> Result<(), AllocError>
     text.push_str("\n")
 }
 
-/// The text to be digested: the word as its first line, if it is not empty, and these lines.
+/// Returns the text to be digested: the word as its first line, if it is not empty, and these
+/// lines.
 fn text_of(alloc: Global, word: &str, lines: &[String]) -> Result<String, AllocError>
     ensures { IfOk result (λ text. string_bytes text ≡ text_of word.now lines.now) }
 {
@@ -28,7 +29,7 @@ fn text_of(alloc: Global, word: &str, lines: &[String]) -> Result<String, AllocE
     Ok(text)
 }
 
-/// The digest of the word and these lines, in 64 hexadecimal digits.
+/// Returns the digest of the word and these lines, in 64 hexadecimal digits.
 pub fn digest_of(alloc: Global, word: &str, lines: &[String]) -> Result<String, AllocError>
     ensures { IfOk result (λ digest. string_bytes digest ≡ digest_of word.now lines.now) }
 {
@@ -37,7 +38,7 @@ pub fn digest_of(alloc: Global, word: &str, lines: &[String]) -> Result<String, 
     hex::encode(alloc, &digest[..])
 }
 
-/// The first 32 of those digits.
+/// Returns the first 32 of those digits.
 fn half_of(alloc: Global, word: &str, lines: &[String]) -> Result<String, AllocError>
     ensures { IfOk result (λ digest. string_bytes digest ≡ half_of word.now lines.now) }
 {
@@ -46,8 +47,8 @@ fn half_of(alloc: Global, word: &str, lines: &[String]) -> Result<String, AllocE
     hex::encode(alloc, &digest[..16])
 }
 
-/// The tag of a start that first talked with these and is shown those now. A start that was alone
-/// has none: the empty text.
+/// Returns the tag of a start that first talked with one party and now sees the other. Empty for a
+/// start that was alone.
 pub fn tag_of(
     alloc: Global,
     word: &str,
@@ -82,7 +83,7 @@ pub fn fence_tag(
     half_of(alloc, word, first)
 }
 
-/// The line of the history for a party.
+/// Returns the line of the history for a party.
 pub fn history_line(alloc: Global, lines: &[String]) -> Result<String, AllocError>
     ensures { IfOk result (λ line. string_bytes line ≡ history_line lines.now) }
 {

@@ -4,10 +4,11 @@ ghost use Rattle.std.specs.Prelude.{◌≡◌, ◌<◌, ◌≤◌, ◌/◌, ◌*
 ghost use Rattle.std.specs.List.{list_all};
 ghost use Rattle.coord_kept.specs.History.{are_lines, is_among, is_digit, is_line, line_at, looked_up, size_of};
 
-/// The answer of a history about a line.
+/// The result of looking a line up in a history.
 #[derive(Clone, Copy, Debug, PartialEq, Eq)]
 pub struct Found {
-    /// The bytes of its whole lines: the next line goes after them, in the place of a torn one.
+    /// The number of bytes of its whole lines: the next line goes after them, and replaces a torn
+    /// one.
     pub size: usize,
     pub has: bool,
 }
@@ -86,7 +87,7 @@ fn is_among(history: &[u8], line: &[u8], count: usize) -> bool
     is
 }
 
-/// Whether a history has this line, and where the next one goes. None: it is not a history.
+/// Returns whether a history has this line, and where the next one goes. None: it is not a history.
 pub fn look_up(history: &[u8], line: &[u8]) -> Option<Found>
     ensures { result ≡ looked_up history.now line.now }
 {

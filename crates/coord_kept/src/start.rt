@@ -10,15 +10,15 @@ ghost use Rattle.coord_kept.specs.Start.{at_boot, begun_of, begun_text, carried_
 use serde_json::Value;
 use std::alloc::{AllocError, Global};
 
-/// What a member keeps of its start.
+/// The start of a member, as its file keeps it.
 #[derive(Drop, Debug)]
 pub struct Start {
     /// The epoch of the work in hand; None: no work is begun.
     pub begun: Option<u64>,
     /// The lines of the party that the start first talked with; None: it talked with nobody yet.
     pub party: Option<Vec<String>>,
-    /// How many steps were settled in the view that it first talked by; None: it has not, or its file
-    /// is of an earlier version.
+    /// The number of settled steps in the view with which it first talked; None: it has not, or its
+    /// file is of an earlier version.
     pub count: Option<u64>,
 }
 
@@ -35,7 +35,7 @@ impl Start {
     }
 }
 
-/// Why a start is not read.
+/// Why a start can't be read.
 #[derive(Clone, Copy, Debug, PartialEq, Eq)]
 pub enum ReadFault {
     OutOfMemory,
@@ -50,9 +50,9 @@ fn is_whole(text: &[u8]) -> bool
     !text.is_empty() && text[text.len() - 1] == b'\n'
 }
 
-/// What a file says of the start of a node's member, in whatever boot of the machine. A text without a
-/// line feed at its end was torn by a power cut, and says that nothing is begun; so does one of no
-/// bytes, a file that is not there.
+/// Returns the start in a file of a node's member, in any boot of the machine. A text without a
+/// line feed at its end was torn by a power cut, and says that nothing is begun; so does an empty
+/// text, as of a missing file.
 pub fn read_start(alloc: Global, node: u8, text: &str) -> Result<Start, ReadFault>
     ensures read { IfOk result (λ start. seen_in node text.now ≡ Some (seen start)) }
     ensures bad { result ≡ Err BadStart → seen_in node text.now ≡ None }
@@ -60,7 +60,7 @@ pub fn read_start(alloc: Global, node: u8, text: &str) -> Result<Start, ReadFaul
     carried_start(alloc, node, text, "")
 }
 
-/// The same in the boot of this name: work that was loaded in it is begun.
+/// The same in the boot with this name: work that was loaded in it is begun.
 #[tactic(auto, unfolding(crate::specs::Start::carried_in))]
 pub fn carried_start(alloc: Global, node: u8, text: &str, boot: &str) -> Result<Start, ReadFault>
     ensures read { IfOk result (λ start. carried_in boot.now node text.now ≡ Some (seen start)) }
@@ -211,7 +211,7 @@ fn lines_in(alloc: Global, rows: &[Value]) -> Result<Option<Vec<String>>, AllocE
     Ok(Some(lines))
 }
 
-/// The text of the file that keeps these for the member of a node.
+/// Returns the text of the file that keeps these for the member of a node.
 pub fn start_text(
     alloc: Global,
     node: u8,
@@ -230,8 +230,8 @@ pub fn start_text(
     Ok(text)
 }
 
-/// The text of the file once the common start is loaded for an epoch, as long as its start has talked
-/// with nobody: it counts in the boot of this name alone, and so need not be synced.
+/// Returns the text of the file once the common start is loaded for an epoch, as long as its start
+/// has talked with nobody: it is valid only in the boot with this name, and so need not be synced.
 pub fn loaded_text(alloc: Global, node: u8, epoch: u64, boot: &str) -> Result<String, AllocError>
     ensures { IfOk result (λ text. string_bytes text ≡ loaded_text node epoch boot.now) }
 {

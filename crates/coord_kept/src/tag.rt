@@ -17,14 +17,14 @@ fn dash_in(tag: &[u8]) -> usize
     place
 }
 
-/// The digest in front of the dash.
+/// Returns the digest before the dash.
 fn run_of(tag: &[u8]) -> &[u8]
     ensures { result.now ≡ run_of tag.now }
 {
     tag.split_at(dash_in(tag)).0
 }
 
-/// The digest after it.
+/// Returns the digest after the dash.
 fn shown_of(tag: &[u8]) -> &[u8]
     ensures { result.now ≡ shown_of tag.now }
 {
@@ -36,16 +36,16 @@ fn shown_of(tag: &[u8]) -> &[u8]
     }
 }
 
-/// Whether a message with the tag `other` belongs to the run of `own`, its receiver's tag. A receiver
-/// without a tag takes no message.
+/// Returns whether a message with the tag `other` belongs to the run of `own`, its receiver's tag.
+/// A receiver without a tag accepts no message.
 pub fn is_same_run(own: &[u8], other: &[u8]) -> bool
     ensures { result ≡ is_same_run own.now other.now }
 {
     !own.is_empty() && run_of(own) == run_of(other)
 }
 
-/// Whether two starts refuse each other for ever: they talk in two runs, though the same was shown to
-/// both last.
+/// Returns whether two starts will always refuse each other: they talk in two runs, although both
+/// saw the same last.
 pub fn are_parted(own: &[u8], other: &[u8]) -> bool
     ensures { result ≡ are_parted own.now other.now }
 {

@@ -34,11 +34,11 @@ pub enum Answer {
     Repeated(u64),
     /// Nothing changed.
     Refused(Refusal),
-    /// How many steps are out, from 1 to 256.
+    /// The number of steps that are out, from 1 to 256.
     Begun(u64),
     /// No flight went out: nothing is pending, one is out already, or the ledger has stopped.
     Nothing,
-    /// The flight's steps are on the disk.
+    /// The flight's steps are on disk.
     Committed,
     /// The flight was not committed.
     Failed(CommitFault),
@@ -56,6 +56,6 @@ pub enum Answer {
     Resent(u64),
     /// The settled world's rows.
     Shown(View),
-    /// The count of the opened world.
+    /// The number of steps of the opened world.
     Opened(u64),
 }

@@ -7,7 +7,7 @@ ghost use Rattle.coord_ledger.specs.laws.SignalsBetween.{ReleasedBetween, Releas
 ghost use Rattle.coord_ledger.specs.laws.Rebasing.{CrashReopens, RebasedAnswersAlike, RebasedGoesOn, RebasedIsConsistent};
 
 /// The first refusal that applies: Stopped; unless it is a repeat, PendingFull; then Exhausted, and
-/// the step's own in the order of their numbers.
+/// the step's own refusals in the order of their numbers.
 #[tactic(auto, using(crate::proofs::machine::Verdicts::submit_order))]
 pub fn submit_order()
     ensures { SubmitOrder }
@@ -26,7 +26,7 @@ pub fn has_answer()
     ensures { HasAnswer }
 {}
 
-/// The settled steps stay, in a crash too.
+/// The settled steps stay, even in a crash.
 #[tactic(auto, using(crate::proofs::machine::SettledStays::settled_stays))]
 pub fn settled_stays()
     ensures { SettledStays }
@@ -56,15 +56,15 @@ pub fn run_goes_on()
     ensures { RunGoesOn }
 {}
 
-/// Whatever a crash may keep is a legal world, with every step of which anything was released or
-/// returned, and only accepted steps.
+/// Whatever a crash may keep is a legal world, with every step that has released or returned
+/// anything, and only accepted steps.
 #[tactic(auto, using(crate::proofs::machine::Safe::kept_is_safe))]
 pub fn kept_is_safe()
     ensures { KeptIsSafe }
 {}
 
 /// While a flight is committed, the worlds before its steps and after them are both legal, each
-/// with every step of which anything was released or returned, and only accepted steps.
+/// with every step that has released or returned anything, and only accepted steps.
 pub fn commit_is_safe()
     ensures { CommitIsSafe }
 {}
@@ -89,7 +89,7 @@ pub fn released_with_drops()
     ensures { ReleasedWithDrops }
 {}
 
-/// Taking a flight back at the end of a run changes nothing of what a crash may keep.
+/// Taking a flight back at the end of a run does not change what a crash may keep.
 pub fn finish_keeps_kept()
     ensures { FinishKeepsKept }
 {}
@@ -118,7 +118,7 @@ pub fn rebased_goes_on()
     ensures { RebasedGoesOn }
 {}
 
-/// After a crash it is like one that was just made over a store of the kept world.
+/// After a crash it is like one that was just created over a store of the kept world.
 pub fn crash_reopens()
     ensures { CrashReopens }
 {}

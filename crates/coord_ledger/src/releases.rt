@@ -7,7 +7,7 @@ use coord_types::Output;
 use std::alloc::AllocError;
 use std::marker::Model;
 
-/// The releases that are not handed out yet. It must be consumed, by `lose_rest`. Contracts see the
+/// The releases that are not passed on yet. It must be consumed, by `lose_rest`. Contracts see the
 /// list of the remaining ones.
 pub struct Releases {
     rows: Vec<Release>,

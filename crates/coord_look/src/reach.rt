@@ -7,14 +7,14 @@ ghost use Rattle.coord_look.specs.Reading.{AreConnected, crosses};
 use coord_types::{NodeId, NodeSet};
 use coord_view::LinkView;
 
-/// A link that joins one of these nodes with one that is none of them.
+/// Returns a link between one of these nodes and a node that is not one of them.
 fn crossing(links: &[LinkView], reached: NodeSet) -> Option<&LinkView>
     ensures { option_copied result ≡ find (crosses reached) links.now }
 {
     links.iter().find(|link| reached.contains(link.a) != reached.contains(link.b))
 }
 
-/// The node and all that links connect with it, over any number of others.
+/// Returns the node and all nodes that links connect with it, over any number of others.
 #[tactic(auto, using(crate::proofs::Reached::all_reached, crate::proofs::Reached::reaches_itself, crate::proofs::Reached::reaches_more, crate::proofs::Reached::smaller))]
 pub fn connected(links: &[LinkView], node: NodeId) -> NodeSet
     ensures { AreConnected links.now node result }

@@ -12,7 +12,7 @@ use coord_types::{Mode, NodeId, NodeSet};
 use coord_view::{LinkView, NodeView, View};
 use std::alloc::{AllocError, Global};
 
-/// What the member of a node is shown: the row of its node, and those that are connected with it, the
+/// What the member of a node sees: the row of its node, and the connected nodes and links, the
 /// nodes before the links, each in ascending order.
 #[derive(Drop, Debug)]
 pub struct Look {
@@ -27,7 +27,7 @@ fn row_of(nodes: &[NodeView], node: NodeId) -> Option<&NodeView>
     nodes.iter().find(|row| row.node == node)
 }
 
-/// Whether each of these nodes that is shown is out of its resets, with its epoch confirmed.
+/// Returns whether each of these nodes in the view is in no reset, with its epoch confirmed.
 fn are_through(nodes: &[NodeView], reached: NodeSet) -> bool
     ensures { result ≡ list_all (is_through reached) nodes.now }
 {
@@ -36,14 +36,14 @@ fn are_through(nodes: &[NodeView], reached: NodeSet) -> bool
     })
 }
 
-/// Whether none of these nodes that is shown is in a reset.
+/// Returns whether none of these nodes in the view is in a reset.
 fn are_quiet(nodes: &[NodeView], reached: NodeSet) -> bool
     ensures { result ≡ list_all (is_quiet reached) nodes.now }
 {
     nodes.iter().all(|row| !reached.contains(row.node) || row.mode == Mode::Ready)
 }
 
-/// Adds a node that is one of these.
+/// Adds a node, if it is one of these.
 fn push_node(party: &mut Vec<Entry>, reached: NodeSet, row: &NodeView) -> Result<(), AllocError>
     ensures { OnOk result (party.new.items ≡ party.old.items ++ node_entries reached row.now) }
 {
@@ -56,7 +56,7 @@ fn push_node(party: &mut Vec<Entry>, reached: NodeSet, row: &NodeView) -> Result
     Ok(())
 }
 
-/// Adds a link between two of these.
+/// Adds a link, if it is between two of these.
 fn push_link(party: &mut Vec<Entry>, reached: NodeSet, link: &LinkView) -> Result<(), AllocError>
     ensures { OnOk result (party.new.items ≡ party.old.items ++ link_entries reached link.now) }
 {
@@ -70,7 +70,7 @@ fn push_link(party: &mut Vec<Entry>, reached: NodeSet, link: &LinkView) -> Resul
     Ok(())
 }
 
-/// The entries of these nodes and of the links between them, in the order in which they are shown.
+/// Returns the entries of these nodes and of the links between them, in the order of the view.
 fn party_in(alloc: Global, view: &View, reached: NodeSet) -> Result<Vec<Entry>, AllocError>
     ensures { IfOk result (λ party. party.items ≡ party_in reached view.now) }
 {
@@ -84,7 +84,7 @@ fn party_in(alloc: Global, view: &View, reached: NodeSet) -> Result<Vec<Entry>, 
     Ok(party)
 }
 
-/// Returns what the member of a node reads in a view; None if the node is not there.
+/// Returns what the member of a node reads in a view; None if the node does not exist.
 pub fn look_of(alloc: Global, view: &View, node: NodeId) -> Result<Option<Look>, AllocError>
     ensures absent { IfOk result (λ found. IfNone found (find (is_of node) view.now.nodes ≡ None)) }
     ensures read { IfOk result (λ found. IfSome found (λ look. (own : NodeView) × ((find (is_of node) view.now.nodes ≡ Some own) × IsReadOf view.now node own look.row look.party.items))) }

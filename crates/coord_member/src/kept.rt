@@ -14,7 +14,7 @@ use std::marker::Model;
 pub struct Kept {
     /// The epoch of the work in hand; None: no work is begun.
     begun: Option<u64>,
-    /// With whom the present start first talked; None: with nobody yet.
+    /// The party with which the present start first talked; None: it has talked with nobody yet.
     party: Option<Vec<Entry>>,
     /// The parties with which the member's starts have first talked.
     history: Vec<Vec<Entry>>,
@@ -97,7 +97,7 @@ impl Kept {
         }
     }
 
-    /// What a view asks of it.
+    /// Returns the action that a view requires of it.
     fn due(&self, row: Row, now: &[Entry]) -> Due
         ensures { result ≡ due self.now row now.now }
     {
@@ -108,7 +108,7 @@ impl Kept {
         }
     }
 
-    /// With this change, where these are shown.
+    /// Returns the state after this change, for this view.
     fn with(self, alloc: Global, change: Change, now: Vec<Entry>) -> Result<Self, AllocError>
         ensures { IfOk result (λ kept. kept ≡ changed self now.items change) }
     {

@@ -11,8 +11,9 @@ ghost use Rattle.coord_member.specs.Text.{PartyTextInjective};
 ghost use Rattle.coord_member.specs.WorkedRun.{WorkedRun};
 
 /// Whatever is shown to any number of members that lose no files, in any order, and however often
-/// and late messages are heard: no start ever hears of two starts of one member, all that a talking
-/// start has heard of have talked in just its run, and a start talks in one run only.
+/// and late messages are heard: no start ever hears of two starts of one member, everything that a
+/// talking start has heard came from starts that talked in its run, and a start talks in only one
+/// run.
 pub fn no_mix()
     ensures { NoMix }
 {}
@@ -23,7 +24,7 @@ pub fn no_mix_where_files_are_lost()
     ensures { NoMixHonest }
 {}
 
-/// Both at once: members that keep their files may be shown anything, while others lose theirs.
+/// Both at once: members that keep their files may see anything, while others lose theirs.
 pub fn no_mix_where_some_files_are_lost()
     ensures { NoMixFair }
 {}
@@ -35,21 +36,22 @@ pub fn more_only_forbids()
     ensures { MoreOnlyForbids }
 {}
 
-/// So no runs are mixed where members write a party into their histories before they know whether
-/// they will talk with it, and forget that they did: at each look a history may have any parties more.
+/// So no runs are mixed if members write a party into their histories before they know whether they
+/// will talk with it, and forget that they did: at each look a history may have any number of other
+/// parties.
 #[tactic(auto, using(crate::proofs::Fair::no_mix_with_more))]
 pub fn no_mix_with_more_parties()
     ensures { NoMixWithMore }
 {}
 
-/// A member that reads back what `specs/OnDisk.antt` asks for goes on as one that has crashed, or whose
-/// work is gone, and whose history has more parties.
+/// A member that reads back what `specs/OnDisk.antt` requires continues like one that has crashed,
+/// or whose work is gone, and whose history has more parties.
 #[tactic(auto, using(crate::proofs::OnDisk::left_is_enough))]
 pub fn what_is_left_is_enough()
     ensures { LeftIsEnough }
 {}
 
-/// After a fence that a resource accepted, it accepts those of other runs with greater counts alone.
+/// After a fence that a resource accepted, it accepts those of other runs only with greater counts.
 #[tactic(auto, using(crate::proofs::Fences::later_is_greater))]
 pub fn later_fences_are_greater()
     ensures { LaterIsGreater }
@@ -68,20 +70,20 @@ pub fn newest_fence_is_accepted()
     ensures { NewestIsAccepted }
 {}
 
-/// Two members that talk, are shown the same and refuse each other both ask for a reset.
+/// Two talking members that see the same and refuse each other both ask for a reset.
 pub fn refusers_ask()
     ensures { RefusersAsk }
 {}
 
-/// Equal texts are of equal parties.
+/// Parties with equal texts are equal.
 #[tactic(auto, using(crate::proofs::Texts::party_text_injective))]
 pub fn party_text_injective()
     ensures { PartyTextInjective }
 {}
 
-/// Runs whose outcomes are known: a member begins an epoch a second time, with its files lost and its
-/// node in another life, and is heard of alone; a store is put back, and a member is shown a party
-/// again that it talked with.
+/// Worked runs: a member begins an epoch a second time, with its files lost and its node in another
+/// life, and only that start is heard; a store is restored, and a member sees a party again that it
+/// talked with.
 pub fn worked_run()
     ensures { WorkedRun }
 {}

@@ -7,15 +7,14 @@ ghost use Rattle.coord_member.specs.Rule.{admits, change_of, due_of, due_when_re
 use crate::party::{is_alone, is_within};
 use crate::view::{Entry, Row};
 
-/// What a member has to do.
+/// The action of a member.
 #[derive(Clone, Copy, PartialEq, Eq, Debug)]
 pub enum Due {
     /// The member talks, in the run of its party.
     Talk,
-    /// The member waits for others, or for a reset that is under way.
+    /// The member waits for others, or for a reset in progress.
     Wait,
-    /// The member begins the epoch that is shown: it drops its work, loads the common start and
-    /// confirms.
+    /// The member begins the shown epoch: it drops its work, loads the common start and confirms.
     Begin,
     /// The member asks for a reset.
     Reset,
@@ -29,21 +28,22 @@ pub enum Change {
     /// No work is begun any more, and the start has no party: both in one write, or after the work
     /// itself is dropped.
     Drops,
-    /// Those that are shown become the start's party. It is alone, so they join no history.
+    /// The shown party becomes the start's party. It is alone, so it is not added to the history.
     NotesAlone,
-    /// Those that are shown join the history, and then become the start's party.
+    /// The shown party is added to the history, and then becomes the start's party.
     NotesFirst,
 }
 
-/// Whether the work in hand, if there is any, is of the epoch that is shown, which is confirmed.
+/// Returns whether the work in hand, if there is any, belongs to the shown epoch, which is
+/// confirmed.
 fn is_begun(begun: Option<u64>, row: Row) -> bool
     ensures { result ≡ is_begun begun row }
 {
     row.epoch == row.confirmed && begun == Some(row.epoch)
 }
 
-/// Whether nobody has come to those that the start first talked with, or, if it didn't talk, no
-/// start before it talked with just these.
+/// Returns whether nobody has joined those that the start first talked with, or, if it didn't talk,
+/// whether no start before it talked with exactly these.
 fn admits(party: Option<&[Entry]>, was: bool, now: &[Entry]) -> bool
     ensures { result ≡ admits (option_map (λ p. p.now) party.entry) was now.now }
 {
@@ -92,8 +92,8 @@ pub fn change_of(due: Due, has_party: bool, now: &[Entry]) -> Change
 }
 
 /// Returns the due action after a member rejected a message for its tag and looked. If it is due to
-/// talk, still with another tag, and the sender was shown exactly what it is shown itself, no look
-/// of either can bring the two together, and it asks for a reset.
+/// talk, still with another tag, and the sender saw exactly what it sees itself, no look of either
+/// can bring the two together, and it asks for a reset.
 pub fn on_refused(due: Due, is_same_tag: bool, is_same_view: bool) -> Due
     ensures { result ≡ due_when_refused due is_same_tag is_same_view }
 {

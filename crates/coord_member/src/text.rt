@@ -16,8 +16,8 @@ pub fn print_entry(text: &mut String, entry: Entry) -> Result<(), AllocError>
     }
 }
 
-/// The text of a party: the line of each entry, in the party's order. Its digest is the tag of those
-/// who talk in that run; docs/SERVICES.md asks for the order of the lines' bytes.
+/// The text of a party: the line of each entry, in the party's order. Its digest is the tag of
+/// those who talk in that run; docs/SERVICES.md requires the order of the lines' bytes.
 pub fn party_text(alloc: Global, party: &[Entry]) -> Result<String, AllocError>
     ensures { IfOk result (λ text. string_bytes text ≡ party_text party.now) }
 {

@@ -8,7 +8,7 @@ pub enum Entry {
     Link { a: u64, b: u64, incarnation: u64 },
 }
 
-/// The row of the member's node, and how those that are connected with it stand, the node among them.
+/// The row of the member's node, and the state of all connected nodes, its own among them.
 #[derive(Clone, Copy, PartialEq, Eq, Debug)]
 pub struct Row {
     pub epoch: u64,

@@ -6,12 +6,12 @@ ghost use Rattle.coord_orders.specs.Book.{heard, is_awaited, kept_after, line_of
 use crate::meaning::{Answer, Meaning};
 use coord_types::Command;
 
-/// What a client keeps on the disk.
+/// The state of a client on disk.
 #[derive(Clone, Copy, Debug, PartialEq, Eq)]
 pub struct Kept {
     /// The number of its last order that was carried out; 0 for none.
     pub last: u64,
-    /// The order that is written down under the next number, and whose outcome is not known.
+    /// The order that is written down under the next number, and whose outcome is unknown.
     pub in_hand: Option<Command>,
 }
 
@@ -31,11 +31,11 @@ pub struct OrderBook {
     pub awaited: Option<u64>,
 }
 
-/// The answer that was heard, and the book after it.
+/// The meaning of an answer, and the book after it.
 #[derive(Clone, Copy, Debug, PartialEq, Eq)]
 pub struct Heard {
     pub book: OrderBook,
-    /// None: the answer is of another line than the awaited one, and means nothing.
+    /// None: the answer belongs to another line than the awaited one, and means nothing.
     pub meaning: Option<Meaning>,
 }
 
@@ -51,7 +51,7 @@ impl OrderBook {
     }
 
     /// Writes an order down under the next number. Returns None if there is one already, whose
-    /// outcome is not known.
+    /// outcome is unknown.
     pub fn write_down(self, command: Command) -> Option<Self>
         ensures { result ≡ written self command }
     {
@@ -94,7 +94,7 @@ impl OrderBook {
         }
     }
 
-    /// Whether the answer of this line is awaited.
+    /// Returns whether the answer to this line is awaited.
     fn awaits(&self, serial: u64) -> bool
         ensures { result ≡ is_awaited self.now serial }
     {

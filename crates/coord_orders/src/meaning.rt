@@ -20,7 +20,7 @@ pub enum Meaning {
     Done(Reply),
     /// The order was not carried out, and its number is free.
     NotDone,
-    /// Nothing is known: the same line has to be sent again.
+    /// Nothing is known: the same line must be sent again.
     SendAgain,
     /// The number is neither the client's last one nor the next, or it is the last one with another
     /// order: the client and the server disagree on the client's numbers.
@@ -39,7 +39,7 @@ impl Answer {
     }
 }
 
-/// The meaning of a refusal. One that no order gets means nothing.
+/// Returns the meaning of a refusal. One that no order gets means nothing.
 fn of_refusal(refusal: Refusal) -> Meaning
     ensures { result ≡ meaning_of_refusal refusal }
 {

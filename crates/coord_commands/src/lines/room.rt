@@ -9,7 +9,7 @@ use std::marker::Model;
 /// One more than the bytes of the longest line of a fault.
 const ROOM: usize = 64;
 
-/// A line so far, which contracts see. It takes at most 64 bytes.
+/// A partial line, which contracts see. It has at most 64 bytes.
 #[derive(Drop)]
 pub struct Room {
     bytes: [u8; ROOM],

@@ -40,7 +40,7 @@ fn is_same(a: &Note, b: &Note) -> bool
     a.step == b.step && a.kind == b.kind && is_same_step(&a.what, &b.what)
 }
 
-/// Whether the note is one of these, which ascend.
+/// Returns whether the note is one of these, which are in ascending order.
 fn has(notes: &[Note], note: &Note) -> bool
     requires { IsAscending notes.now }
     ensures { IsTrue result ↔ Contains notes.now note.now }

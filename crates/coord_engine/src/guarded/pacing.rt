@@ -51,7 +51,7 @@ impl<D: Disk, L: Origin> Guarded<D, L> {
         self.in_hand = self.in_hand.saturating_add(count);
     }
 
-    /// Counts this many packets as put down.
+    /// Counts this many packets as handled.
     pub fn lower_in_hand(&mut self, count: u64)
         ensures { self.new ≡ with_in_hand self.old (self.old.in_hand - count) }
     {
@@ -66,7 +66,7 @@ impl<D: Disk, L: Origin> Guarded<D, L> {
         PutDown(())
     }
 
-    /// Stops waiting for the packets that are still in hand.
+    /// Stops waiting for the packets that are still being handled.
     pub fn forget_in_hand(&mut self)
         ensures { self.new ≡ with_in_hand self.old 0 }
     {

@@ -9,7 +9,7 @@ use coord_disk::CrashDisk;
 use coord_types::{Refusal, Step};
 
 impl<D: CrashDisk> Driver<D> {
-    /// Submits a step: `Ledger::hand_in`.
+    /// Submits a step, like `Ledger::hand_in`.
     pub fn submit(&mut self, step: Step) -> Result<Handed, Refusal>
         ensures simulates { Simulates self.old (Submit step) (answer_to result) self.new }
         ensures handed { HandedTo self.old.ledger step result self.new.ledger }

@@ -5,7 +5,7 @@ ghost use Rattle.std.specs.Prelude.{◌≡◌};
 use crate::{Answer, Release, RunFault, RunFaultKind, Trace};
 use coord_disk::CrashDisk;
 
-/// Why an event was not answered, the releases until then, and the disk.
+/// The reason for which an event was not answered, the releases until then, and the disk.
 pub struct Broken<D: CrashDisk> {
     pub kind: RunFaultKind,
     pub released: Vec<Release>,
