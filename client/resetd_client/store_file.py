@@ -165,7 +165,7 @@ def walked(read: Read, size: int, index: int, top: bytes) -> Half:
             raise NoStore("BadRecord", start + place - 4, f"{what} has {length} bytes, more than {most}")
         field = read(start + place, length + 1)
         if place + length >= size or len(field) <= length:
-            raise NoStore("BadRecord", start + place, f"{what} of {length} bytes with its gate runs past the end")
+            raise NoStore("BadRecord", start + place, f"{what} of {length} bytes extends past the end with its gate")
         return field[:-1], field[-1]
 
     snapshot, gate = with_gate(TOP, int.from_bytes(top[1:TOP], "big"), MOST_SNAPSHOT, "a snapshot")

@@ -106,7 +106,7 @@ class Cleared:
     number: int
 
     def __str__(self) -> str:
-        return f"{self.origin} has the receipt of {self.target} (link of step {self.incarnation}, number {self.number})"
+        return f"{self.origin} gets the receipt from {self.target} (link of step {self.incarnation}, number {self.number})"
 
 
 Step = Ordered | Taken | Cleared

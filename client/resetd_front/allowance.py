@@ -21,7 +21,7 @@ class Spent:
 
 
 class Allowance:
-    """Each principal has its own, so that none can hide another's lines."""
+    """Limits lines for each principal separately, so that none can hide another's lines."""
 
     def __init__(self) -> None:
         self._spent: dict[tuple[Hashable, str], Spent] = {}

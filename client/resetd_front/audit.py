@@ -50,7 +50,7 @@ class Audit:
             return f"{self._path}: {fault.strerror}: {self.lost} audit lines were lost"
 
     def reopen(self) -> None:
-        """Opens the file again by its name, after a rotation. If that fails, goes on with the old one. Raises OSError."""
+        """Opens the file again by its name, after a rotation. If that fails, continues with the old one. Raises OSError."""
         old = self._file
         self._file = self._opened()
         if old != 1:
@@ -69,5 +69,5 @@ class Audit:
 
 
 def moment() -> str:
-    """The time now, in UTC, with milliseconds."""
+    """Returns the time now, in UTC, with milliseconds."""
     return datetime.now(timezone.utc).isoformat(timespec="milliseconds").replace("+00:00", "Z")

@@ -23,7 +23,7 @@ class Place(enum.IntEnum):
 
 
 class Hold(enum.Enum):
-    """A line that can't go yet."""
+    """A line that has to wait."""
 
     HOLD = enum.auto()
 
@@ -98,7 +98,7 @@ class Building:
         return True
 
     def _shares(self, asked: Asked, request: Request, last: tuple[int, int]) -> bool:
-        """Whether an equal line of this flight, after all of this asker, brings the answer."""
+        """Whether an equal line of this flight, after all of this asker's, brings the answer."""
         if request.shared not in self._shared or request.shared is None:
             return False
         line, at = self._shared[request.shared]

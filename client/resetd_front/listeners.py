@@ -34,8 +34,8 @@ Place = tuple[str, int] | str  # a host and a port, or fd:NAME of a socket that 
 
 
 class Listeners:
-    """Accepts for a front, as many connections as there are places. Handshakes have separate places, so a stranger never
-    takes the place of a client."""
+    """Accepts connections for a front, as many as there are places. Handshakes have separate places, so a stranger never takes
+    the place of a client."""
 
     def __init__(self, front: Front, context: ssl.SSLContext | None = None) -> None:
         """`context` is for the next handshake; a reload replaces it."""

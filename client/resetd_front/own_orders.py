@@ -31,7 +31,7 @@ class Outcome:
 
 
 class OwnOrders:
-    """The count of one client, which nobody else uses."""
+    """The numbers of one client, which nobody else uses."""
 
     def __init__(self, client: int, folder: str) -> None:
         """Raises Held if another process has the folder, and OSError."""

@@ -33,8 +33,8 @@ class Page:
             self._text = file.read()
 
     async def listen(self, address: str, mode: int, groups: Sequence[int]) -> None:
-        """At unix:PATH, which these groups may reach as the mode says, HOST:PORT of the loopback, or fd:NAME of a socket that
-        was passed. Raises OSError, and ValueError."""
+        """Listens at unix:PATH, which these groups may reach as the mode says, HOST:PORT of the loopback, or fd:NAME of a passed
+        socket. Raises OSError, and ValueError."""
         web = self._web
         application = web.Application()
         application.add_routes([web.get("/", self._page), web.get("/events", self._events), web.get("/metrics", self._numbers)])

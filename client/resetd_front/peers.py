@@ -62,7 +62,7 @@ class Peer:
 
 
 def names_of(certificate: Mapping[str, Any]) -> list[str]:
-    """The alternative names of a certificate's subject (DNS, e-mail, URI), and its common names."""
+    """Returns the alternative names of a certificate's subject (DNS, e-mail, URI), and its common names."""
     alternative = [str(name) for kind, name in certificate.get("subjectAltName", ()) if kind in ("DNS", "email", "URI")]
     common = [str(value) for part in certificate.get("subject", ()) for key, value in part if key == "commonName"]
     return list(dict.fromkeys(alternative + common))

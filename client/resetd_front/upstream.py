@@ -271,7 +271,7 @@ class Upstream:
             self._count_again = self._loop.time() + COUNT_SECONDS
 
     def _check_silence(self) -> None:
-        """Leaves a silent server. The lines without an answer are sent to the next address."""
+        """Abandons a silent server. The lines without an answer are sent to the next address."""
         left = self._heard_at + self._silent - self._loop.time()
         if not self._is_sent:
             return

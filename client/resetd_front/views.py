@@ -59,7 +59,7 @@ class Views:
 
     @property
     def view(self) -> View | None:
-        """The rows, None before the first look."""
+        """Returns the rows, None before the first look."""
         if self._view is None and self.line:
             self._view = View.of(json.loads(self.line))
         return self._view

@@ -18,7 +18,7 @@ class Watcher(Protocol):
 
 
 class Watchers:
-    """All who watch, and the newest view."""
+    """All watchers, and the newest view."""
 
     def __init__(self) -> None:
         self._loop = asyncio.get_running_loop()

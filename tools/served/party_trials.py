@@ -93,7 +93,7 @@ def second_hand(trial: Trial) -> str:
     for _ in range(4):
         slow.look(1, 2, 3)
     if len({member.run and member.run.tag for member in slow.members.values()}) != 1 or not slow.members[1].run:
-        raise Failed(f"the members don't come to one run: {[member.run for member in slow.members.values()]}")
+        raise Failed(f"the members do not reach one run: {[member.run for member in slow.members.values()]}")
     return f"{slow.starts} starts, {len(slow.sent)} messages"
 
 

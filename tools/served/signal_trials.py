@@ -120,7 +120,7 @@ def doubled(trial: Trial) -> None:
         file.write(file.read())
     time.sleep(2)
     if trial.times() != before:
-        raise Failed(f"a doubled line began a service anew: {before} and then {trial.times()}")
+        raise Failed(f"a repeated line made a service begin again: {before} and then {trial.times()}")
 
 
 def members(trial: Trial) -> None:

@@ -183,11 +183,11 @@ pub record StopsFlushing {D : Type 0} (p : Place D) (others : List Line) (writte
   pub ended : others ≡ []
   pub same : refused.1 ≡ p.disk
 
--- the cause is a line or the writer
+-- a line or the writer stopped the drill
 abbrev pub StopsWork : {D : Type 0} → DiskModel D → (D → D → Type 0) → Place D → List Line → List ℕ → Fault × D → Type 0
 StopsWork disk crashes p others written refused = StopsAtLine disk crashes p others written refused ⊎ StopsWriting disk crashes p others written refused
 
--- or it is the input, or the end
+-- a line, the writer, the input or the end of the input stopped the drill
 abbrev pub StopsDrill : {D : Type 0} → DiskModel D → (D → D → Type 0) → Place D → List Line → List ℕ → Fault × D → Type 0
 StopsDrill disk crashes p others written refused = StopsReading p others written refused ⊎ (StopsFlushing p others written refused ⊎ StopsWork disk crashes p others written refused)
 

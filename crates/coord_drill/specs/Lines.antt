@@ -40,11 +40,11 @@ pub record Breaks {D : Type 0} (disk : DiskModel D) (crashes : D → D → Type 
   pub split : lines ≡ ended ++ others
   pub goes : (p : Place D) → StandsAt disk c p → (q : Place D) × Goes disk crashes p ended q × Why q others (p.printed ++ text)
 
--- the cause is a line or the writer
+-- a line or the writer stopped the drill
 abbrev pub LinesBreakOff : {D : Type 0} → DiskModel D → (D → D → Type 0) → Console D → List Line → Fault × D → List ℕ → Type 0
 LinesBreakOff disk crashes c lines refused text = Breaks disk crashes c lines text (λ q others written. StopsWork disk crashes q others written refused)
 
--- or it is the input, or the end
+-- a line, the writer, the input or the end of the input stopped the drill
 abbrev pub EndsEarly : {D : Type 0} → DiskModel D → (D → D → Type 0) → Console D → List Line → Fault × D → List ℕ → Type 0
 EndsEarly disk crashes c lines refused text = Breaks disk crashes c lines text (λ q others written. StopsDrill disk crashes q others written refused)
 

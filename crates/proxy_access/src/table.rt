@@ -5,7 +5,7 @@ ghost use Rattle.proxy_access.specs.declared.table.TheConstants.{MOST_PRINCIPALS
 
 use proxy_policy::Policy;
 
-/// The most principals that may connect until the proxy starts again.
+/// The maximum number of principals that may connect until the proxy starts again.
 pub const MOST_PRINCIPALS: usize = 65_535;
 
 /// A policy, and the principals that have connected.

@@ -13,10 +13,10 @@ use std::alloc::{AllocError, Global};
 use std::collections::{BTreeMap, VecDeque};
 use std::marker::Model;
 
-/// The most lines of one connection that may be without an answer. Further lines are deferred.
+/// The maximum number of lines of one connection without an answer. Further lines are deferred.
 pub const MOST_HELD: usize = 64;
 
-/// The most lines of a flight: the server commits as many at once.
+/// The maximum number of lines in a flight, which the server commits at once.
 pub const MOST_FLIGHT_LINES: usize = 256;
 
 /// What becomes of a line that arrives.

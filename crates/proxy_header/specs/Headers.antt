@@ -21,7 +21,7 @@ pub record IsHeader (bytes : List ℕ) (command family : ℕ) (rest : List ℕ) 
 abbrev pub IsAnyHeader : List ℕ → Type 0
 IsAnyHeader bytes = (command family : ℕ) × (rest : List ℕ) × IsHeader bytes command family rest
 
--- what the bytes that have come begin with
+-- how the received bytes begin
 abbrev pub BeginsWith : List ℕ → HeaderLength → Type 0
 -- a whole header of this length
 BeginsWith bytes (Whole n) = (n ≤ length bytes) × (n ≤ MOST_HEADER_BYTES) × IsAnyHeader (take n bytes)

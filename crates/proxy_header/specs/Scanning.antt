@@ -37,11 +37,11 @@ ssl_name value =
     if nat_lt (length value) 5 || not (is_verified (slice_index value 0) (take 4 (drop 1 value))) then None
     else option_and_then if_common (only_value common_name_kind (drop 5 value) None)
 
--- that in the SSL field after the addresses
+-- the common name in the SSL field after the addresses
 abbrev pub name_after : List ℕ → ℕ → Option (List ℕ)
 name_after rest addresses = if nat_lt (length rest) addresses then None else option_and_then ssl_name (only_value ssl_kind (drop addresses rest) None)
 
--- that in the bytes after the signature, if they have the command PROXY and the length that they say
+-- the common name in the bytes after the signature, if they have the command PROXY and the length that they say
 abbrev pub name_after_signature : List ℕ → Option (List ℕ)
 name_after_signature bytes =
     if nat_lt (length bytes) 4 then None

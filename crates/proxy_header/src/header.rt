@@ -9,7 +9,7 @@ ghost use Rattle.proxy_header.specs.Scanning.{is_verified, name_after, name_afte
 use crate::fields::only_value;
 use crate::names::is_common_name;
 
-/// The most bytes of a header.
+/// The maximum number of bytes of a header.
 pub const MOST_HEADER_BYTES: usize = 2048;
 
 /// The first bytes of every header of version 2.

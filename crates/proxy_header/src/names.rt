@@ -3,7 +3,7 @@
 ghost use Rattle.std.specs.Prelude.{◌≡◌};
 ghost use Rattle.proxy_header.specs.Names.{is_common_byte, is_common_name};
 
-/// The most bytes of a common name.
+/// The maximum number of bytes of a common name.
 pub const MOST_NAME_BYTES: usize = 64;
 
 /// Returns whether these bytes are a common name that the proxy accepts: 1 to 64 bytes of printable ASCII.

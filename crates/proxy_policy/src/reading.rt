@@ -11,7 +11,7 @@ use crate::rule::Policy;
 use crate::values::rules_of;
 use std::alloc::Global;
 
-/// The most bytes of a policy.
+/// The maximum number of bytes of a policy.
 pub const MAX_POLICY_BYTES: usize = 1_048_576;
 
 /// Reads a policy from its text.

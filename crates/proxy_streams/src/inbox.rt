@@ -8,7 +8,7 @@ use coord_lines::LineBuffer;
 use std::alloc::{AllocError, Global};
 use std::marker::Model;
 
-/// The most bytes that an inbox takes at once.
+/// The maximum number of bytes that an inbox takes at once.
 pub const MOST_PIECE_BYTES: usize = 4096;
 
 /// The bytes that came from a client and have not been taken as lines: a line so far, and the bytes after it.

@@ -8,7 +8,7 @@ use std::alloc::{AllocError, Global};
 use std::io::{ErrorKind, Write};
 use std::marker::Model;
 
-/// The most calls of `write` for one sending.
+/// The maximum number of calls of `write` for one sending.
 const MOST_WRITES: u32 = 1024;
 
 /// How far a sending came.

@@ -9,7 +9,7 @@ ghost use Rattle.proxy_streams.specs.ServerLines.{first_line};
 use std::alloc::{AllocError, Global};
 use std::marker::Model;
 
-/// The most bytes of an answer. The server's longest view has fewer.
+/// The maximum number of bytes of an answer. The server's longest view has fewer.
 pub const MOST_ANSWER_BYTES: usize = 65_536;
 
 /// The bytes that came from the server and have not been taken as answers.

@@ -13,7 +13,7 @@ use std::alloc::{AllocError, Global};
 /// A generation is below this.
 const GENERATIONS: u32 = 8_388_608;
 
-/// The most steps of a world: a later generation's counts are above all of one before.
+/// The maximum number of steps of a world: a later generation's counts are above all of one before.
 const COUNTS: u64 = 1_099_511_627_776;
 
 /// The text of the file of this start, which is valid in any boot.
