@@ -18,7 +18,7 @@ WHAT_TO_DO = {
     Refusal.UNKNOWN_NODE: "look at `show`",
     Refusal.HAS_LINKS: "drop its links first",
     Refusal.OTHER_GROUP: "a node changes its group by being removed and added",
-    Refusal.NO_LINK: "an old packet is refused for ever: let it go",
+    Refusal.NO_LINK: "an old packet is always refused: drop it",
     Refusal.DEGREE_FULL: "drop one first",
     Refusal.LINKS_FULL: "drop one first",
     Refusal.BAD_EPOCH: "it was confirmed before, or the node went back: look at `show`",
