@@ -26,7 +26,7 @@ pub record LedgerAndNotes (D : Type 0) : Type 0 where
   pub ledger : LedgerState D
   pub notes : List Note
 
--- An accepted step is added to the trail, and its note to the caller's; a repeat gets the kept reply. OutOfMemory may
+-- An accepted step is added to the trail, and its note to the caller's share; a repeat gets the kept reply. OutOfMemory may
 -- replace any answer, and a refusal changes nothing.
 abbrev pub AnswersStep : {D : Type 0} → Step → Result Verdict Refusal → LedgerAndNotes D → Result Claim Refusal → LedgerAndNotes D → Type 0
 AnswersStep s (Ok (Fresh kind)) before (Ok claim) after = (claim ≡ claimed s (reply (front_world before.ledger.log) s)) × (after ≡ record { ledger = with_accepted before.ledger s; notes = before.notes ++ note_of claim ∷ [] })
@@ -47,7 +47,7 @@ CollectsAs l claim (Settled reply) = (reply ≡ reply_of claim) × IsCollectable
 CollectsAs l claim (Refused refusal back) = (back ≡ claim) × RefusesTicket l claim refusal
 CollectsAs l claim (Waiting back) = (back ≡ claim) × (settled_count l.log < claim.step) × (is_some l.log.doubt ≡ false)
 
--- the answer to a ticket that need not wait: its reply, or that there will be none
+-- the answer to a ticket that need not wait: its reply, or a refusal
 abbrev pub IsReturnedToTicket : {D : Type 0} → LedgerState D → Claim → Result Reply (Refusal × Claim) → Type 0
 IsReturnedToTicket l claim (Ok reply) = CollectsAs l claim (Settled reply)
 IsReturnedToTicket l claim (Err refused) = CollectsAs l claim (Refused refused.0 refused.1)

@@ -28,7 +28,7 @@ pub record IsSince (base : World) (before : List Step) (shares : List (List Note
   pub begins : take (length before) trail ≡ before
   pub named : IsNamed shares (base.count + length before) (drop (length before) trail) (drop (length before) (kinds_of base trail))
 
--- the steps that were accepted since the engine was made, with the kinds of their replies, are what the shares noted
+-- the shares noted exactly the steps accepted since the engine was made, with the kinds of their replies
 abbrev pub IsNamedBy : {D : Type 0} → GuardedState D → List (List Note) → Type 0
 IsNamedBy g shares =
     IsNamed shares (g.ledger.log.base.count + g.start) (drop g.start g.ledger.log.trail) (drop g.start (kinds_of g.ledger.log.base g.ledger.log.trail))

@@ -1,4 +1,4 @@
--- The definitions in which the proofs and the crates above speak of this crate.
+-- The definitions of this crate that its proofs and the crates above it use.
 pub use Rattle.coord_engine.specs.Calls.{AnswersStep, CollectsAs, IsReturnedToTicket, LedgerAndNotes, RefusesTicket, engine_verdict, note_of}
 pub use Rattle.coord_engine.specs.Closing.{IsSince, RefusesClosing}
 pub use Rattle.coord_engine.specs.Flights.{AnswersBegin, AnswersFlush, Begins, ComesBack, CommitsFlight, RefusesFlush}

@@ -14,7 +14,7 @@ abbrev pub Begins : {D : Type 0} → Basis D → Option (FlightState D) → Type
 Begins b (Some flight) = AtSomeMoment b (Leaves flight)
 Begins b None = AtSomeMoment b (λ g. keeps_store g.ledger ≡ true)
 
--- the answer if it may leave; or memory for it ran out
+-- the result if it may leave; or memory for it ran out
 abbrev pub AnswersBegin : {D E : Type 0} → Basis D → Result (Option (FlightState D)) E → Type 0
 AnswersBegin b (Ok begun) = Begins b begun
 AnswersBegin b (Err fault) = AtSomeMoment b (λ g. keeps_store g.ledger ≡ false)
@@ -30,7 +30,7 @@ pub record IsTried {D : Type 0} (failures : D → ℕ) (left now : FlightState D
   pub mark_is : now.mark ≡ mark
   pub failures_are : failures now.disk ≡ failures left.disk + failed
 
--- a new flight was committed with this answer: it is good; or torn, by a call that its device failed; or still new, for lack of memory
+-- a new flight was committed with this result: it is good; or torn, by a call that its device failed; or still new, for lack of memory
 abbrev pub CommitsFlight : {D : Type 0} → (D → ℕ) → FlightState D → Result (Unit {0}) CommitFault → FlightState D → Type 0
 CommitsFlight failures left (Ok done) now = IsTried failures left now Good 0
 CommitsFlight failures left (Err Device) now = IsTried failures left now Torn 1

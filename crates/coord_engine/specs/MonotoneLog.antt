@@ -7,7 +7,7 @@ use Rattle.atomic_table.specs.Table.{Me, Step as TableStep}
 use Rattle.coord_types.specs.declared.steps.Step.{Step}
 use Rattle.coord_engine.specs.declared.history.Known.{Known}
 
--- the steps begin with these
+-- these steps are a prefix
 abbrev pub StartsWith : List Step → List Step → Type 0
 StartsWith steps first = (others : List Step) × (steps ≡ first ++ others)
 
@@ -19,7 +19,7 @@ pub record Beginning : Type 0 where
 abbrev pub knows : List Step → List Step → Known
 knows read returned = record { read = read; returned = returned }
 
--- what a token knows are beginnings of the history, and the first token has read all of it
+-- the prefixes of all tokens are prefixes of the history, and the first token has read all of it
 pub record Fits (history : List Step) (pass : ℕ) (v : Known) : Type 0 where
   pub read : StartsWith history v.read
   pub returned : StartsWith history v.returned
@@ -41,6 +41,6 @@ IsCompared s before found after = (after ≡ before) × StartsWith before.0.read
 abbrev pub HasReadOn : TableStep (Unit {0}) → Me (Unit {0}) Known → ℕ → Me (Unit {0}) Known → Type 0
 HasReadOn s before found after = StartsWith after.0.read before.0.read × StartsWith after.0.read before.0.returned × (after.1 ≡ before.1)
 
--- which history it is, where none is
+-- the identity of no history
 abbrev pub no_history : TableId
 no_history = record { words = 0; slots = 0; views_name = 0; atom = 0; block = 0; offset = 0; slot_names = [] }

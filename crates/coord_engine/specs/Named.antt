@@ -1,4 +1,4 @@
--- The notes of callers against the steps that were accepted.
+-- Comparison of the callers' notes with the accepted steps.
 use Rattle.std.specs.List.{AllAdjacentBelow}
 use Rattle.std.specs.List.Sorted.{IsPermutation}
 use Rattle.std.specs.Prelude.{◌≡◌, ℕ, ◌+◌, ◌-◌, ◌<◌, List, [], ◌∷◌, All, Contains, flat_map, length, Some, slice_get}
@@ -25,7 +25,7 @@ pub record AreNoted (shares : List (List Note)) (n : ℕ) (steps : List Step) (k
   pub ascending : All IsAscending shares
   pub noted : All (Contains (all_notes shares)) (notes_of n steps kinds)
 
--- The steps that come after n others, with the kinds of their replies, are what the shares noted: each step once, and each share noted its own in order.
+-- The shares noted exactly the steps that come after n others, with the kinds of their replies: each step once, and each share its own in order.
 pub record IsNamed (shares : List (List Note)) (n : ℕ) (steps : List Step) (kinds : List Kind) : Type 0 where
   pub ascending : All IsAscending shares
   pub each_once : IsPermutation (all_notes shares) (notes_of n steps kinds)

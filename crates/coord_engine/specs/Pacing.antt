@@ -26,7 +26,7 @@ is_idle g = not (is_over g) && (nat_eq (pending_count g) 0 || is_some g.ledger.o
 abbrev pub is_gathered : {D : Type 0} → GuardedState D → Bool
 is_gathered g = nat_eq g.in_hand 0 && nat_le g.awaited (pending_count g)
 
--- a flight starts at once: nothing is waited for, it is full, or nothing more is accepted
+-- a flight starts at once: nothing is awaited, it is full, or nothing more is accepted
 abbrev pub starts_at_once : {D : Type 0} → GuardedState D → Bool
 starts_at_once g = is_gathered g || (nat_le MAX_BATCH_STEPS (pending_count g) || g.finishing)
 

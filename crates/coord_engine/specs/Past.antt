@@ -22,15 +22,15 @@ pub record Past : Type 1 where
   pub clock : ℕ
   pub left_since : ℕ → List ℕ → Type 0
 
--- of no disk
+-- the past of no disk
 abbrev pub no_past : Past
 no_past = record { keeps_model = false; clock = 0; left_since = λ t image. ⊥ }
 
--- of a disk in its present state
+-- the past of a disk in its present state
 abbrev pub past_of : {D : Type 0} → DiskModel D → D → Past
 past_of m disk = record { keeps_model = m.keeps_model disk; clock = m.clock disk; left_since = m.left_since disk }
 
--- of the disk that is at home
+-- the past of the disk that is at home
 abbrev pub past_in : {D : Type 0} → DiskModel D → Option D → Past
 past_in m None = no_past
 past_in m (Some disk) = past_of m disk
@@ -42,7 +42,7 @@ pub record IsPastOf {D : Type 0} (m : DiskModel D) (first : Past) (disk : D) : T
   pub left : (t : ℕ) (image : List ℕ) → m.left_since disk t image → first.left_since t image
   pub no_more : (t : ℕ) (image : List ℕ) → first.left_since t image → m.left_since disk t image
 
--- These bytes give a world on the way from one world to another: the one after the first steps of a trail that leads there. Each world on a trail is legal.
+-- These bytes give a world on the way from one world to another: the one after a prefix of a trail that leads there. Each world on a trail is legal.
 pub record IsOnTheWay (base end : World) (bytes : List ℕ) : Type 0 where
   pub steps : List Step
   pub others : List Step
@@ -66,7 +66,7 @@ pub record IsAfterSome (base : World) (steps : List Step) (bytes : List ℕ) : T
 abbrev pub AfterSomeIsOnTheWay : Type 0
 AfterSomeIsOnTheWay = (base : World) (steps : List Step) (bytes : List ℕ) → IsTrail base steps → IsAfterSome base steps bytes → IsOnTheWay base (fold base steps) bytes
 
--- The disk keeps the model as it did at first, and if so, a crash at any moment since left only worlds after the first of these steps.
+-- The disk keeps the model if it did at first, and then a crash at any moment since left only worlds after a prefix of these steps.
 pub record StaysAlong {D : Type 0} (m : DiskModel D) (first : Past) (base : World) (steps : List Step) (now : D) : Type 0 where
   pub same_model : m.keeps_model now ≡ first.keeps_model
   pub moments : first.keeps_model ≡ true → HasLeft m first now (IsAfterSome base steps)
@@ -82,7 +82,7 @@ flown_steps New settled steps = settled
 flown_steps Good settled steps = settled ++ steps
 flown_steps Torn settled steps = settled ++ steps
 
--- A flight left after these settled steps, and its disk has left only worlds after the first of the steps that may be on it.
+-- A flight left after these settled steps, and a crash of its disk has left only worlds after a prefix of the steps that may be on it.
 pub record FliesFrom {D : Type 0} (m : DiskModel D) (first : Past) (base : World) (settled : List Step) (f : FlightState D) : Type 0 where
   pub number : f.first ≡ base.count + length settled + 1
   pub world : f.world ≡ fold base settled

@@ -25,23 +25,23 @@ abbrev pub step_of : Packet → Step
 step_of (Carried p) = Take p
 step_of (Receipted p) = Clear p
 
--- `may`: of which signals a port may be asked, by step, node and epoch. Any may be asked for a packet
+-- `may`: the signals that may be requested from a port, by step, node and epoch. Any packet may be requested
 abbrev pub MayAsk : (ℕ → ℕ → ℕ → Type 0) → Delivery → Type 0
 MayAsk may (Carry to packet) = Unit {0}
 MayAsk may (Signal step node epoch) = may step node epoch
 
--- it may be asked for each signal among these
+-- each signal among these may be requested
 abbrev pub MayAskAll : (ℕ → ℕ → ℕ → Type 0) → List Release → Type 0
 MayAskAll may released = (before after : List Release) (step node epoch : ℕ) → released ≡ before ++ record { step = step; output = output.Signalled node epoch } ∷ after → may step node epoch
 
--- `carried`, `signalled`: what a port may be once it was asked so, and answered so
+-- `carried`, `signalled`: the possible states of a port after a request and its answer
 module _ {P : Type 0} (carried : P → ℕ → Packet → Bool → P → Type 0) (signalled : P → ℕ → ℕ → ℕ → Bool → P → Type 0) where
-  -- a port was asked for a delivery
+  -- a delivery was requested from a port
   abbrev pub IsAsked : P → Delivery → P → Type 0
   IsAsked port (Carry to packet) later = (answer : Bool) × carried port to packet answer later
   IsAsked port (Signal step node epoch) later = (answer : Bool) × signalled port step node epoch answer later
 
-  -- for these, each once and in order
+  -- these deliveries were requested, each once and in order
   abbrev pub AreAsked : P → List Delivery → P → Type 0
   AreAsked port [] later = later ≡ port
   AreAsked port (d ∷ ds) later = (next : P) × IsAsked port d next × AreAsked next ds later

@@ -31,14 +31,14 @@ pub record Basis (D : Type 0) : Type 0 where
 abbrev pub based_on : {D : Type 0} → DiskModel D → World → List Step → Basis D
 based_on m base before = record { keeps_model = m.keeps_model; present = m.present; failures = m.failures; base = base; before = before }
 
--- the trail is that of the ledger that the engine was made over, and has grown by what the shares noted
+-- the trail is that of the ledger that the engine was made over, followed by the steps that the shares noted
 pub record HasGrown {D : Type 0} (b : Basis D) (g : GuardedState D) : Type 0 where
   pub same_base : g.ledger.log.base ≡ b.base
   pub since : g.start ≡ length b.before
   pub begins : take g.start g.ledger.log.trail ≡ b.before
   pub by_shares : length g.ledger.log.trail ≡ g.start + g.noted
 
--- What the type of the value keeps of it: the trail has grown by what the shares noted; the steps that are out are the next ones, and the store is out with them; once it has stopped no flight is out, and the steps in doubt are of the trail, at least one; the images of the disk give the settled steps, and after a stop perhaps those in doubt.
+-- The invariant of the value's type: the trail has grown by the steps that the shares noted; the steps of a flight are the next ones, and the store is out with them; once it has stopped no flight is out, and at least one step of the trail is in doubt; the images of the disk give the settled steps, and after a stop perhaps those in doubt.
 pub record CanHold {D : Type 0} (b : Basis D) (g : GuardedState D) : Type 0 where
   pub log : IsConsistentLog g.ledger.log
   pub grown : HasGrown b g
@@ -52,11 +52,11 @@ pub record CanHold {D : Type 0} (b : Basis D) (g : GuardedState D) : Type 0 wher
 abbrev pub guarded_over : {D : Type 0} → LedgerState D → GuardedState D
 guarded_over l = record { ledger = l; start = length l.log.trail; noted = 0; given = 0; finishing = false; in_hand = 0; awaited = 0 }
 
--- with its ledger changed
+-- the same with another ledger
 abbrev pub with_ledger : {D : Type 0} → GuardedState D → LedgerState D → GuardedState D
 with_ledger g l = record g { ledger = l }
 
--- with its ledger changed, and this many steps noted
+-- the same with another ledger, and this many steps noted
 abbrev pub with_noted : {D : Type 0} → GuardedState D → LedgerState D → ℕ → GuardedState D
 with_noted g l n = record g { ledger = l; noted = n }
 

@@ -27,12 +27,12 @@ abbrev pub Gathers : {P : Type 0} → Submitting P → ℕ → Packet → Bool �
 Gathers port to packet true later = (later.gathered ≡ port.gathered ++ packet ∷ []) × KeepsRest port later
 Gathers port to packet false later = (later.gathered ≡ port.gathered) × (port.room ≤ length port.gathered) × KeepsRest port later
 
--- A signal is passed on to the other port, which answers. `signalled`: what that port may be then.
+-- A signal is passed on to the other port, which answers. `signalled`: the possible states of that port afterwards.
 abbrev pub PassesOn : {P : Type 0} → (P → ℕ → ℕ → ℕ → Bool → P → Type 0) → Submitting P → ℕ → ℕ → ℕ → Bool → Submitting P → Type 0
 PassesOn signalled port step node epoch answer later =
     signalled port.signals step node epoch answer later.signals × (later.gathered ≡ port.gathered) × (later.room ≡ port.room) × (later.notes ≡ port.notes) × (later.hand ≡ port.hand)
 
--- Those that were gathered are submitted in order, and after them those that wait are tried once more. None is in another hand then, and nothing is gathered any more.
+-- The gathered packets are submitted in order, and then the waiting ones are tried again. Afterwards nobody else has one in hand, and none is gathered.
 abbrev pub SubmitsGathered : {D P : Type 0} → Basis D → Submitting P → ℕ → Submitting P → Type 0
 SubmitsGathered b port lost later =
     (lost ≡ 0) × (later.signals ≡ port.signals) × (later.gathered ≡ []) × (port.room ≤ later.room) × WorksAndTries b port.notes port.hand port.gathered later.notes later.hand

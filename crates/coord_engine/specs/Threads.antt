@@ -19,13 +19,13 @@ use Rattle.coord_engine.specs.Released.{HasReadSettled}
 use Rattle.coord_engine.specs.State.{Basis, CanHold, GuardedState}
 use Rattle.coord_engine.specs.declared.closed.CloseFault.{CloseFault}
 
--- this holds in some state that the value under the lock can have
+-- this holds in some possible state of the value under the lock
 pub record AtSomeMoment {D : Type 0} (b : Basis D) (P : GuardedState D → Type 0) : Type 0 where
   pub state : GuardedState D
   pub held : CanHold b state
   pub so : P state
 
--- this holds in some state that the value under the lock can have, of which this one has read the settled steps, after the steps of earlier instances in this history
+-- this holds in some possible state of the value under the lock, whose settled steps this token has read, after the steps of earlier instances in this history
 abbrev pub AtMomentRead : {D : Type 0} → Basis D → TableId → List Step → Beginning → (GuardedState D → Type 0) → Type 0
 AtMomentRead {D} b history earlier read P = AtSomeMoment {D = D} b (λ g. P g × HasReadSettled history earlier (settled_steps g.ledger.log) read)
 
@@ -50,7 +50,7 @@ abbrev pub AnswersShow : {D : Type 0} → Basis D → TableId → List Step → 
 AnswersShow {D} b history earlier read (Ok view) seen later = AtMomentRead b history earlier read (Shows {D = D} view seen later)
 AnswersShow {D} b history earlier read (Err refusal) seen later = AtMomentRead b history earlier read (RefusesShow {D = D} refusal seen) × (later ≡ seen)
 
--- the answer to a ticket that was waited for, once this was read
+-- the answer to an awaited ticket, once this was read
 abbrev pub AnswersTicket : {D : Type 0} → Basis D → TableId → List Step → Beginning → Claim → Result Reply (Refusal × Claim) → Type 0
 AnswersTicket {D} b history earlier read claim answer = AtMomentRead {D = D} b history earlier read (λ g. IsReturnedToTicket g.ledger claim answer)
 
@@ -72,11 +72,11 @@ IsLeftOf store base trail settled g =
     (base ≡ g.ledger.log.base) × (trail ≡ g.ledger.log.trail) × (settled ≡ settled_count g.ledger.log)
     × (g.ledger.disk ≡ Some store.disk) × (store.world ≡ settled_world g.ledger.log) × (has_stopped store ≡ is_some g.ledger.log.doubt)
 
--- the engine was taken apart into these
+-- the engine was taken apart into these parts
 abbrev pub Closes : {D : Type 0} → Kept D → World → List Step → ℕ → List (List Note) → GuardedState D → Type 0
 Closes store base trail settled shares g = MayClose g shares × IsLeftOf store base trail settled g
 
--- it was taken apart into these in any case: with its shares; or for this reason without them, of which a caller had seen so much
+-- it was taken apart into these parts in any case: with its shares; or without them, for this reason, when a caller had seen this many steps
 abbrev pub Retires : {D : Type 0} → Kept D → World → List Step → ℕ → Option CloseFault → List (List Note) → ℕ → GuardedState D → Type 0
 Retires store base trail settled refused shares seen g =
     IsLeftOf store base trail settled g × IfNone refused (MayClose g shares) × IfSome refused (RefusesClosing g shares seen)

@@ -24,19 +24,19 @@ third_note = record { step = 3; what = first; kind = Started }
 abbrev pub fourth_note : Note
 fourth_note = record { step = 4; what = second; kind = Joined }
 
--- two shares noted one each
+-- two shares with one note each
 abbrev pub NamedByTwo : Type 0
 NamedByTwo = IsNamed ((fourth_note ∷ []) ∷ (third_note ∷ []) ∷ []) 2 (first ∷ second ∷ []) both_kinds
 
--- a share that noted both in the other order
+-- a share with both notes in the other order
 abbrev pub NotInOrder : Type 0
 NotInOrder = ¬ IsNamed ((fourth_note ∷ third_note ∷ []) ∷ []) 2 (first ∷ second ∷ []) both_kinds
 
--- one that was not noted
+-- one step without a note
 abbrev pub NotOneShort : Type 0
 NotOneShort = ¬ IsNamed ((third_note ∷ []) ∷ []) 2 (first ∷ second ∷ []) both_kinds
 
--- one that was noted with another kind of reply
+-- one step noted with another kind of reply
 abbrev pub NotOfAnotherKind : Type 0
 NotOfAnotherKind = ¬ IsNamed ((record third_note { kind = Joined } ∷ []) ∷ []) 2 (first ∷ []) (Started ∷ [])
 

@@ -1,4 +1,4 @@
--- How a worker works: the packets that came, its attempts, the packets that wait, and the notes of its share.
+-- The worker: the packets that came, its attempts, the waiting packets, and the notes of its share.
 use Rattle.std.specs.Prelude.{◌≡◌, ◌⊎◌, ℕ, ◌+◌, ◌-◌, ◌^◌, min, Bool, true, false, List, [], ◌∷◌, ◌++◌, All, Result, Ok, Err, Vec, flat_map}
 use Rattle.std.specs.declared.alloc.Global.{Global}
 use Rattle.coord_types.specs.declared.packets.Packet.{Packet}
@@ -28,7 +28,7 @@ has_to_wait PendingFull = true
 has_to_wait OutOfMemory = true
 has_to_wait refusal = false
 
--- whether it waits after this answer
+-- whether the packet waits after this answer
 abbrev pub waits_after : Result Claim Refusal → Bool
 waits_after (Ok claim) = false
 waits_after (Err refusal) = has_to_wait refusal
@@ -58,7 +58,7 @@ module _ {D : Type 0} (b : Basis D) where
     pub submits : AtSomeMoment b (Submits {D = D} (step_of p) answer notes later)
     pub follows : waits ≡ waits_after answer
 
-  -- those that wait were submitted in order, up to one that still has to wait
+  -- the waiting packets were submitted in order, up to one that still has to wait
   abbrev pub TriesAll : List Note → List Packet → List Note → List Packet → Type 0
   TriesAll notes [] later left = (later ≡ notes) × (left ≡ [])
   TriesAll notes (p ∷ ps) later left =
@@ -73,14 +73,14 @@ module _ {D : Type 0} (b : Basis D) where
     pub keeps : Keeps waits hand p kept
     pub puts_down : left ≡ with_put_down kept
 
-  -- these packets came, in order: each was taken, and then those that wait were tried before the next one came
+  -- these packets came, in order: each was taken, and then the waiting ones were tried before the next one came
   abbrev pub Works : List Note → Hand → List Packet → List Note → Hand → Type 0
   Works notes hand [] later left = (later ≡ notes) × (left ≡ hand)
   Works notes hand (p ∷ came) later left =
       (taken : List Note) × (kept : Hand) × (next : List Note) × (rest : List Packet)
       × TakesPacket notes hand p taken kept × TriesAll taken kept.waiting next rest × Works next (record kept { waiting = rest }) came later left
 
-  -- these packets came, in order, and after them those that wait were tried once more
+  -- these packets came, in order, and then the waiting ones were tried again
   abbrev pub WorksAndTries : List Note → Hand → List Packet → List Note → Hand → Type 0
   WorksAndTries notes hand came later left =
       (next : List Note) × (kept : Hand) × (rest : List Packet) × Works notes hand came next kept × TriesAll next kept.waiting later rest × (left ≡ record kept { waiting = rest })

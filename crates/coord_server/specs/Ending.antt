@@ -25,7 +25,7 @@ new_desk port = record { notes = []; seen = 0; read = []; port = port }
 abbrev pub Local : Type 0
 Local = Bor (Unit {0})
 
--- One history: what the desk, the flusher and the workers noted are the steps that were accepted since the store was opened, each once with the kind of its reply, and each one's own in order. What flusher and workers noted are steps of packets; their notes are `workers`. The store has the world after those that are settled, and what the desk has seen is settled.
+-- One history: the desk, the flusher and the workers noted exactly the steps accepted since the store was opened, each once with the kind of its reply, and each its own in order. The flusher and the workers noted steps of packets; their notes are `workers`. The store has the world after the settled steps, and all that the desk has seen are settled.
 pub record IsOneHistory {D P : Type 0} (b : Basis D) (desk : DeskState P) (left : Closed D) : Type 0 where
   pub workers : List (List Note)
   pub of_packets : All (All IsOfPacket) workers
@@ -34,8 +34,8 @@ pub record IsOneHistory {D P : Type 0} (b : Basis D) (desk : DeskState P) (left 
   pub closed : AtSomeMoment b (Closes {D = D} left.store left.base left.trail.items left.settled (desk.notes ∷ workers))
   pub seen : desk.seen ≤ left.settled
 
--- An instance's engine leaves its ledger's parts, in a possible state of the ledger: also if it is unknown whose its
--- steps are.
+-- An instance's engine leaves its ledger's parts, in a possible state of the ledger, even if the callers of its steps are
+-- unknown.
 abbrev pub LeavesLedger : {D : Type 0} → Basis D → Closed D → Type 0
 LeavesLedger {D} b left = AtSomeMoment b (IsLeftOf {D = D} left.store left.base left.trail.items left.settled)
 
@@ -54,7 +54,7 @@ IsLeftAs b desk left (Some fault.NotBegun) = LeavesLedger b left
 IsLeftAs b desk left (Some (fault.NotClosed why)) = RefusesShares b desk left why
 IsLeftAs b desk left other = IsOneHistory b desk left
 
--- after these shares those of the flusher and of workers were put, whose notes are all of packets
+-- these shares, followed by those of the flusher and of the workers, whose notes are all of packets
 abbrev pub AddsWorkers : List (List Note) → List (List Note) → Type 0
 AddsWorkers first all = (workers : List (List Note)) × (all ≡ first ++ workers) × All (All IsOfPacket) workers
 
@@ -104,7 +104,7 @@ module _ {D : Type 0} (b : Basis D) {V : Type 0} (talked : V → List Talk → V
     Serves port v w desk (Some fault.OutOfMemory) = ServesInstance port v w desk (end.Ended (Some fault.OutOfMemory)) ⊎ ServesInstance port v w desk end.Resting
     Serves port v w desk served = LeavesInstance port v w desk (end.Ended served)
 
-    -- the threads of an instance have run: the desk served until this end and saw that much, this one has read the steps by which the desk has answered, after these earlier steps, and with its share all ten are back, the desk's, the flusher's and those of eight workers
+    -- the threads of an instance have run: the desk served until this end with this seen count, the token has read the steps by which the desk has answered, after these earlier steps, and all ten shares are back, the desk's, the flusher's and those of eight workers
     pub record HasRun (history : TableId) (earlier : List Step) (v w : V) (left : InstanceEnd) (shares : List (List Note)) (seen : ℕ) (reader : Beginning) : Type 0 where
       pub port : Local
       pub desk : DeskState Local
@@ -114,7 +114,7 @@ module _ {D : Type 0} (b : Basis D) {V : Type 0} (talked : V → List Talk → V
       pub added : AddsWorkers (desk.notes ∷ []) shares
       pub all : length shares ≡ 10
 
-    -- one instance: the desk served until it was left so, and its remaining parts. The settled steps begin with those
+    -- one instance: the desk served until this end, and these are its remaining parts. The settled steps begin with those
     -- by which the desk has answered
     pub record IsInstance (v : V) (instance : Instance D V) : Type 0 where
       pub port : Local
@@ -123,7 +123,7 @@ module _ {D : Type 0} (b : Basis D) {V : Type 0} (talked : V → List Talk → V
       pub left : IsLeftAs b desk instance.closed (end_fault instance.left)
       pub returned : StartsWith (first_settled instance.closed.base instance.closed.trail.items instance.closed.settled) desk.read
 
--- An engine was taken apart into what an instance has left. Either with these shares, which noted all that was accepted: then the instance is left as its serving ended. Or it refused them, and the instance is left for that reason.
+-- An engine was taken apart into the parts of an instance. Either with these shares, which noted everything accepted: then the instance's end is that of its serving. Or it refused them, and that is the instance's end.
 abbrev pub LeavesShares : {D V : Type 0} → Basis D → List (List Note) → ℕ → InstanceEnd → Instance D V → Type 0
 LeavesShares {D} {V} b shares seen served instance =
     ((instance.left ≡ served) × IsSince b.base b.before shares instance.closed.base instance.closed.trail.items

@@ -1,4 +1,4 @@
--- What a desk over an engine may answer. Other threads call the engine too, so each answer is one that it can give in some state that it can have.
+-- The possible answers of a desk over an engine. Other threads call the engine too, so each answer is right in some possible state of the engine.
 use Rattle.std.specs.Prelude.{◌≡◌, ◌⊎◌, ℕ, Bool, List, drop, max, length, Result, Ok, Err}
 use Rattle.atomic_table.specs.Seated.{TableId}
 use Rattle.coord_types.specs.declared.packets.Packet.{Packet}
@@ -51,8 +51,8 @@ abbrev pub without_ticket : Result Reply (Refusal × Claim) → Result Reply Ref
 without_ticket (Ok reply) = Ok reply
 without_ticket (Err refused) = Err refused.0
 
--- the answer to a posted step, with these steps read before and these now: its reply once it is settled, or why there
--- will be none
+-- the answer to a posted step, with these steps read before and these now: its reply once it is settled, or the reason
+-- why there will be none
 abbrev pub Replies : {D : Type 0} → Basis D → Result Claim Refusal → Result Reply Refusal → List Step → List Step → Type 0
 Replies {D} b (Ok claim) (Ok reply) before now = AtMomentAnswered b before now (λ g. CollectsAs {D = D} g.ledger claim (Settled reply))
 Replies {D} b (Ok claim) (Err refusal) before now = AtMomentAnswered b before now (λ g. CollectsAs {D = D} g.ledger claim (Refused refusal claim))

@@ -19,7 +19,7 @@ both b s (Ok claim) (Err refusal) before after read now put returned = inr (clai
 both b s (Err why) (Ok reply) before after read now put returned = absurd returned
 both {D} b s (Err why) (Err refusal) before after read now put returned = inl (subst (λ r. AtSomeMoment b (Submits {D = D} s (Err r) before after)) (sym returned.0) put, returned.1)
 
--- an order that was posted and replied was answered
+-- an order that was posted and replied to was answered
 pub desk_answered : {D P : Type 0} (b : Basis D) (d e f : DeskState P) (r : Request) (posted : Result Claim Refusal) (reply : Result Reply Refusal) → DeskPosts b d r posted e → DeskReplies b e posted reply f → DeskAnswers b d r (order_answer reply) f
 desk_answered {D} b d e f (request.Order client number command) posted reply put returned =
     let s = step.Order client number command in (
@@ -33,7 +33,7 @@ desk_answered b d e f request.Show posted reply put returned = absurd put
 desk_answered b d e f request.Resend posted reply put returned = absurd put
 desk_answered b d e f request.Close posted reply put returned = absurd put
 
--- a reply is the same before an order is posted and after that
+-- a reply does not change if another order is posted before it
 pub desk_apart : {D P : Type 0} (b : Basis D) (d e f : DeskState P) (r : Request) (p q : Result Claim Refusal) (reply : Result Reply Refusal) → DeskPosts b d r q e → DeskReplies b e p reply f → (m : DeskState P) × DeskReplies b d p reply m × DeskPosts b m r q f
 desk_apart {D} b d e f (request.Order client number command) p q reply put returned = (
   record { notes = d.notes; seen = f.seen; read = f.read; port = d.port },
