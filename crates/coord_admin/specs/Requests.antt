@@ -47,7 +47,7 @@ members_of Show = []
 members_of Resend = []
 members_of Close = []
 
--- the whole number at a name: any u64
+-- the value at a name, if it is a whole number: any u64
 abbrev pub number_at : Name → Data → Option ℕ
 number_at name d = option_and_then as_u64 (option_and_then as_number (get name d))
 
@@ -61,7 +61,7 @@ id_at name most d = option_and_then (from_1_to most) (number_at name d)
 abbrev pub node_at : Name → Data → Option ℕ
 node_at name d = id_at name MAX_NODES d
 
--- a value made of two, if both are there
+-- a function of two optional values, if both are present
 abbrev pub with_both : {A B C : Type 0} → (A → B → C) → Option A → Option B → Option C
 with_both f (Some a) (Some b) = Some (f a b)
 with_both f a b = None

@@ -8,7 +8,7 @@ use Rattle.coord_types.specs.declared.steps.Step.{Step}
 use Rattle.coord_types.specs.declared.steps.Step.TheVariants.{Order, Take, Clear}
 use Rattle.coord_batch.specs.declared.batch.Batch.{Batch}
 
--- the invariants of a step's types, and orders are numbered from 1; in version 1 no packet carries a distance
+-- a step satisfies the invariants of its types, an order has a number from 1, and in version 1 no packet carries a distance
 abbrev pub StepFits : ℕ → Step → Type 0
 StepFits version (Order c n x) = ((1 ≤ c) × (c ≤ MAX_CLIENTS)) × ((1 ≤ n) × (n < 2 ^ 64)) × CommandInRange x
 StepFits version (Take p) = IsNode p.from × IsNode p.to × (p.inc < 2 ^ 64) × (p.number < 2 ^ 64) × (distance version (2 ^ 64 - 1)).Fits (carried p.msg)

@@ -20,7 +20,7 @@ fn place_of(id: NodeId) -> usize
 #[derive(Drop)]
 pub struct NodesRead {
     pub rows: Vec<NodeRow>,
-    /// Returns the number of the last node, or 0.
+    /// The number of the last node, or 0.
     last: u8,
     /// The group of each present node, at its index.
     groups: [Option<Group>; NODES],

@@ -23,7 +23,7 @@ use std::alloc::AllocError;
 /// An entry of a world's table, such as a node or a client's last order: it is encoded as
 /// a row.
 trait Row: Copy {
-    /// Returns the bytes of its row in a version, with its number.
+    /// The bytes of its row in a version, with its number.
     ghost text: { ℕ → ℕ × Self → List ℕ };
 
     fn put(&self, out: &mut Vec<u8>, version: Version, number: u8) -> Result<(), AllocError>

@@ -17,7 +17,7 @@ use coord_types::{Client, Command, MAX_BATCH_STEPS, Refusal, Step, Version};
 use coord_world::{Verdict, World};
 use std::alloc::{AllocError, Global};
 
-/// Returns the version of a new store's world.
+/// The version of a new store's world.
 pub const VERSION: u8 = 2;
 
 /// Returns the first steps of a store with a topology: the founder's orders, numbered from 1, each

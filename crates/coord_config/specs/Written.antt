@@ -1,4 +1,4 @@
--- The table that a topology is written as, and the law that it is read back.
+-- The TOML table of a topology, and the law that reading it returns the topology.
 use Rattle.std.specs.Prelude.{◌≡◌, ℕ, ◌≤◌, pos, Bool, List, [], ◌∷◌, codes, length, Ok}
 use Rattle.std.specs.List.{AllByRecursion}
 use Rattle.toml.specs.Data.{Data, integer, array, table, Items, no_items, item, Members, no_members, member}

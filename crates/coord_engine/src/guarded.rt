@@ -37,7 +37,7 @@ const MOST_SHARES: u32 = 65_535;
 pub struct Guarded<D: Disk, L: Origin> {
     alloc: Global,
     ledger: Ledger<D>,
-    /// Counts the steps that were accepted for shares.
+    /// The count of the steps accepted for shares.
     book: Book<L>,
     /// The token that has written the steps of earlier instances, and after them the settled ones.
     writer: LogAuthority,

@@ -52,7 +52,7 @@ impl NamedSteps for Brand {
     ghost steps = { [] };
 }
 
-/// Reads on: the first token extends the history and its own prefix.
+/// The update by which the first token extends the history and its own prefix.
 struct WritesOn<G: NamedSteps> {
     of: PhantomData<G>,
 }
@@ -63,7 +63,7 @@ impl<G: NamedSteps> Play<(), Known> for WritesOn<G> {
     ghost then = { IsWrittenOn G.steps };
 }
 
-/// Compares the prefix of another token with that of the first token.
+/// The update that compares the prefix of another token with that of the first token.
 struct Compares;
 
 impl Play<(), Known> for Compares {
@@ -72,7 +72,7 @@ impl Play<(), Known> for Compares {
     ghost then = { IsCompared };
 }
 
-/// Makes a token read everything written.
+/// The update by which a token reads everything written.
 struct ReadsOn;
 
 impl Play<(), Known> for ReadsOn {
@@ -81,7 +81,7 @@ impl Play<(), Known> for ReadsOn {
     ghost then = { HasReadOn };
 }
 
-/// Splits a token into two with the same prefix.
+/// The update that splits a token into two with the same prefix.
 struct ReadsAlong;
 
 impl Split<Known> for ReadsAlong {
@@ -93,7 +93,7 @@ impl Split<Known> for ReadsAlong {
     ghost right = { λ v. knows v.read [] };
 }
 
-/// Joins another token, whose prefix these steps name.
+/// The update that joins another token, whose prefix these steps name.
 struct ComparesTokens<G: NamedSteps> {
     of: PhantomData<G>,
 }

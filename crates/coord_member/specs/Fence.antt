@@ -9,7 +9,7 @@ use Rattle.coord_member.specs.declared.fence.Gate.{Gate}
 
 -- ---- the gate
 
--- nothing was accepted
+-- the gate before anything was accepted
 abbrev pub new_gate : Gate
 new_gate = record { floor = 0; count = 0 }
 
@@ -18,7 +18,7 @@ new_gate = record { floor = 0; count = 0 }
 abbrev pub admits : Gate → Bool → ℕ → Bool
 admits gate is_own count = nat_lt gate.count count || (is_own && nat_lt gate.floor count)
 
--- after a count that is accepted
+-- the gate after it accepts a count
 abbrev pub passed : Gate → Bool → ℕ → Gate
 passed gate is_own count = record { floor = if is_own then gate.floor else gate.count; count = if nat_lt gate.count count then count else gate.count }
 

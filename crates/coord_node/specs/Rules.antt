@@ -127,7 +127,7 @@ abbrev pub without : Option ℕ → ℕ → Option ℕ
 without None v = None
 without (Some p) v = if p == v then None else Some p
 
--- v becomes a neighbour
+-- the node after v has become a neighbour
 abbrev pub with_neighbour : NodeState → ℕ → NodeState
 with_neighbour r v = record r { neighbours = set.insert r.neighbours v }
 

@@ -32,7 +32,7 @@ fn text_with(alloc: Global, node: u8, start: &Start) -> Result<String, AllocErro
     }
 }
 
-/// The meaning of a file in the boot of this name, as the text for a judgement.
+/// Returns the meaning of a file in this boot, as the text for a judgement.
 pub(crate) fn carried(alloc: Global, node: u8, file: &[u8], boot: &[u8]) -> Result<String, Fault>
     ensures { IsCarried node file.now boot.now result }
 {
@@ -48,7 +48,7 @@ pub(crate) fn carried(alloc: Global, node: u8, file: &[u8], boot: &[u8]) -> Resu
     Ok(text?)
 }
 
-/// The text of the file once the common start is loaded, which is valid in the boot of this name.
+/// Returns the text of the file once the common start is loaded, which is valid in this boot.
 pub(crate) fn loaded(alloc: Global, node: u8, epoch: u64, boot: &[u8]) -> Result<String, Fault>
     ensures { IsLoaded node epoch boot.now result }
 {

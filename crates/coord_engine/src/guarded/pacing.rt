@@ -132,7 +132,7 @@ impl<D: Disk, L: Origin> Guarded<D, L> {
         self.is_gathered() || self.pending() >= MAX_BATCH_STEPS || self.finishing
     }
 
-    /// Whether a waiting flusher must be woken, if something or nothing could be flushed before.
+    /// Whether a waiting flusher must be woken. `was_idle`: nothing could be flushed before.
     pub fn wakes_flusher(&self, was_idle: bool) -> bool
         ensures { result ≡ wakes_flusher was_idle self.now }
     {
