@@ -83,7 +83,7 @@ Resends {D} b (Ok count) = (released : List Release) × AtSomeMoment b (SendsAga
 Resends {D} b (Err refusal) = refusal ≡ OutOfMemory
 
 -- The packets that may have been lost were requested from a port again, each once and in order, and then the port was
--- told to pass them on; and this is their number. `carried`, `signalled`, `handed_on`: the possible states of the
+-- asked to pass them on; and this is their number. `carried`, `signalled`, `handed_on`: the possible states of the
 -- port after each request.
 abbrev pub HandsAgain : {D P : Type 0} → Basis D → (P → ℕ → Packet → Bool → P → Type 0) → (P → ℕ → ℕ → ℕ → Bool → P → Type 0) → (P → ℕ → P → Type 0) → ℕ → P → P → Type 0
 HandsAgain {D} b carried signalled handed_on count port later =
