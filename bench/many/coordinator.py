@@ -59,6 +59,7 @@ class Server:
         self.folder = tempfile.mkdtemp(prefix="resetd-front-bench-")
         os.mkdir(f"{self.folder}/log")
         self.path, self.signals = f"{self.folder}/socket", f"{self.folder}/log/signals"
+        self.messages = f"{self.folder}/messages"  # of the front or proxy
         self.before: subprocess.Popen[bytes] | None = None
         text = "".join([*(f"[[node]]\nid = {n}\ngroup = 1\n" for n in range(1, nodes + 1)), *(f"[[link]]\na = {a}\nb = {b}\n" for a, b in links)])
         pathlib.Path(f"{self.folder}/topology").write_text(text, encoding="ascii")
@@ -81,7 +82,8 @@ class Server:
         self._start("haproxy", "-db", "-f", f"{self.folder}/haproxy.cfg")
 
     def _start(self, *words: str) -> None:
-        self.before = subprocess.Popen(words, stdout=subprocess.DEVNULL, stderr=subprocess.DEVNULL)
+        with open(self.messages, "ab") as messages:
+            self.before = subprocess.Popen(words, stdout=subprocess.DEVNULL, stderr=messages)
         while not os.path.exists(self.path):
             time.sleep(0.01)
 
