@@ -98,9 +98,9 @@ class Report(Case):
         with mock.patch("resetd_client.device.devices_of", return_value=["vdz9"]):
             self.assertEqual(kernel_lines(self.store), "kernel: I/O error, dev vdz9, sector 7\n")
         with mock.patch("resetd_client.device.devices_of", return_value=["vdz"]):
-            self.assertEqual(kernel_lines(self.store), "nothing of vdz among 3 lines\n")
+            self.assertEqual(kernel_lines(self.store), "none of the 3 lines is about vdz\n")
         with mock.patch("resetd_client.device.devices_of", return_value=["dz9"]):
-            self.assertEqual(kernel_lines(self.store), "nothing of dz9 among 3 lines\n")
+            self.assertEqual(kernel_lines(self.store), "none of the 3 lines is about dz9\n")
         with mock.patch("resetd_client.device.devices_of", return_value=[]):
             self.assertIn("not on a block device", kernel_lines(self.store))
         self.assertEqual(devices_of("/proc/self/status"), [])

@@ -50,7 +50,7 @@ class Restored(Case):
         """Then nothing is asked for."""
         status, _, errors = self.run_words("restored", "--fence", str((1 << 63) - 1))
         self.assertEqual((status, self.epochs()), (2, [0] * 6))
-        self.assertIn("from 0 to 8388607, and not 8388608", errors)
+        self.assertIn("from 0 to 8388607, not 8388608", errors)
 
     @in_memory
     def test_a_node_that_gets_no_new_epoch_is_named(self) -> None:

@@ -57,7 +57,7 @@ class Files(Case):
 
     def test_where_it_stops_to_read(self) -> None:
         for data, told in ((b"", "NoMagic: at byte 0, it does not begin as a store: the file is empty"),
-                           (APPENDED[:50], "BadRecord: at byte 38, a body of 23 bytes with its gate runs past the end"),
+                           (APPENDED[:50], "BadRecord: at byte 38, a body of 23 bytes extends past the end with its gate"),
                            (FRESH[:17] + b"\3" + FRESH[18:], "BadSnapshot: at byte 17, version 3 is not known"),
                            (APPENDED[:48] + b"\7" + APPENDED[49:], "BadBatch: at byte 48, batch 0 can't be decoded (BadByte)")):
             status, lines = self.why(self.put(data))
