@@ -20,6 +20,7 @@ from support.serving import Serving, spelled
 from resetd_client import Port
 from resetd_client.health import Bounds, check
 from resetd_client.since import Since, boot_clock
+from served import migrations
 
 from .desk import LEFT_OUT, LONG, Desk, NotSeen, row, see
 
@@ -146,11 +147,9 @@ def told_of_a_wave(server: Serving, memory: str) -> set[str]:
 
 @row("`a wave has stood still at node N`")
 def a_lost_packet(desk: Desk) -> None:
-    """Those that take packets find no memory, and so lose one."""
-    store, refusing = desk.store(), Refusing(PROGRAM, desk.folder)
-    with Serving(store, env=refusing.environment(threads=WORKERS)) as server:
-        refusing.refuse(refusing.count() + 1, 1_000_000)
-        server.order(1, "reset", node=1)
+    """The workers, which take the packets that a start sends again, find no memory, and so lose one."""
+    store, refusing = desk.write("store", migrations.IN_A_RESET), Refusing(PROGRAM, desk.folder)
+    with Serving(store, env=refusing.environment(1, 1_000_000, threads=WORKERS)) as server:
         desk.await_health(server, "a wave has stood still at node 1 (abort)")
         refusing.refuse(refusing.count() + 1, 0)
         until("the end of the wave", lambda: desk.resetctl("resend", server=server) and
