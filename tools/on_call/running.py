@@ -8,6 +8,7 @@ import signal
 import socket
 import subprocess
 import sys
+import threading
 import time
 from collections.abc import Callable, Iterator
 
@@ -36,10 +37,7 @@ def no_answer(desk: Desk) -> None:
         with stop_meanwhile(server):
             see(desk.health(server, patience=0, seconds=2).text, "resetd CRITICAL: no answer: ")
             see(desk.why(store, server), f"is stopped by a signal (SIGSTOP or a debugger): kill -CONT {server.process.pid}")
-        host, port_number = server.address.split(":")
-        with socket.create_connection((host, int(port_number)), LONG) as client:
-            client.sendall(spelled({"op": "show"}))
-            client.recv(1)
+        with held(server):
             see(desk.health(server, patience=0, seconds=2).text, "resetd CRITICAL: no answer: ")
             see(desk.why(store, server), f"client   process {os.getpid()} (", "has the one connection")
         see(desk.health(server).text, "resetd OK: well")
@@ -52,6 +50,29 @@ def stop_meanwhile(server: Serving) -> Iterator[None]:
         yield
     finally:
         server.process.send_signal(signal.SIGCONT)
+
+
+@contextlib.contextmanager
+def held(server: Serving) -> Iterator[None]:
+    """A client of this process has the one connection. It asks each second, since a silent one would be ended."""
+    host, port_number = server.address.split(":")
+    has_asked, is_over = threading.Event(), threading.Event()
+
+    def ask() -> None:
+        with socket.create_connection((host, int(port_number)), LONG) as client, client.makefile("rb") as answers:
+            while not is_over.wait(1 if has_asked.is_set() else 0):
+                client.sendall(spelled({"op": "show"}))
+                answers.readline()
+                has_asked.set()
+
+    asking = threading.Thread(target=ask)
+    asking.start()
+    has_asked.wait(LONG)
+    try:
+        yield
+    finally:
+        is_over.set()
+        asking.join()
 
 
 @row("`the server answers Stopped`")
