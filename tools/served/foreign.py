@@ -405,7 +405,7 @@ class Tried:
             if self.process.poll() is not None and not may_end:
                 raise Failed(f"{what}: it has ended: {read(f'{self.trial.folder}/foreign.lines')[-300:]}")
             if time.monotonic() > until:
-                raise Failed(f"{what}, within {self.trial.words.seconds} s: {self.rule.found()[0] or self.trial.told()}; its due action is"
+                raise Failed(f"{what}, within {self.trial.words.seconds} s: {self.rule.found()[0] or self.trial.told()}; its due action is "
                              f"{self.rule.due}")
             time.sleep(0.02)
 
