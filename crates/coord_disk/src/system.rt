@@ -27,12 +27,17 @@ pub type FileDisk = RawDisk<SystemFile<File>>;
 
 impl<F: OpenFile + FileExt + Drop> SystemFile<F> {
     /// An open file, and its folder if its entry there has to be synced.
-    pub fn over(file: F, folder: Option<F>) -> Self {
+    pub fn over(file: F, folder: Option<F>) -> Self
+        ensures file { result.file ≡ file }
+        ensures folder { result.folder ≡ folder }
+    {
         SystemFile { file, folder }
     }
 
     /// Returns both.
-    pub fn into_parts(self) -> (F, Option<F>) {
+    pub fn into_parts(self) -> (F, Option<F>)
+        ensures { result ≡ (self.file, self.folder) }
+    {
         (self.file, self.folder)
     }
 }

@@ -1,10 +1,10 @@
 -- The principals of roles.
-use Rattle.std.proofs.Common.{◌≡◌, ◌≢◌, inl, inr, ℕ, ◌+◌, ◌-◌, ◌<◌, get_or, sym, List, [], ◌∷◌, ◌++◌, length, map, take, refl, ap, ◌∙◌, arith, Option, Some, option_map, length-append}
+use Rattle.std.proofs.Common.{◌≡◌, ◌≢◌, inl, inr, ℕ, ◌+◌, ◌-◌, ◌<◌, get_or, subst, sym, List, [], ◌∷◌, ◌++◌, length, map, take, refl, ap, ◌∙◌, arith, Option, Some, option_map, length-append}
 use Rattle.std.specs.declared.alloc.Global.{Global}
 use Rattle.std.specs.Prelude.{String, slice_get, string_bytes}
 use Rattle.std.proofs.lemmas.Bool.Decides.{eqb_tells}
-use Rattle.std.proofs.lemmas.List.{map-append}
-use Rattle.std.proofs.lemmas.Option.{slice_get-get_or, slice_get-map}
+use Rattle.std.proofs.lemmas.List.{length-map, map-append}
+use Rattle.std.proofs.lemmas.Option.{slice_get-get_or, slice_get-map, slice_get_within}
 use Rattle.std.proofs.Math.Seq.{take-append_seam, take-length}
 use Rattle.proxy_access.specs.Access.{principal_of}
 
@@ -42,3 +42,25 @@ kept items more = ap (take (length (names items))) (map-append string_bytes item
 
 pub kept_all : (items : List (String Global)) → take (length (names items)) (names items) ≡ names items
 kept_all items = take-length (names items)
+
+-- ---- a name that has no role
+
+-- as far as the next place
+pub absent_on : (items : List (String Global)) (name : List ℕ) (k : ℕ) (x : String Global) → k < length items → x ≡ get_or items k x → string_bytes x ≢ name
+    → ((i : ℕ) → i < k → slice_get (names items) i ≢ Some name) → (i : ℕ) → i < k + 1 → slice_get (names items) i ≢ Some name
+absent_on items name k x within is other before i less = elim (eqb_tells i k) [
+  | inl h ↦ λ e. (
+      let at : slice_get (names items) k ≡ Some (string_bytes x) = slice_get-map string_bytes items k ∙ ap (option_map string_bytes) (slice_get-get_or items k x within ∙ ap Some (sym is)) in
+      let both : Some (string_bytes x) ≡ Some name = sym at ∙ subst (λ j. slice_get (names items) j ≡ Some name) h.1 e in
+      other (cc both))
+  | inr h ↦ before i (omega (arith, less, h.1))
+]
+
+pub no_role : (items : List (String Global)) (name : List ℕ) → ((i : ℕ) → i < length items → slice_get (names items) i ≢ Some name) → (role : ℕ) → principal_of (names items) role ≢ Some name
+no_role items name absent role is = elim (eqb_tells role 0) [
+  | inl h ↦ (let nobody : principal_of (names items) 0 ≡ Some name = subst (λ r. principal_of (names items) r ≡ Some name) h.1 is in absurd (cc nobody))
+  | inr h ↦ (
+      let at : slice_get (names items) (role - 1) ≡ Some name = sym (from_one (names items) role h.1) ∙ is in
+      let within : role - 1 < length items = subst (λ n. role - 1 < n) (length-map items string_bytes) (slice_get_within (names items) (role - 1) name at) in
+      absent (role - 1) within at)
+]

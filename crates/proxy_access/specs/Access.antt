@@ -1,5 +1,5 @@
 -- Who may send what: the rules of the proxy's core.
-use Rattle.std.specs.Prelude.{ℕ, ◌-◌, ◌==◌, ◌&&◌, Bool, true, false, is_some, if◌then◌else◌, List, [], map, slice_get, Option, Some, None, option_and_then, Result, Ok, Err, string_bytes}
+use Rattle.std.specs.Prelude.{◌≡◌, ℕ, ◌-◌, ◌==◌, ◌&&◌, Bool, true, false, is_some, if◌then◌else◌, List, [], map, slice_get, Option, Some, None, option_and_then, Result, Ok, Err, string_bytes}
 use Rattle.coord_types.specs.declared.steps.Command.{Command}
 use Rattle.coord_types.specs.declared.steps.Command.TheVariants as command
 use Rattle.coord_admin.specs.declared.fault.LineFault.{LineFault}
@@ -25,6 +25,11 @@ access_principals a = map string_bytes a.principals.items
 -- the first principal has role 1; role 0 is that of the proxy's own connection
 abbrev pub principal_of : List (List ℕ) → ℕ → Option (List ℕ)
 principal_of names role = if role == 0 then None else slice_get names (role - 1)
+
+-- a principal that has a role gets one that it has, and the table stays
+abbrev pub KeepsItsRole : {E : Type 0} → List (List ℕ) → List (List ℕ) → List ℕ → Result (Option ℕ) E → Type 0
+KeepsItsRole before after name result = (has : ℕ) → principal_of before has ≡ Some name
+    → (role : ℕ) × (principal_of before role ≡ Some name) × (result ≡ Ok (Some role)) × (after ≡ before)
 
 -- an order of the proxy's client that the server always refuses: the refusal depends on its number
 abbrev pub is_probe : Command → Bool

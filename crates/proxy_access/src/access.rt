@@ -1,8 +1,8 @@
 //! The policy, and the principals of the roles.
 
-ghost use Rattle.std.specs.Prelude.{◌≡◌, ◌≤◌, [], length, map, string_bytes, take, IfOk, IfSome, MatchOption, OnErr, Some};
+ghost use Rattle.std.specs.Prelude.{◌≡◌, ◌≢◌, ◌≤◌, ℕ, [], length, map, string_bytes, take, IfNone, IfOk, IfSome, MatchOption, OnErr, Some};
 ghost use Rattle.std.specs.Option.{option_copied};
-ghost use Rattle.proxy_access.specs.Access.{may, access_principals, principal_of, access_rules};
+ghost use Rattle.proxy_access.specs.Access.{KeepsItsRole, may, access_principals, principal_of, access_rules};
 
 use crate::judging::is_own;
 use crate::table::{Access, MOST_PRINCIPALS};
@@ -30,6 +30,7 @@ impl Access {
     #[tactic(auto, using(crate::proofs::Roles::kept, crate::proofs::Roles::kept_all, crate::proofs::Roles::role_of_last))]
     pub fn role_of(&mut self, alloc: Global, principal: &str) -> Result<Option<u32>, AllocError>
         ensures role { IfOk result (λ found. MatchOption found (length (access_principals self.old) ≡ MOST_PRINCIPALS) (λ role. principal_of (access_principals self.new) role ≡ Some principal.now)) }
+        ensures known { KeepsItsRole (access_principals self.old) (access_principals self.new) principal.now result }
         ensures others { take (length (access_principals self.old)) (access_principals self.new) ≡ access_principals self.old }
         ensures rules { access_rules self.new ≡ access_rules self.old }
         ensures err { OnErr result (access_principals self.new ≡ access_principals self.old) }
@@ -84,7 +85,8 @@ impl Access {
 #[tactic(auto, using(crate::proofs::Roles::role_of_item))]
 fn role_among(principals: &[String], principal: &str) -> Option<u32>
     requires { length principals.now ≤ MOST_PRINCIPALS }
-    ensures { IfSome result (λ role. principal_of (map string_bytes principals.now) role ≡ Some principal.now) }
+    ensures some { IfSome result (λ role. principal_of (map string_bytes principals.now) role ≡ Some principal.now) }
+    ensures none { IfNone result ((role : ℕ) → principal_of (map string_bytes principals.now) role ≢ Some principal.now) }
 {
     for place in 0..principals.len() {
         if principals[place].as_str() == principal {
