@@ -48,9 +48,12 @@ def sign_of_life(node: Node, entries: list[Entry]) -> str:
     if not mine:
         return "; the audit has no sign of life of it" if entries else ""
     last = mine[-1]
-    who = last.get("who") if isinstance(last.get("who"), dict) else {}
-    name = who.get("certificate") or who.get("user") or "somebody" if isinstance(who, dict) else "somebody"
-    return f"; its last sign of life: {request_of(last)['op']} at {last['time']} by {name}"
+    return f"; its last sign of life: {request_of(last)['op']} at {last['time']} by {name_of(last.get('who')) or 'somebody'}"
+
+
+def name_of(who: object) -> object:
+    """The principal of an entry; of a front the certificate or the user."""
+    return who.get("certificate") or who.get("user") if isinstance(who, dict) else who
 
 
 def is_reset_of(entry: Entry, nodes: set[int]) -> bool:

@@ -60,6 +60,13 @@ class Audit(Case):
         self.assertIn("'hello'  BadJson", lines[7])
         self.assertEqual(lines[-1], '? {"time":"2026-01-31T08:0')
 
+    def test_who_is_a_principal(self) -> None:
+        """As `resetd-proxy` writes it."""
+        line = {**LINES[2], "who": "certificate:service3"}
+        with open(self.path, "w", encoding="utf-8") as file:
+            file.write(json.dumps(line) + "\n")
+        self.assertEqual(self.printed("--denied"), ["2026-01-30T12:00:01.000Z  certificate:service3  remove 3  NotAllowed; 0.0 s"])
+
     def test_nothing_reaches_the_terminal_as_it_came(self) -> None:
         escape = "\u001b]0;x\u0007\u009b31m\r"
         bad = [{**LINES[7], "line": escape}, {**LINES[2], "who": {"certificate": escape}}, {**LINES[6], "why": escape}]

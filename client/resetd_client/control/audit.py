@@ -80,9 +80,9 @@ def told(entry: Entry) -> str:
 
 
 def who(found: object) -> str:
-    """Formats the actor: the user or the certificate, and its address."""
+    """Formats the actor: the principal, or the user or the certificate, and its address."""
     if not isinstance(found, dict):
-        return ""
+        return found if isinstance(found, str) else ""
     name = found.get("certificate") or found.get("user") or (f"uid {found['uid']}" if "uid" in found else "")
     place = found.get("address") or (f"pid {found['pid']}" if "pid" in found else "")
     return f"{name} ({place})" if name and place else str(name or place)
