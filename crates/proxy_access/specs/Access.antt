@@ -5,7 +5,7 @@ use Rattle.coord_types.specs.declared.steps.Command.TheVariants as command
 use Rattle.coord_admin.specs.declared.fault.LineFault.{LineFault}
 use Rattle.proxy_core.specs.Rules.{Rules}
 use Rattle.proxy_policy.specs.declared.rule.Rule.{Rule}
-use Rattle.proxy_policy.specs.Allowing.{allows}
+use Rattle.proxy_policy.specs.Allowing.{allows, may_order}
 use Rattle.proxy_request.specs.Answers.{is_out_of_turn, is_refusal, is_reply, refuses_number}
 use Rattle.proxy_request.specs.declared.request.Request.{Request}
 use Rattle.proxy_request.specs.declared.request.Request.TheVariants.{Order, Show, Watch}
@@ -48,6 +48,10 @@ allows_if rules (Some name) r = allows rules name r
 
 abbrev pub may : List Rule → List (List ℕ) → ℕ → Request → Bool
 may rules names role r = if role == 0 then is_own r else allows_if rules (principal_of names role) r
+
+abbrev pub may_order_if : List Rule → Option (List ℕ) → Bool
+may_order_if rules None = false
+may_order_if rules (Some name) = may_order rules name
 
 -- ---- lines
 

@@ -2,7 +2,7 @@
 
 ghost use Rattle.std.specs.Prelude.{◌≡◌, ◌≢◌, ◌≤◌, ℕ, [], length, map, string_bytes, take, IfNone, IfOk, IfSome, MatchOption, OnErr, Some};
 ghost use Rattle.std.specs.Option.{option_copied};
-ghost use Rattle.proxy_access.specs.Access.{KeepsItsRole, may, access_principals, principal_of, access_rules};
+ghost use Rattle.proxy_access.specs.Access.{KeepsItsRole, may, may_order_if, access_principals, principal_of, access_rules};
 
 use crate::judging::is_own;
 use crate::table::{Access, MOST_PRINCIPALS};
@@ -65,6 +65,16 @@ impl Access {
         ensures principals { access_principals self.new ≡ access_principals self.old }
     {
         self.policy = policy;
+    }
+
+    /// Returns whether connections in a role may do more than show and watch.
+    pub fn may_order(&self, role: u32) -> bool
+        ensures { result ≡ may_order_if (access_rules self.now) (principal_of (access_principals self.now) role) }
+    {
+        let Some(name) = self.principal(role) else {
+            return false;
+        };
+        self.policy.may_order(name)
     }
 
     /// Returns whether connections in a role may send this request.

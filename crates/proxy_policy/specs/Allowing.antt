@@ -8,6 +8,8 @@ use Rattle.proxy_request.specs.Ops.{same_op}
 use Rattle.proxy_request.specs.Requests.{client_of, first_node_of, op_of, second_node_of}
 use Rattle.proxy_request.specs.declared.request.TheConstants.{PROXY_CLIENT}
 use Rattle.proxy_request.specs.declared.request.Request.{Request}
+use Rattle.proxy_request.specs.declared.op.Op.{Op}
+use Rattle.proxy_request.specs.declared.op.Op.TheVariants.{Show, Watch}
 use Rattle.proxy_policy.specs.declared.rule.Rule.{Rule}
 
 abbrev pub is_proxy_client : Option ℕ → Bool
@@ -37,3 +39,16 @@ rule_allows rule principal r =
 -- some rule allows it, and it does not use the proxy's client
 abbrev pub allows : List Rule → List ℕ → Request → Bool
 allows rules principal r = not (is_proxy_client (client_of r)) && list_any (λ rule. rule_allows rule principal r) rules
+
+-- an op by which more is asked for than to see the nodes and links
+abbrev pub is_order_op : Op → Bool
+is_order_op Show = false
+is_order_op Watch = false
+is_order_op op = true
+
+abbrev pub lets_order : Rule → List ℕ → Bool
+lets_order rule principal = list_any (λ name. bytes_eq (string_bytes name) principal) rule.principals.items && list_any is_order_op rule.ops.items
+
+-- some rule lists the principal and such an op
+abbrev pub may_order : List Rule → List ℕ → Bool
+may_order rules principal = list_any (λ rule. lets_order rule principal) rules

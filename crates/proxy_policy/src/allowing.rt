@@ -4,7 +4,7 @@ ghost use Rattle.std.specs.Prelude.{◌≡◌, ◌==◌, string_bytes};
 ghost use Rattle.std.specs.List.{list_any};
 ghost use Rattle.std.specs.Str.{bytes_eq};
 ghost use Rattle.proxy_request.specs.Ops.{same_op};
-ghost use Rattle.proxy_policy.specs.Allowing.{allows, is_proxy_client, may_name, may_use, rule_allows};
+ghost use Rattle.proxy_policy.specs.Allowing.{allows, is_order_op, is_proxy_client, lets_order, may_name, may_order, may_use, rule_allows};
 
 use crate::rule::{Policy, Rule};
 use coord_types::{Client, Identifier, NodeId};
@@ -18,6 +18,47 @@ impl Policy {
         !is_proxy_client(request.client())
             && some_rule_allows(self.rules.as_slice(), principal, request)
     }
+
+    /// Returns whether a rule allows a principal more than to show and to watch.
+    pub fn may_order(&self, principal: &str) -> bool
+        ensures { result ≡ may_order self.now.rules.items principal.now }
+    {
+        some_rule_lets_order(self.rules.as_slice(), principal)
+    }
+}
+
+fn some_rule_lets_order(rules: &[Rule], principal: &str) -> bool
+    ensures { result ≡ may_order rules.now principal.now }
+{
+    for rule in rules {
+        if lets_order(rule, principal) {
+            return true;
+        }
+    }
+    false
+}
+
+fn lets_order(rule: &Rule, principal: &str) -> bool
+    ensures { result ≡ lets_order rule.now principal.now }
+{
+    is_for(rule.principals.as_slice(), principal) && has_order(rule.ops.as_slice())
+}
+
+fn has_order(ops: &[Op]) -> bool
+    ensures { result ≡ list_any is_order_op ops.now }
+{
+    for op in ops {
+        if is_order_op(*op) {
+            return true;
+        }
+    }
+    false
+}
+
+fn is_order_op(op: Op) -> bool
+    ensures { result ≡ is_order_op op }
+{
+    !matches!(op, Op::Show | Op::Watch)
 }
 
 fn some_rule_allows(rules: &[Rule], principal: &str, request: &Request) -> bool
