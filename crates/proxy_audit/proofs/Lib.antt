@@ -1,0 +1,6 @@
+mod QuotaLaws
+pub mod Reading
+mod OneLine
+pub mod Values
+mod Shown
+mod Due

@@ -1,0 +1,6 @@
+pub mod Seconds
+pub mod Moments
+pub mod Lines
+pub mod Quotas
+pub mod Laws
+pub mod Pending

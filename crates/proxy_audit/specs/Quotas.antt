@@ -1,0 +1,74 @@
+-- How many lines a principal may cause in a second, and how many were left out. Times are nanoseconds.
+use Rattle.std.specs.Prelude.{ℕ, ◌+◌, ◌-◌, ◌^◌, ◌==◌, ◌&&◌, ◌||◌, Bool, true, nat_lt, nat_le, min, if◌then◌else◌, List, [], ◌∷◌, ◌++◌, length, Option, Some, None, unwrap_or}
+use Rattle.std.specs.BTreeMap.{get}
+use Rattle.std.specs.Ordering.{nat_cmp}
+use Rattle.proxy_audit.specs.declared.quota.LineKind.{LineKind}
+use Rattle.proxy_audit.specs.declared.quota.LineKind.TheVariants.{Refusal, Connection}
+use Rattle.proxy_audit.specs.declared.quota.TheConstants.{MOST_LINES}
+
+abbrev pub second : ℕ
+second = 1_000_000_000
+
+-- There may be one more line now, after lines at these times, of which the last ones are kept: they are fewer than
+-- the most, or the first of them is a second ago.
+abbrev pub has_room : ℕ → List ℕ → Bool
+has_room now [] = true
+has_room now (t ∷ ts) = nat_lt (length (t ∷ ts)) MOST_LINES || nat_le second (now - t)
+
+-- the times that are kept after that: with this one if there is room
+abbrev pub with_moment : ℕ → List ℕ → List ℕ
+with_moment now [] = now ∷ []
+with_moment now (t ∷ ts) =
+    if nat_lt (length (t ∷ ts)) MOST_LINES then t ∷ (ts ++ now ∷ [])
+    else (if nat_le second (now - t) then ts ++ now ∷ [] else t ∷ ts)
+
+-- The state of a principal: the times of its last lines of each kind, how many lines were left out since the last line
+-- that counts them, and when the first of these came.
+pub record Quota : Type 0 where
+  pub refusals : List ℕ
+  pub connections : List ℕ
+  pub left_out : ℕ
+  pub since : ℕ
+
+abbrev pub new_quota : Quota
+new_quota = record { refusals = []; connections = []; left_out = 0; since = 0 }
+
+abbrev pub times_of : LineKind → Quota → List ℕ
+times_of Refusal q = q.refusals
+times_of Connection q = q.connections
+
+abbrev pub with_times : LineKind → List ℕ → Quota → Quota
+with_times Refusal ts q = record { refusals = ts; connections = q.connections; left_out = q.left_out; since = q.since }
+with_times Connection ts q = record { refusals = q.refusals; connections = ts; left_out = q.left_out; since = q.since }
+
+-- the count stays at the greatest number of 64 bits
+abbrev pub with_left_out : ℕ → Quota → Quota
+with_left_out now q = record {
+  refusals = q.refusals;
+  connections = q.connections;
+  left_out = min (q.left_out + 1) (2 ^ 64 - 1);
+  since = if q.left_out == 0 then now else q.since;
+}
+
+-- after a line is asked for
+abbrev pub after_admission : LineKind → ℕ → Quota → Quota
+after_admission kind now q = if has_room now (times_of kind q) then with_times kind (with_moment now (times_of kind q)) q else with_left_out now q
+
+-- lines were left out, and the first of them came a second ago
+abbrev pub is_due : ℕ → Quota → Bool
+is_due now q = nat_lt 0 q.left_out && nat_le second (now - q.since)
+
+-- the count that a line has to say
+abbrev pub more : ℕ → Quota → Option ℕ
+more now q = if is_due now q then Some q.left_out else None
+
+abbrev pub without_left_out : Quota → Quota
+without_left_out q = record { refusals = q.refusals; connections = q.connections; left_out = 0; since = q.since }
+
+-- after that
+abbrev pub after_more : ℕ → Quota → Quota
+after_more now q = if is_due now q then without_left_out q else q
+
+-- the quota of a role; that of one without lines is a new one
+abbrev pub quota_in : Option Quota → Quota
+quota_in o = unwrap_or o new_quota

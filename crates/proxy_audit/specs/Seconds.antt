@@ -1,0 +1,9 @@
+-- Nanoseconds, written as seconds with six places.
+use Rattle.std.specs.Prelude.{ℕ, ◌+◌, ◌/◌, ◌%◌, List, ◌∷◌, ◌++◌, drop, decimal}
+
+-- the six digits of a number of microseconds below a second
+abbrev pub six_digits : ℕ → List ℕ
+six_digits micros = drop 1 (decimal (1_000_000 + micros))
+
+unfoldable pub seconds_text : ℕ → List ℕ
+seconds_text nanos = decimal (nanos / 1_000_000_000) ++ 46 ∷ six_digits (nanos % 1_000_000_000 / 1_000)

@@ -1,0 +1,172 @@
+//! The audit: lines within quotas, and the file or the output that they go to.
+
+ghost use Rattle.std.specs.Prelude.{◌≡◌, ◌≢◌, ◌++◌, ℕ, List, All, IfOk, IfSome, None, Some, false};
+ghost use Rattle.std.specs.BTreeMap.{get, values};
+ghost use Rattle.std.specs.Duration.{as_nanos};
+ghost use Rattle.std.specs.Ordering.{nat_cmp};
+ghost use Rattle.std.specs.Time.{system_time_nanos};
+ghost use Rattle.proxy_audit.specs.Pending.{Adds, AddsWithin, no_pending};
+ghost use Rattle.proxy_audit.specs.Quotas.{after_more, has_room, is_due, more, quota_in, times_of};
+
+use crate::event::Event;
+use crate::file::AuditFile;
+use crate::pending::Pending;
+use crate::quota::LineKind;
+use crate::quotas::Quotas;
+use std::alloc::Global;
+use std::fs::{File, Files};
+use std::io;
+use std::time::{Duration, SystemTime};
+
+/// How many seconds pass between two reports that lines can't be written.
+const REPORT_PAUSE: u64 = 60;
+
+/// The argument that names standard output.
+const STANDARD_OUTPUT: &str = "-";
+
+/// The audit of a proxy.
+#[derive(Drop)]
+pub struct Audit {
+    pending: Pending,
+    quotas: Quotas,
+    /// None: the lines go to standard output.
+    file: Option<AuditFile>,
+    /// When it was last reported that lines can't be written.
+    reported: Option<Duration>,
+}
+
+impl Audit {
+    /// Opens the audit in a file; without one, or at `-`, its lines go to standard output.
+    pub fn open<R: Files<File = File>>(
+        rt: &R,
+        alloc: Global,
+        path: Option<String>,
+    ) -> io::Result<Self>
+        ensures pending { IfOk result (λ audit. audit.pending ≡ no_pending) }
+        ensures quotas { IfOk result (λ audit. (role : ℕ) → get nat_cmp audit.quotas.all role ≡ None) }
+    {
+        Ok(Audit {
+            pending: Pending::new(alloc),
+            quotas: Quotas::new(alloc),
+            file: open_file(rt, path)?,
+            reported: None,
+        })
+    }
+
+    /// Adds the line of an event, which `write` writes.
+    pub fn add(&mut self, time: SystemTime, event: &Event<'_>)
+        ensures added { Adds (system_time_nanos time) event.now self.old.pending self.new.pending }
+        ensures quotas { self.new.quotas ≡ self.old.quotas }
+    {
+        self.pending.add(time, event);
+    }
+
+    /// Adds the line of an event, if the quota of its principal has room for it. If not, the line is counted.
+    pub fn add_within_quota(
+        &mut self,
+        role: u32,
+        kind: LineKind,
+        now: Duration,
+        time: SystemTime,
+        event: &Event<'_>,
+    )
+        ensures { AddsWithin (has_room (as_nanos now) (times_of kind (quota_in (get nat_cmp self.old.quotas.all role)))) (system_time_nanos time) event.now self.old.pending self.new.pending }
+    {
+        match self.quotas.admit(role, kind, now) {
+            Ok(true) => self.pending.add(time, event),
+            Ok(false) => {}
+            Err(_) => self.pending.lose(),
+        }
+    }
+
+    /// Returns a principal that lines were left out of, the first of them a second ago, and how many. Its count begins
+    /// again.
+    pub fn take_more(&mut self, now: Duration) -> Option<(u32, u64)>
+        ensures none { result ≡ None → All (λ quota. is_due (as_nanos now) quota ≡ false) (values self.old.quotas.all) }
+        ensures some { IfSome result (λ found. more (as_nanos now) (quota_in (get nat_cmp self.old.quotas.all found.0)) ≡ Some found.1) }
+        ensures after { IfSome result (λ found. get nat_cmp self.new.quotas.all found.0 ≡ Some (after_more (as_nanos now) (quota_in (get nat_cmp self.old.quotas.all found.0)))) }
+        ensures others { IfSome result (λ found. (other : ℕ) → other ≢ found.0 → get nat_cmp self.new.quotas.all other ≡ get nat_cmp self.old.quotas.all other) }
+        ensures pending { self.new.pending ≡ self.old.pending }
+    {
+        self.quotas.take_more(now)
+    }
+
+    /// Returns when the count of a principal is due.
+    pub fn more_at(&self) -> Option<Duration> {
+        let since = self.quotas.left_out_since()?;
+        Some(since.saturating_add(Duration::from_secs(1)))
+    }
+
+    /// Writes the lines that were added. A failure is reported at most once a minute, and the next call writes the
+    /// rest.
+    pub fn write<R: Files<File = File> + Print + Eprint>(&mut self, rt: &R, now: Duration)
+        ensures rest { (part : List ℕ) × (self.old.pending.unwritten ≡ part ++ self.new.pending.unwritten) }
+        ensures lost { self.new.pending.lost ≡ self.old.pending.lost }
+        ensures quotas { self.new.quotas ≡ self.old.quotas }
+    {
+        if self.pending.is_empty() {
+            return;
+        }
+        let is_written = match &mut self.file {
+            Some(file) => {
+                let is_open = file.follow(rt).is_ok();
+                self.pending.write(file.as_mut()) && is_open
+            }
+            None => self.pending.write(&mut io::writer(rt)),
+        };
+        if !is_written {
+            self.report(rt, now);
+        }
+    }
+
+    /// Opens the file again if its name has another file, or none.
+    pub fn follow<R: Files<File = File> + Eprint>(&mut self, rt: &R, now: Duration)
+        ensures pending { self.new.pending ≡ self.old.pending }
+        ensures quotas { self.new.quotas ≡ self.old.quotas }
+    {
+        let is_open = match &mut self.file {
+            Some(file) => file.follow(rt).is_ok(),
+            None => true,
+        };
+        if !is_open {
+            self.report(rt, now);
+        }
+    }
+
+    /// Returns how many lines were lost.
+    pub fn lost(&self) -> u64
+        ensures { result ≡ self.now.pending.lost }
+    {
+        self.pending.lost()
+    }
+
+    fn report<R: Eprint>(&mut self, rt: &R, now: Duration)
+        ensures pending { self.new.pending ≡ self.old.pending }
+        ensures quotas { self.new.quotas ≡ self.old.quotas }
+    {
+        if let Some(before) = self.reported {
+            if now.saturating_sub(before) < Duration::from_secs(REPORT_PAUSE) {
+                return;
+            }
+        }
+        self.reported = Some(now);
+        let lost = self.pending.lost();
+        let path = match &self.file {
+            Some(file) => file.path(),
+            None => STANDARD_OUTPUT,
+        };
+        let _ = eprintln!(rt;
+            "resetd-proxy: {path} can't be written: {lost} lines of the audit are lost, others wait"
+        );
+    }
+}
+
+fn open_file<R: Files<File = File>>(rt: &R, path: Option<String>) -> io::Result<Option<AuditFile>> {
+    let Some(path) = path else {
+        return Ok(None);
+    };
+    if path.as_str() == STANDARD_OUTPUT {
+        return Ok(None);
+    }
+    Ok(Some(AuditFile::open(rt, path)?))
+}

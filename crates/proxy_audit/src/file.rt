@@ -1,0 +1,67 @@
+//! The file of the audit.
+
+ghost use Rattle.std.specs.Prelude.{◌≡◌, OnErr};
+
+use std::fs::{File, Files, Metadata, OpenOptions};
+use std::io::ErrorKind;
+use std::os::unix::fs::{MetadataExt, OpenOptionsExt};
+use std::{fs, io};
+
+/// The file that has the audit's name. Its group may read it.
+#[derive(Drop)]
+pub struct AuditFile {
+    path: String,
+    file: File,
+    place: (u64, u64),
+}
+
+impl AuditFile {
+    /// Opens the file of a name to append to it, and makes it if there is none. A symbolic link is refused.
+    pub fn open<R: Files<File = File>>(rt: &R, path: String) -> io::Result<Self> {
+        let file = open_to_append(rt, path.as_str())?;
+        let place = place_of(&file.metadata()?);
+        Ok(AuditFile { path, file, place })
+    }
+
+    /// Opens the file again if its name has another file, or none. Errors: the file is unchanged.
+    pub fn follow<R: Files<File = File>>(&mut self, rt: &R) -> io::Result<()>
+        ensures path { self.new.path ≡ self.old.path }
+        ensures err { OnErr result (self.new ≡ self.old) }
+    {
+        if let Ok(found) = fs::metadata(rt, self.path.as_str()) {
+            if place_of(&found) == self.place {
+                return Ok(());
+            }
+        }
+        let file = open_to_append(rt, self.path.as_str())?;
+        self.place = place_of(&file.metadata()?);
+        self.file = file;
+        Ok(())
+    }
+
+    /// Returns the open file.
+    pub fn as_mut(&mut self) -> &mut File {
+        &mut self.file
+    }
+
+    /// Returns the file's name.
+    pub fn path(&self) -> &str {
+        self.path.as_str()
+    }
+}
+
+/// Returns the device and the inode of a file.
+fn place_of(found: &Metadata) -> (u64, u64) {
+    (found.dev(), found.ino())
+}
+
+fn open_to_append<R: Files<File = File>>(rt: &R, path: &str) -> io::Result<File> {
+    if let Ok(found) = fs::symlink_metadata(rt, path) {
+        if found.file_type().is_symlink() {
+            return Err(ErrorKind::InvalidInput.into());
+        }
+    }
+    let mut options = OpenOptions::new();
+    options.append(true).create(true).mode(0o640);
+    options.open(rt, path)
+}

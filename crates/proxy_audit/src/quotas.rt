@@ -1,0 +1,83 @@
+//! The quotas of all principals.
+
+ghost use Rattle.std.specs.Prelude.{◌≡◌, ◌≢◌, ℕ, All, IfOk, IfSome, IsSome, OnErr, OnOk, None, Some, false, true};
+ghost use Rattle.std.specs.BTreeMap.{get, values};
+ghost use Rattle.std.specs.Duration.{as_nanos};
+ghost use Rattle.std.specs.Ordering.{nat_cmp};
+ghost use Rattle.proxy_audit.specs.Quotas.{after_admission, after_more, has_room, is_due, more, quota_in, times_of};
+
+use crate::quota::{LineKind, Quota};
+use std::alloc::{AllocError, Global};
+use std::collections::BTreeMap;
+use std::time::Duration;
+
+/// The quotas of principals, by their roles.
+#[derive(Drop)]
+pub struct Quotas {
+    pub all: BTreeMap<u32, Quota>,
+}
+
+impl Quotas {
+    /// Returns the quotas of principals that have had no line.
+    pub fn new(alloc: Global) -> Self
+        ensures { (role : ℕ) → get nat_cmp result.all role ≡ None }
+    {
+        Quotas {
+            all: BTreeMap::new(alloc),
+        }
+    }
+
+    /// Returns whether there may be a line of this kind of a principal now. If not, it is counted. Errors: out of
+    /// memory; nothing changes.
+    pub fn admit(&mut self, role: u32, kind: LineKind, now: Duration) -> Result<bool, AllocError>
+        ensures room { IfOk result (λ is_admitted. is_admitted ≡ has_room (as_nanos now) (times_of kind (quota_in (get nat_cmp self.old.all role)))) }
+        ensures after { OnOk result (get nat_cmp self.new.all role ≡ Some (after_admission kind (as_nanos now) (quota_in (get nat_cmp self.old.all role)))) }
+        ensures others { (other : ℕ) → other ≢ role → get nat_cmp self.new.all other ≡ get nat_cmp self.old.all other }
+        ensures err { OnErr result (get nat_cmp self.new.all role ≡ get nat_cmp self.old.all role) }
+    {
+        let quota = self.all.entry(role)?.or_insert(Quota::new());
+        Ok(quota.admit(kind, now))
+    }
+
+    /// Returns a principal that lines were left out of, the first of them a second ago, and how many. Its count begins
+    /// again.
+    pub fn take_more(&mut self, now: Duration) -> Option<(u32, u64)>
+        ensures none { result ≡ None → All (λ quota. is_due (as_nanos now) quota ≡ false) (values self.old.all) }
+        ensures some { IfSome result (λ found. more (as_nanos now) (quota_in (get nat_cmp self.old.all found.0)) ≡ Some found.1) }
+        ensures after { IfSome result (λ found. get nat_cmp self.new.all found.0 ≡ Some (after_more (as_nanos now) (quota_in (get nat_cmp self.old.all found.0)))) }
+        ensures others { IfSome result (λ found. (other : ℕ) → other ≢ found.0 → get nat_cmp self.new.all other ≡ get nat_cmp self.old.all other) }
+        ensures unchanged { result ≡ None → (role : ℕ) → get nat_cmp self.new.all role ≡ get nat_cmp self.old.all role }
+    {
+        let role = self.due_role(now)?;
+        let quota = self.all.get_mut(&role)?;
+        let count = quota.take_more(now)?;
+        Some((role, count))
+    }
+
+    /// Returns a principal that lines were left out of, the first of them a second ago.
+    fn due_role(&self, now: Duration) -> Option<u32>
+        ensures some { IfSome result (λ role. IsSome (get nat_cmp self.now.all role) × (is_due (as_nanos now) (quota_in (get nat_cmp self.now.all role)) ≡ true)) }
+        ensures none { result ≡ None → All (λ quota. is_due (as_nanos now) quota ≡ false) (values self.now.all) }
+    {
+        for (role, quota) in &self.all {
+            if quota.is_due(now) {
+                return Some(*role);
+            }
+        }
+        None
+    }
+
+    /// Returns since when lines are left out that no line has counted.
+    pub fn left_out_since(&self) -> Option<Duration> {
+        let mut earliest = None;
+        for quota in self.all.values() {
+            if let Some(since) = quota.left_out_since() {
+                earliest = match earliest {
+                    Some(before) if before < since => Some(before),
+                    _ => Some(since),
+                };
+            }
+        }
+        earliest
+    }
+}
