@@ -10,3 +10,4 @@ pub mod Promises
 pub mod Session
 pub mod WorkedRun
 pub mod Server
+pub mod NextOrder

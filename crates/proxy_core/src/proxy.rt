@@ -3,7 +3,9 @@
 ghost use Rattle.std.specs.Prelude.{◌≡◌, ◌<◌, ◌↔◌, [], true, IfOk, OnErr, IsTrue, IsSome, length, filter, not};
 ghost use Rattle.proxy_core.specs.Rules.{Rules, as_sent, needs_number};
 ghost use Rattle.proxy_core.specs.Pending.{is_from};
+ghost use Rattle.std.specs.Option.{option_copied};
 ghost use Rattle.proxy_core.specs.Machine.{is_denied, is_none, lost_of, picked, picks_of};
+ghost use Rattle.proxy_core.specs.NextOrder.{next_order};
 
 use crate::choice::{choose, take_out};
 use crate::counts::{held_by, hold, release};
@@ -310,6 +312,17 @@ impl Proxy {
         ensures { IsTrue result ↔ (held connection self.now < 1) }
     {
         self.holds_fewer(connection, 1)
+    }
+
+    /// Returns the line that the next answer is to, if it is an order.
+    pub fn next_order(&self) -> Option<&[u8]>
+        ensures { option_copied result ≡ next_order self.now.flight }
+    {
+        let first = self.flight.front()?;
+        if first.is_query() {
+            return None;
+        }
+        Some(first.line())
     }
 
     /// Returns whether the last number of the proxy's client is known. While it is not, unnumbered orders
