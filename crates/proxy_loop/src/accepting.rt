@@ -1,0 +1,85 @@
+//! Connections that come.
+
+use crate::connection::Connection;
+use crate::event_loop::EventLoop;
+use crate::gateway::Gateway;
+use crate::settings::{FAILURE_PAUSE, MOST_AT_ONCE};
+use mio::net::UnixStream;
+use mio::{Interest, Registry, Token};
+use std::io;
+use std::io::ErrorKind;
+use std::time::Duration;
+
+impl<G: Gateway> EventLoop<G> {
+    /// Accepts connections of each listener that has some, up to a number of each: then others have their turn.
+    pub(crate) fn accept_all(&mut self, registry: &Registry) -> io::Result<()> {
+        if self.at.now < self.accept_at {
+            return Ok(());
+        }
+        for index in 0..self.listeners.len() {
+            self.accept_some(registry, index)?;
+        }
+        Ok(())
+    }
+
+    fn accept_some(&mut self, registry: &Registry, index: usize) -> io::Result<()> {
+        for _ in 0..MOST_AT_ONCE {
+            let Some(listener) = self.listeners.get_mut(index) else {
+                return Ok(());
+            };
+            if !listener.is_ready {
+                return Ok(());
+            }
+            let role = listener.role;
+            match listener.socket.accept() {
+                Ok((stream, _)) => self.accepted(registry, stream, role)?,
+                Err(error) => match error.kind() {
+                    ErrorKind::WouldBlock => listener.is_ready = false,
+                    ErrorKind::Interrupted | ErrorKind::ConnectionAborted => {}
+                    _ => {
+                        self.accept_at = self
+                            .at
+                            .now
+                            .saturating_add(Duration::from_millis(FAILURE_PAUSE));
+                        return Ok(());
+                    }
+                },
+            }
+        }
+        Ok(())
+    }
+
+    /// Takes a connection in this role. One more than the limit is closed at once.
+    fn accepted(
+        &mut self,
+        registry: &Registry,
+        stream: UnixStream,
+        role: Option<u32>,
+    ) -> io::Result<()> {
+        // Those whose header has not come have the limit of a principal together.
+        if !self.open_one(role)? {
+            return Ok(());
+        }
+        let place = self.connections.vacant_key();
+        let Some(number) = self.next_number(place) else {
+            self.close_one(role);
+            return Ok(());
+        };
+        let mut stream = stream;
+        let both = Interest::READABLE | Interest::WRITABLE;
+        if registry.register(&mut stream, Token(place), both).is_err() {
+            self.close_one(role);
+            return Ok(());
+        }
+        let connection = Connection::new(self.alloc, stream, number, role, self.at.now);
+        if self.connections.insert(connection).is_err() {
+            return Err(ErrorKind::OutOfMemory.into());
+        }
+        self.counts.connections = self.counts.connections.saturating_add(1);
+        if let Some(role) = role {
+            self.gateway.record_begin(self.alloc, role, self.at)?;
+        }
+        self.activate(place)?;
+        Ok(())
+    }
+}

@@ -1,0 +1,248 @@
+//! A client's connection.
+
+ghost use Rattle.std.specs.Prelude.{◌≡◌, ◌++◌, ◌∷◌, [], length, true, false, OnOk, None};
+ghost use Rattle.proxy_core.specs.declared.proxy.Admission.TheVariants.{Queued, Denied, Deferred};
+ghost use Rattle.proxy_streams.specs.Inboxes.{after_line};
+ghost use Rattle.proxy_loop.specs.Answers.{not_allowed};
+
+use crate::gateway::{Exchange, ExchangeKind, Gateway, Moment};
+use crate::recording::{Recorded, Written, record};
+use coord_types::NodeId;
+use mio::net::UnixStream;
+use proxy_core::Admission;
+use proxy_streams::{Inbox, MOST_PIECE_BYTES, Outbox, Sending};
+use std::alloc::{AllocError, Global};
+use std::collections::VecDeque;
+use std::io;
+use std::io::{ErrorKind, Read};
+use std::time::Duration;
+
+/// The answer to a line that its sender may not send, without its line feed.
+pub(crate) const NOT_ALLOWED: &[u8] = b"{\"fault\":\"NotAllowed\"}";
+
+#[derive(Drop)]
+pub(crate) struct Connection {
+    pub stream: UnixStream,
+    pub number: u64,
+    /// None until the header has come that says who the client is.
+    pub role: Option<u32>,
+    /// The bytes of that header that have come.
+    pub header: Vec<u8>,
+    /// When the connection came.
+    pub since: Duration,
+    pub inbox: Inbox,
+    outbox: Outbox,
+    /// When each of its lines was taken that has no answer.
+    pub asked: VecDeque<Duration>,
+    /// There may be bytes to read.
+    pub is_readable: bool,
+    /// The other end sends no more: what there is is read up to its end, since no further event comes.
+    pub is_closing: bool,
+    /// The input has ended.
+    pub has_ended: bool,
+    /// Its next line waits for an answer to an earlier one.
+    pub is_deferred: bool,
+    /// Its next line is a reset of a node that names an epoch, which is judged or on its way.
+    pub reset: Option<(NodeId, u64)>,
+    /// Its next line waits until no reset is judged.
+    pub is_parked: bool,
+    /// It is among those that have something to do.
+    pub is_active: bool,
+    /// Since when its client has taken none of its answers.
+    pub blocked_since: Option<Duration>,
+    pub is_watching: bool,
+    /// It is sent a view that is asked for after this many, even if no row is new.
+    pub view_after: Option<u64>,
+    /// The newest view is sent to it after all its answers.
+    pub owes_view: bool,
+}
+
+impl Connection {
+    pub fn new(
+        alloc: Global,
+        stream: UnixStream,
+        number: u64,
+        role: Option<u32>,
+        since: Duration,
+    ) -> Self {
+        Connection {
+            stream,
+            number,
+            role,
+            header: Vec::new(alloc),
+            since,
+            inbox: Inbox::new(alloc),
+            outbox: Outbox::new(alloc),
+            asked: VecDeque::new(alloc),
+            is_readable: true,
+            is_closing: false,
+            has_ended: false,
+            is_deferred: false,
+            reset: None,
+            is_parked: false,
+            is_active: false,
+            blocked_since: None,
+            is_watching: false,
+            view_after: None,
+            owes_view: false,
+        }
+    }
+
+    /// Reads once, if all that came before is in the line. Errors: out of memory.
+    pub fn fill(&mut self) -> Result<(), AllocError> {
+        if !self.inbox.is_drained() {
+            return Ok(());
+        }
+        let mut chunk = [0u8; MOST_PIECE_BYTES];
+        match self.stream.read(&mut chunk) {
+            Ok(0) => self.end_input(),
+            Ok(count) => {
+                if count < MOST_PIECE_BYTES && !self.is_closing {
+                    self.is_readable = false;
+                }
+                self.inbox.fill(&chunk[..count])?;
+            }
+            Err(error) => match error.kind() {
+                ErrorKind::WouldBlock => self.is_readable = false,
+                ErrorKind::Interrupted => {}
+                _ => self.end_input(),
+            },
+        }
+        Ok(())
+    }
+
+    fn end_input(&mut self) {
+        self.has_ended = true;
+        self.is_readable = false;
+    }
+
+    /// Returns the number of bytes of its answers that are not sent yet.
+    pub fn unsent(&self) -> usize
+        ensures { result ≡ length self.now.outbox }
+    {
+        self.outbox.len()
+    }
+
+    /// Returns how long its oldest line without an answer has waited.
+    pub fn waited(&self, now: Duration) -> Duration {
+        match self.asked.front() {
+            Some(asked) => now.saturating_sub(*asked),
+            None => Duration::ZERO,
+        }
+    }
+
+    /// Returns an exchange of its oldest line without an answer.
+    pub fn exchange<'l, 'a>(
+        &self,
+        kind: ExchangeKind,
+        line: Option<&'l [u8]>,
+        answer: &'a [u8],
+        at: Moment,
+    ) -> Exchange<'l, 'a>
+        ensures { (result.kind ≡ kind) × (result.line ≡ line.entry) × (result.answer ≡ answer.entry) × (result.at ≡ at) }
+    {
+        Exchange {
+            role: self.role.unwrap_or(0),
+            kind,
+            line,
+            answer,
+            waited: self.waited(at.now),
+            at,
+        }
+    }
+
+    /// Notes what became of its next line: one that waits for the server is taken, one that is denied is answered and
+    /// taken, and one that is deferred stays. Errors: out of memory.
+    pub fn settle<G: Gateway>(
+        &mut self,
+        alloc: Global,
+        gateway: &mut G,
+        admission: Admission,
+        at: Moment,
+    ) -> Result<(), AllocError>
+        ensures who { (self.new.number ≡ self.old.number) × (self.new.role ≡ self.old.role) }
+        ensures queued { admission ≡ Queued → OnOk result ((self.new.inbox ≡ after_line self.old.inbox) × (self.new.outbox ≡ self.old.outbox)) }
+        ensures denied { admission ≡ Denied → OnOk result ((self.new.inbox ≡ after_line self.old.inbox) × (self.new.outbox ≡ self.old.outbox ++ (not_allowed ++ 10 ∷ []))) }
+        ensures deferred { admission ≡ Deferred → OnOk result ((self.new.inbox ≡ self.old.inbox) × (self.new.outbox ≡ self.old.outbox) × (self.new.is_deferred ≡ true)) }
+    {
+        match admission {
+            Admission::Queued => {
+                self.asked.push_back(at.now)?;
+                self.inbox.drop_line();
+            }
+            Admission::Denied => {
+                self.refuse(alloc, gateway, ExchangeKind::Denied, NOT_ALLOWED, at)?;
+            }
+            Admission::Deferred => self.is_deferred = true,
+        }
+        Ok(())
+    }
+
+    /// Answers its next line itself, after all before it: the answer is recorded first. Errors: out of memory.
+    pub fn refuse<G: Gateway>(
+        &mut self,
+        alloc: Global,
+        gateway: &mut G,
+        kind: ExchangeKind,
+        answer: &[u8],
+        at: Moment,
+    ) -> Result<(), AllocError>
+        ensures sent { OnOk result (self.new.outbox ≡ self.old.outbox ++ (answer.now ++ 10 ∷ [])) }
+        ensures taken { OnOk result (self.new.inbox ≡ after_line self.old.inbox) }
+        ensures who { (self.new.number ≡ self.old.number) × (self.new.role ≡ self.old.role) }
+        ensures resumed { OnOk result (self.new.is_deferred ≡ false) }
+    {
+        let exchange = self.exchange(kind, self.inbox.line(), answer, at);
+        let recorded = record(alloc, gateway, exchange)?;
+        self.outbox.push_line(recorded.answer())?;
+        self.asked.pop_front();
+        self.inbox.drop_line();
+        self.is_deferred = false;
+        self.reset = None;
+        Ok(())
+    }
+
+    /// Takes the answer to its oldest line that has none: it is sent after all before it, and the next line may be
+    /// taken. Errors: out of memory.
+    pub fn give(&mut self, answer: &Recorded<'_>) -> Result<(), AllocError>
+        ensures sent { OnOk result (self.new.outbox ≡ self.old.outbox ++ (answer.now.answer.now ++ 10 ∷ [])) }
+        ensures taken { self.old.reset ≡ None → OnOk result (self.new.inbox ≡ self.old.inbox) }
+        ensures who { (self.new.number ≡ self.old.number) × (self.new.role ≡ self.old.role) }
+        ensures resumed { OnOk result (self.new.is_deferred ≡ false) }
+    {
+        self.outbox.push_line(answer.answer())?;
+        self.asked.pop_front();
+        if self.reset.is_some() {
+            self.inbox.drop_line();
+            self.reset = None;
+        }
+        self.is_deferred = false;
+        Ok(())
+    }
+
+    /// Appends a view to what it is sent. Errors: out of memory.
+    pub fn show(&mut self, view: &[u8]) -> Result<(), AllocError>
+        ensures sent { OnOk result (self.new.outbox ≡ self.old.outbox ++ (view.now ++ 10 ∷ [])) }
+        ensures who { (self.new.number ≡ self.old.number) × (self.new.role ≡ self.old.role) }
+    {
+        self.outbox.push_line(view)
+    }
+
+    /// Sends its answers, as far as its client takes them. Returns false if the connection has failed.
+    pub fn send<G: Gateway>(&mut self, _written: &Written<'_, G>, now: Duration) -> bool {
+        let before = self.outbox.len();
+        match self.outbox.send(&mut self.stream) {
+            Sending::Whole => {
+                self.blocked_since = None;
+                true
+            }
+            Sending::Blocked => {
+                if self.blocked_since.is_none() || self.outbox.len() < before {
+                    self.blocked_since = Some(now);
+                }
+                true
+            }
+            Sending::Failed => false,
+        }
+    }
+}

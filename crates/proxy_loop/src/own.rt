@@ -1,0 +1,161 @@
+//! What the proxy asks the server for itself: the last number of its client, and views.
+
+use crate::event_loop::EventLoop;
+use crate::gateway::Gateway;
+use crate::settings::FAILURE_PAUSE;
+use proxy_core::Admission;
+use proxy_streams::NumberSearch;
+use std::alloc::{AllocError, Global};
+use std::collections::VecDeque;
+use std::time::Duration;
+
+/// The most probes at once.
+const MOST_PROBES: u32 = 32;
+
+const SHOW: &[u8] = b"{\"op\":\"show\"}";
+
+const NUMBER_REUSED: &[u8] = b"{\"name\":\"NumberReused\",\"refused\":5}";
+
+/// A line of the proxy that has no answer.
+#[derive(Clone, Copy, Debug)]
+pub(crate) enum OwnLine {
+    /// An order with this number, which the server refuses.
+    Probe(u64),
+    /// A view.
+    Show,
+}
+
+#[derive(Drop)]
+pub(crate) struct Own {
+    /// The number of the proxy's own connection.
+    pub number: u64,
+    pub asked: VecDeque<OwnLine>,
+    pub search: Option<NumberSearch>,
+    /// The last number that was found.
+    pub last: u64,
+    pub wants_view: bool,
+    /// A view was asked for, and its answer has not come.
+    pub awaits_view: bool,
+    /// How many views were asked for.
+    pub views: u64,
+    /// When probes are sent again, after an answer that says nothing of the number.
+    pub probe_at: Duration,
+}
+
+impl Own {
+    pub fn new(alloc: Global) -> Self {
+        Own {
+            number: 0,
+            asked: VecDeque::new(alloc),
+            search: None,
+            last: 0,
+            wants_view: false,
+            awaits_view: false,
+            views: 0,
+            probe_at: Duration::ZERO,
+        }
+    }
+
+    /// Begins again as a new connection, after an answer that leaves open what became of a line.
+    pub fn begin_again(&mut self, came: &mut u64) {
+        if *came < 1 << 43 {
+            *came += 1;
+            self.number = *came << 20;
+        }
+        self.asked.clear();
+        self.search = None;
+        self.wants_view = self.wants_view || self.awaits_view;
+        self.awaits_view = false;
+    }
+}
+
+impl<G: Gateway> EventLoop<G> {
+    /// Asks for what the proxy itself wants to know.
+    pub(crate) fn ask_for_itself(&mut self) -> Result<(), AllocError> {
+        if self.wants_number() && self.at.now >= self.own.probe_at {
+            self.send_probes()?;
+        }
+        if self.own.wants_view && !self.own.awaits_view {
+            if self.ask(SHOW, OwnLine::Show)? {
+                self.own.wants_view = false;
+                self.own.awaits_view = true;
+                self.own.views = self.own.views.saturating_add(1);
+            }
+        }
+        Ok(())
+    }
+
+    /// Returns whether the last number is to be found: lines wait, perhaps unnumbered orders, and no probe is out.
+    pub(crate) fn wants_number(&self) -> bool {
+        !self.core.is_counted()
+            && self.own.asked.is_empty()
+            && !(self.core.is_idle() && self.resets.waiting.is_empty())
+    }
+
+    fn send_probes(&mut self) -> Result<(), AllocError> {
+        let mut search = match self.own.search.take() {
+            Some(search) => search,
+            None => NumberSearch::new(self.own.last),
+        };
+        for _ in 0..MOST_PROBES {
+            let number = search.try_next();
+            let line = self.gateway.probe(self.alloc, number)?;
+            self.ask(line.as_slice(), OwnLine::Probe(number))?;
+        }
+        self.own.search = Some(search);
+        Ok(())
+    }
+
+    /// Gives the core a line of the proxy. Returns whether it was taken.
+    fn ask(&mut self, line: &[u8], own_line: OwnLine) -> Result<bool, AllocError> {
+        self.own.asked.reserve(1)?;
+        let role = self.gateway.own_role();
+        let admission = self
+            .core
+            .admit(self.alloc, &self.gateway, self.own.number, role, line)?;
+        if admission == Admission::Queued {
+            self.own.asked.push_back_reserved(own_line);
+            return Ok(true);
+        }
+        Ok(false)
+    }
+
+    /// Takes an answer to a line of the proxy.
+    pub(crate) fn hear_own(&mut self, answer: &[u8]) -> Result<(), AllocError> {
+        match self.own.asked.pop_front() {
+            Some(OwnLine::Probe(number)) => {
+                self.hear_probe(number, answer);
+                Ok(())
+            }
+            Some(OwnLine::Show) => {
+                self.own.awaits_view = false;
+                self.hear_view(answer)
+            }
+            None => Ok(()),
+        }
+    }
+
+    /// Takes an answer to the order with this number that the server refuses in any case.
+    fn hear_probe(&mut self, number: u64, answer: &[u8]) {
+        if self.core.is_counted() {
+            return;
+        }
+        if answer == NUMBER_REUSED {
+            self.find(number);
+        } else if self.gateway.is_refusal(answer) {
+            self.find(number.saturating_sub(1));
+        } else if !self.gateway.refuses_number(answer) {
+            self.own.search = None;
+            self.own.probe_at = self
+                .at
+                .now
+                .saturating_add(Duration::from_millis(FAILURE_PAUSE));
+        }
+    }
+
+    fn find(&mut self, last: u64) {
+        self.core.set_last_number(last);
+        self.own.last = last;
+        self.own.search = None;
+    }
+}

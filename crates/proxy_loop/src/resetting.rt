@@ -1,0 +1,196 @@
+//! Resets that name an epoch: each goes to the server alone, right after a view by which it may go.
+
+use crate::connection::NOT_ALLOWED;
+use crate::event_loop::EventLoop;
+use crate::gateway::{ExchangeKind, Gateway, Verdict};
+use coord_types::NodeId;
+use proxy_core::Admission;
+use std::alloc::{AllocError, Global};
+use std::collections::VecDeque;
+use std::time::Duration;
+
+/// How long after a view another is asked for, while a reset waits for the end of another one, in milliseconds.
+const PAUSE: u64 = 20;
+
+/// The resets that name an epoch.
+#[derive(Drop)]
+pub(crate) struct Resets {
+    /// The places of the connections whose next line is one.
+    pub waiting: VecDeque<usize>,
+    /// The places of connections whose lines wait meanwhile.
+    pub parked: VecDeque<usize>,
+    /// No line is taken, so that nothing goes to the server between the view and the reset.
+    pub is_holding: bool,
+    /// The resets were judged by the last view.
+    pub is_judged: bool,
+    /// When the next one is judged.
+    pub judge_at: Duration,
+}
+
+impl Resets {
+    pub fn new(alloc: Global) -> Self {
+        Resets {
+            waiting: VecDeque::new(alloc),
+            parked: VecDeque::new(alloc),
+            is_holding: false,
+            is_judged: false,
+            judge_at: Duration::ZERO,
+        }
+    }
+}
+
+impl<G: Gateway> EventLoop<G> {
+    /// Takes a reset that names an epoch, the line of the connection at a place, after all answers to its earlier
+    /// lines.
+    pub(crate) fn take_reset(
+        &mut self,
+        place: usize,
+        node: NodeId,
+        epoch: u64,
+    ) -> Result<(), AllocError> {
+        let Some(connection) = self.connections.get_mut(place) else {
+            return Ok(());
+        };
+        connection.is_deferred = true;
+        if self.core.is_awaiting_nothing(connection.number) && connection.reset.is_none() {
+            self.resets.waiting.push_back(place)?;
+            connection.asked.push_back(self.at.now)?;
+            connection.reset = Some((node, epoch));
+        }
+        Ok(())
+    }
+
+    /// Keeps the line of the connection at a place until no reset is judged.
+    pub(crate) fn park(&mut self, place: usize) -> Result<(), AllocError> {
+        if let Some(connection) = self.connections.get_mut(place) {
+            if !connection.is_parked {
+                self.resets.parked.push_back(place)?;
+                connection.is_parked = true;
+            }
+        }
+        Ok(())
+    }
+
+    /// Returns when the resets that wait are judged next; None if none waits, or if a view is awaited for it.
+    pub(crate) fn judged_at(&self) -> Option<Duration> {
+        if self.resets.waiting.is_empty() || self.resets.is_holding {
+            None
+        } else {
+            Some(self.resets.judge_at)
+        }
+    }
+
+    /// Begins to judge, or asks for the view, or lets the others go on. Called before each flight.
+    pub(crate) fn prepare_resets(&mut self) -> Result<(), AllocError> {
+        if self.resets.waiting.is_empty()
+            || self.resets.is_judged
+            || self.at.now < self.resets.judge_at
+        {
+            return Ok(());
+        }
+        self.resets.is_holding = true;
+        if self.core.is_idle() && self.core.is_counted() && !self.own.awaits_view {
+            self.own.wants_view = true;
+        }
+        Ok(())
+    }
+
+    /// Judges the resets that wait by the view that was just heard: nothing was sent since it was asked for, if all that
+    /// was sent has its answer. The first one that may go goes alone.
+    pub(crate) fn judge_resets(&mut self) -> Result<(), AllocError> {
+        if !self.resets.is_holding
+            || self.resets.is_judged
+            || !self.core.is_idle()
+            || !self.core.is_counted()
+        {
+            return Ok(());
+        }
+        for _ in 0..self.resets.waiting.len() {
+            let Some(place) = self.resets.waiting.pop_front() else {
+                break;
+            };
+            if self.judge_at(place)? {
+                break;
+            }
+        }
+        self.resets.is_judged = true;
+        Ok(())
+    }
+
+    /// Judges the reset of the connection at a place. Returns whether no other may be judged by this view.
+    fn judge_at(&mut self, place: usize) -> Result<bool, AllocError> {
+        let Some(connection) = self.connections.get_mut(place) else {
+            return Ok(false);
+        };
+        let (Some((node, epoch)), Some(role)) = (connection.reset, connection.role) else {
+            return Ok(false);
+        };
+        let view = self.views.line.as_slice();
+        match self.gateway.judge_reset(self.alloc, view, node, epoch)? {
+            Verdict::Answer(answer) => {
+                let (gateway, answer) = (&mut self.gateway, answer.as_slice());
+                connection.refuse(self.alloc, gateway, ExchangeKind::Order, answer, self.at)?;
+                self.activate(place)?;
+                Ok(false)
+            }
+            Verdict::Waits => {
+                self.resets.waiting.push_back(place)?;
+                self.resets.judge_at = self.at.now.saturating_add(Duration::from_millis(PAUSE));
+                Ok(true)
+            }
+            Verdict::Goes => {
+                let Some(line) = connection.inbox.line() else {
+                    return Ok(false);
+                };
+                let number = connection.number;
+                let admission = self
+                    .core
+                    .admit(self.alloc, &self.gateway, number, role, line)?;
+                match admission {
+                    // It stays the next line until its answer comes: it may have to be judged again.
+                    Admission::Queued => {}
+                    Admission::Denied => {
+                        let gateway = &mut self.gateway;
+                        let (kind, answer) = (ExchangeKind::Denied, NOT_ALLOWED);
+                        connection.refuse(self.alloc, gateway, kind, answer, self.at)?;
+                        self.activate(place)?;
+                    }
+                    Admission::Deferred => self.resets.waiting.push_back(place)?,
+                }
+                Ok(true)
+            }
+        }
+    }
+
+    /// Lets the lines of others be taken, once the reset that may go is on its way.
+    pub(crate) fn release(&mut self) -> Result<(), AllocError> {
+        if !self.resets.is_judged || (self.in_flight == 0 && !self.core.is_idle()) {
+            return Ok(());
+        }
+        self.resets.is_judged = false;
+        self.resets.is_holding = false;
+        for _ in 0..self.resets.parked.len() {
+            let Some(place) = self.resets.parked.pop_front() else {
+                break;
+            };
+            if let Some(connection) = self.connections.get_mut(place) {
+                connection.is_parked = false;
+            }
+            self.activate(place)?;
+        }
+        Ok(())
+    }
+
+    /// Judges a reset of a connection again, whose number was refused.
+    pub(crate) fn judge_again(&mut self, place: usize) -> Result<(), AllocError> {
+        let Some(number) = self.next_number(place) else {
+            return Ok(());
+        };
+        if let Some(connection) = self.connections.get_mut(place) {
+            self.core.forget(connection.number);
+            connection.number = number;
+            self.resets.waiting.push_back(place)?;
+        }
+        Ok(())
+    }
+}

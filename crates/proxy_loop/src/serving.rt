@@ -1,0 +1,68 @@
+//! The loop itself.
+
+use crate::event_loop::EventLoop;
+use crate::gateway::{Gateway, Moment};
+use crate::ready::Ready;
+use mio::{Events, Poll, Registry};
+use std::fs::{File, Files};
+use std::io;
+use std::net::Net;
+use std::sync::Wait;
+use std::time::{Clock, SystemTime};
+
+const MOST_EVENTS: usize = 1024;
+
+/// Serves the connections of all listeners. It returns only if the system refuses a wait, or memory is out.
+pub fn serve<R: Net + Files<File = File> + AllocGlobal + Clock + Wait + Print + Eprint, G: Gateway>(
+    rt: &R,
+    event_loop: &mut EventLoop<G>,
+) -> io::Result<()> {
+    let mut poll = Poll::new(rt)?;
+    let mut events = Events::with_capacity(event_loop.alloc, MOST_EVENTS)?;
+    event_loop.register(poll.registry())?;
+    for _ in rt.forever() {
+        poll.poll(&mut events, event_loop.timeout())?;
+        event_loop.at = Moment {
+            now: rt.monotonic()?,
+            time: SystemTime::now(rt)?,
+        };
+        for event in events.iter() {
+            event_loop.note(Ready::of(event))?;
+        }
+        event_loop.refresh(rt)?;
+        event_loop.watch_signals(rt);
+        event_loop.turn(rt, poll.registry())?;
+        event_loop.report(rt)?;
+    }
+    Ok(())
+}
+
+impl<G: Gateway> EventLoop<G> {
+    /// Does what the events made possible.
+    fn turn<R: Net + Files<File = File> + AllocGlobal + Print + Eprint>(
+        &mut self,
+        rt: &R,
+        registry: &Registry,
+    ) -> io::Result<()> {
+        self.tick()?;
+        self.hear()?;
+        self.drive(rt, registry)?;
+        self.accept_all(registry)?;
+        self.step_all(rt)?;
+        self.drive(rt, registry)
+    }
+
+    /// Reports on standard error that the server answers or is away, when that changes.
+    fn report<R: Eprint>(&mut self, rt: &R) -> io::Result<()> {
+        if self.reported == self.is_answering {
+            return Ok(());
+        }
+        match self.is_answering {
+            Some(true) => eprintln!(rt; "resetd-proxy: the server answers")?,
+            Some(false) => eprintln!(rt; "resetd-proxy: no server answers")?,
+            None => {}
+        }
+        self.reported = self.is_answering;
+        Ok(())
+    }
+}

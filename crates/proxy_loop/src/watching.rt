@@ -1,0 +1,183 @@
+//! Connections that watch.
+
+use crate::event_loop::EventLoop;
+use crate::gateway::Gateway;
+use crate::settings::{BEAT, RESET_PAUSE};
+use memchr::{memchr, memmem, memrchr};
+use std::alloc::{AllocError, Global};
+use std::fs;
+use std::fs::Files;
+use std::time::Duration;
+
+/// How often the length of the file of signals is looked at while somebody watches, in milliseconds.
+const SIGNALS_PAUSE: u64 = 5;
+
+/// The view that was heard last, and when another is asked for while somebody watches.
+#[derive(Drop)]
+pub(crate) struct Views {
+    /// The server's line; empty before the first one.
+    pub line: Vec<u8>,
+    /// It was heard just now.
+    pub is_fresh: bool,
+    pub ask_at: Duration,
+    /// When the watchers are sent the view again, even if no row is new.
+    pub beat_at: Duration,
+    /// The file that the server's signals are printed to.
+    pub signals: Option<String>,
+    /// Its length, when it was looked at last.
+    pub signals_length: u64,
+    /// When it is looked at next, while somebody watches.
+    pub signals_at: Duration,
+}
+
+impl Views {
+    pub fn new(alloc: Global, signals: Option<String>) -> Self {
+        Views {
+            line: Vec::new(alloc),
+            is_fresh: false,
+            ask_at: Duration::MAX,
+            beat_at: Duration::MAX,
+            signals,
+            signals_length: 0,
+            signals_at: Duration::ZERO,
+        }
+    }
+}
+
+impl<G: Gateway> EventLoop<G> {
+    /// Takes a `watch` of the connection at a place, after all answers to its earlier lines. It gets the next view
+    /// that is asked for from now on.
+    pub(crate) fn take_watch(&mut self, place: usize) -> Result<(), AllocError> {
+        let Some(connection) = self.connections.get_mut(place) else {
+            return Ok(());
+        };
+        if !self.core.is_awaiting_nothing(connection.number) {
+            connection.is_deferred = true;
+            return Ok(());
+        }
+        connection.inbox.drop_line();
+        if !connection.is_watching {
+            self.watchers.push(place)?;
+            connection.is_watching = true;
+        }
+        connection.view_after = Some(self.own.views);
+        self.own.wants_view = true;
+        Ok(())
+    }
+
+    /// Takes a view, and sends it to the watchers to whom it is new.
+    pub(crate) fn hear_view(&mut self, answer: &[u8]) -> Result<(), AllocError> {
+        if !answer.starts_with(b"{\"accepted\":") {
+            return Ok(());
+        }
+        let is_beat = self.at.now >= self.views.beat_at;
+        let is_new = is_beat || rows_of(answer) != rows_of(self.views.line.as_slice());
+        self.views.line = Vec::from_slice(self.alloc, answer)?;
+        self.views.is_fresh = true;
+        for index in 0..self.watchers.len() {
+            let Some(place) = self.watchers.get(index).copied() else {
+                break;
+            };
+            self.show(place, is_new)?;
+        }
+        self.views.ask_at = self.at.now.saturating_add(Duration::from_millis(if is_in_reset(
+            answer,
+        ) {
+            RESET_PAUSE
+        } else {
+            BEAT
+        }));
+        if is_new {
+            self.views.beat_at = self.at.now.saturating_add(Duration::from_millis(BEAT));
+        }
+        Ok(())
+    }
+
+    /// Sends the view to the connection at a place, if it is new to it.
+    fn show(&mut self, place: usize, is_new: bool) -> Result<(), AllocError> {
+        if let Some(connection) = self.connections.get_mut(place) {
+            let is_awaited = match connection.view_after {
+                Some(views) => views < self.own.views,
+                None => is_new,
+            };
+            if is_awaited {
+                connection.view_after = None;
+                connection.owes_view = true;
+                self.activate(place)?;
+            }
+        }
+        Ok(())
+    }
+
+    /// Sends the newest view to the connection at a place, if it is owed one and has taken all before it.
+    pub(crate) fn send_view(&mut self, place: usize) -> Result<(), AllocError> {
+        if let Some(connection) = self.connections.get_mut(place) {
+            if connection.owes_view && connection.unsent() == 0 {
+                connection.owes_view = false;
+                connection.show(self.views.line.as_slice())?;
+            }
+        }
+        Ok(())
+    }
+
+    /// Asks for a view if one is due.
+    pub(crate) fn watch(&mut self) {
+        if let Some(at) = self.view_at() {
+            if self.at.now >= at {
+                self.views.ask_at = Duration::MAX;
+                self.own.wants_view = true;
+            }
+        }
+    }
+
+    /// Asks for a view if the file of signals has another length, while somebody watches.
+    pub(crate) fn watch_signals<R: Files>(&mut self, rt: &R) {
+        if self.watchers.is_empty() || self.at.now < self.views.signals_at {
+            return;
+        }
+        let Some(path) = &self.views.signals else {
+            return;
+        };
+        if let Ok(found) = fs::metadata(rt, path.as_str()) {
+            if found.len() != self.views.signals_length {
+                self.views.signals_length = found.len();
+                self.own.wants_view = true;
+            }
+        }
+        self.views.signals_at = self
+            .at
+            .now
+            .saturating_add(Duration::from_millis(SIGNALS_PAUSE));
+    }
+
+    /// Returns when the file of signals is looked at next, if somebody watches.
+    pub(crate) fn signals_at(&self) -> Option<Duration> {
+        if self.watchers.is_empty() || self.views.signals.is_none() {
+            None
+        } else {
+            Some(self.views.signals_at)
+        }
+    }
+
+    /// Returns when the next view is due, if somebody watches.
+    pub(crate) fn view_at(&self) -> Option<Duration> {
+        if self.watchers.is_empty() || self.own.wants_view || self.own.awaits_view {
+            None
+        } else {
+            Some(self.views.ask_at)
+        }
+    }
+}
+
+/// Returns the rows of nodes and links of a view, which stand between its counts.
+fn rows_of(view: &[u8]) -> &[u8] {
+    match (memchr(b',', view), memrchr(b',', view)) {
+        (Some(begin), Some(end)) => view.get(begin..end).unwrap_or(view),
+        _ => view,
+    }
+}
+
+/// Returns whether a node takes part in a reset.
+fn is_in_reset(view: &[u8]) -> bool {
+    memmem::find(view, b"\"abort\"").is_some() || memmem::find(view, b"\"converge\"").is_some()
+}
