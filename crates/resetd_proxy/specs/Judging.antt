@@ -1,0 +1,33 @@
+-- What a view says of a reset that names an epoch.
+use Rattle.std.specs.Prelude.{◌≡◌, ℕ, ◌==◌, not, Bool, true, false, List, Option, Some, None, Result, Ok, Err, find, if◌then◌else◌}
+use Rattle.std.specs.List.{list_all}
+use Rattle.coord_types.specs.declared.messages.Mode.{Mode}
+use Rattle.coord_types.specs.declared.messages.Mode.TheVariants.{Ready, Abort, Converge}
+use Rattle.coord_types.specs.declared.refusals.Refusal.TheVariants.{UnknownNode, BadEpoch}
+use Rattle.coord_view.specs.declared.view.NodeView.{NodeView}
+use Rattle.coord_view.specs.Shown.{Shown}
+use Rattle.resetd_proxy.specs.declared.judging.Judged.{Judged}
+use Rattle.resetd_proxy.specs.declared.judging.Judged.TheVariants.{Goes, Waits, Joined, Refused}
+
+abbrev pub is_of : ℕ → NodeView → Bool
+is_of node row = row.node == node
+
+abbrev pub is_ready_mode : Mode → Bool
+is_ready_mode Ready = true
+is_ready_mode Abort = false
+is_ready_mode Converge = false
+
+-- the node takes part in no reset
+abbrev pub is_outside : NodeView → Bool
+is_outside row = is_ready_mode row.mode
+
+-- the node has another epoch, or a reset has begun at it, or one is under way elsewhere, or the reset goes
+abbrev pub judged_of : Shown → ℕ → Option NodeView → Judged
+judged_of v epoch None = Refused UnknownNode
+judged_of v epoch (Some row) =
+    if not (row.epoch == epoch) then Refused BadEpoch
+    else (if not (is_outside row) then Joined v.settled
+    else (if list_all is_outside v.nodes then Goes else Waits))
+
+abbrev pub judged_by : Shown → ℕ → ℕ → Judged
+judged_by v node epoch = judged_of v epoch (find (is_of node) v.nodes)
