@@ -175,9 +175,10 @@ class Arguments(unittest.TestCase):
 
     def test_wrong_arguments(self) -> None:
         whole = ["serve", "--server", "127.0.0.1:1", "--policy", "/dev/null", "--listen", "a=/nowhere/a"]
-        for arguments in ([], ["serve"], ["frobnicate"], [*whole, "--patience", "0"], [*whole, "--patience", "-1"], [*whole, "--stuck", "x"],
-                          [*whole, "--listen", "a b=/nowhere/b"], [*whole, "--listen", "b"], [*whole, "--connections", "x"],
-                          [*whole, *["--server", "127.0.0.1:1"] * 8]):
+        wrong: list[list[str]] = [
+            [], ["serve"], ["frobnicate"], [*whole, "--patience", "0"], [*whole, "--patience", "-1"], [*whole, "--stuck", "x"],
+            [*whole, "--listen", "a b=/nowhere/b"], [*whole, "--listen", "b"], [*whole, "--connections", "x"], whole + ["--server", "127.0.0.1:1"] * 8]
+        for arguments in wrong:
             self.assertEqual(self.status(*arguments), 2, arguments)
         self.assertEqual(self.status(*whole), 1)
         self.assertEqual(self.status(*whole[:4], "/nowhere/policy"), 1)
