@@ -1,4 +1,4 @@
-use Rattle.std.proofs.Common.{◌≡◌, List, [], ◌∷◌, ◌++◌, codes, rules, sym, ap, ◌∙◌, append_assoc}
+use Rattle.std.proofs.Common.{◌≡◌, List, [], ◌∷◌, ◌++◌, codes, sym, ap, ◌∙◌, append_assoc}
 use Rattle.std.proofs.lemmas.Result.{on_ok_weaker}
 use Rattle.std.specs.Duration.{as_nanos}
 use Rattle.json.specs.Json.{Members}
@@ -13,7 +13,7 @@ pub returns-in_ok-write_text-in-Unanswered-clause-ok : goal.returns-in_ok-write_
 returns-in_ok-write_text-in-Unanswered-clause-ok c =
     let name : List Token = token.key (codes "event") ∷ token.string (codes "unanswered") ∷ [] in
     let rest : Members = who_member c.in-Unanswered.who.now (line_member c.in-Unanswered.line (seconds_member (as_nanos c.in-Unanswered.waited))) in
-    let named : c.write_text-in-Unanswered.new.writer.tokens ≡ c.args.writer.now.tokens ++ name = search rules in
+    let named : c.write_text-in-Unanswered.new.writer.tokens ≡ c.args.writer.now.tokens ++ name = c.in_ok-write_text-in-Unanswered.ensures.ok in
     on_ok_weaker c.write_unanswered.result
     (λ (e : c.write_unanswered.new.writer.tokens ≡ c.write_text-in-Unanswered.new.writer.tokens ++ members_tokens rest). e
     ∙ ap (λ (ts : List Token). ts ++ members_tokens rest) named
