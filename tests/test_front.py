@@ -12,6 +12,7 @@ FOLDER = f"{ROOT}/client/tests_front"
 
 class Files(Run):
     takes = 15
+    environment = {"RESETD_PROXY": ""}  # or the files would try it in the place of the front
 
     def files(self, *names: str) -> None:
         for name in names:
@@ -67,6 +68,16 @@ class BeforeMembers(Files):
 
     def test_the_shipped_policy(self) -> None:
         self.files("test_shipped_policy")
+
+
+class Proxy(Files):
+    """`resetd-proxy` before the program."""
+
+    programs = ("RESETD", "RESETD_PROXY")
+    environment: dict[str, str] = {}
+
+    def test_the_proxy(self) -> None:
+        self.files("test_proxy")
 
 
 del Files, Run  # or their tests would be found here once more

@@ -34,11 +34,12 @@ def failures_in(printed: str) -> str:
 class Run(Case):
     takes = 60
     most = 3_600
+    environment: dict[str, str] = {}  # of its commands, beside that of the tests
 
     def expect(self, *words: str, ends_with: str = "") -> str:
         """The command ends well in time, and its last line begins so."""
         run = subprocess.Popen(words, stdin=subprocess.DEVNULL, stdout=subprocess.PIPE, stderr=subprocess.STDOUT, text=True,
-                               cwd=ROOT, env={**os.environ, "RESETD": PROGRAM, "TMPDIR": self.folder},
+                               cwd=ROOT, env={**os.environ, "RESETD": PROGRAM, "TMPDIR": self.folder, **self.environment},
                                start_new_session=True)
         is_late = False
         try:
