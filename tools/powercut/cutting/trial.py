@@ -96,8 +96,8 @@ class Trial:
             self.controls["no flushes"] = f"not tried: {self._of.kind} has no option to send none"
         else:
             self._control("no flushes", self._without_flushes)
-        for name, options in self._of.lossy.items():
-            self._control(name, partial(self._with_options, name.replace(" ", "-"), options))
+        for name, lossy in self._of.lossy.items():
+            self._control(name, partial(self._with_options, name.replace(" ", "-"), lossy))
         for number, name in enumerate(MUTANTS, 1) if self._setting.wrong is not None else ():
             if name in self._of.harmless:
                 self.controls[name] = f"not tried: {self._of.harmless[name]}"
