@@ -14,7 +14,7 @@ WHAT_TO_DO = {
     Refusal.OUT_OF_MEMORY: "the same order again",
     Refusal.EXHAUSTED: "this store takes no further step: make a new one",
     Refusal.OUT_OF_TURN: "the client lost its count, or the store is an older copy: find the count (`resetctl count`)",
-    Refusal.NUMBER_REUSED: "two send as one client, or one has forgotten what it sent: the same",
+    Refusal.NUMBER_REUSED: "two processes send as one client, or the client lost its count: find the count (`resetctl count`)",
     Refusal.UNKNOWN_NODE: "look at `show`",
     Refusal.HAS_LINKS: "drop its links first",
     Refusal.OTHER_GROUP: "a node changes its group by being removed and added",

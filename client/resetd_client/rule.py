@@ -50,8 +50,8 @@ class Shown(NamedTuple):
 
 
 class Judged(NamedTuple):
-    """The due action, and what must be on disk before it: the stored values, and before them the digest for the history, if any.
-    A member that is to begin loads the common start and then stores the epoch as begun."""
+    """The due action. Before acting, the member appends `digest` to its history, if there is one, and then stores `kept`. To
+    begin, it then loads the common start, and after that stores the epoch as begun."""
 
     due: Due
     kept: Kept

@@ -138,7 +138,7 @@ class Served:
     """A member's side of a gateway: its folder, and the gateway's instructions."""
 
     def __init__(self, folder: str) -> None:
-        """`folder` is FOLDER/NAME in the gateway's FOLDER."""
+        """`folder` is the member's own folder: NAME, inside the gateway's FOLDER."""
         os.makedirs(folder, exist_ok=True)
         self._folder, self._name = os.path.abspath(folder), os.path.basename(os.path.abspath(folder))
         self._told = ""

@@ -79,7 +79,7 @@ class View:
             tuple(Link(int(a), int(b), int(inc)) for a, b, inc, *_ in answer["links"]))
 
     def members(self) -> dict[str, Any]:
-        """Returns the members of the answer that gives this view."""
+        """Returns this view as the JSON members of a `show` answer."""
         return {"accepted": self.accepted, "links": [list(link) for link in self.links],
                 "nodes": [list(node) for node in self.nodes], "settled": self.settled}
 

@@ -326,7 +326,7 @@ class Upstream:
 
 
 def members_of(text: bytes) -> dict[str, Any]:
-    """Returns the members of an answer, except of a view. Raises ValueError."""
+    """Returns the JSON members of an answer; none for a view. Raises ValueError if it isn't a JSON object."""
     if text.startswith(b'{"accepted":'):
         return {}
     answer = json.loads(text)

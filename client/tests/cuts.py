@@ -54,7 +54,8 @@ class End(BaseException):
 
 
 class Disk:
-    """The current bytes, and those that a power cut may leave. `left` is how many steps the process has."""
+    """The current bytes of each file, and those that a power cut may leave. `left` is the number of steps that the process makes
+    before it is killed."""
 
     def __init__(self, rng: random.Random, without: str) -> None:
         self.rng, self.without = rng, without

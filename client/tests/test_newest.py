@@ -169,7 +169,7 @@ class Looks(unittest.TestCase):
         return before, after
 
     def starts_heard_of(self, behind_the_loss: list[View]) -> int:
-        """How many starts of member 2 member 1 hears of in one run."""
+        """Returns the number of starts of member 2 whose messages member 1 accepts in one run."""
         before, after = self.views()
         heard, names = set[int](), iter(range(1, 9))
         first = Judged()

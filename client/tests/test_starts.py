@@ -57,7 +57,7 @@ class Kept(Case):
         self.assertEqual(read(f"{self.folder}/start.history"), f"{DIGEST}\n")
 
     def test_a_party_comes_only_once(self) -> None:
-        """Another start does not talk by it, and none is begun for it."""
+        """A later start asks for a reset if an earlier one talked with this party: it doesn't talk, and nothing is begun."""
         shelf, starts = self.begun(4)
         self.due(starts, THROUGH)
         shelf.keep()

@@ -51,7 +51,7 @@ class Units(unittest.TestCase):
         self.folder = temporary.name
 
     def unit(self, name: str) -> configparser.ConfigParser:
-        """A unit; of a setting that occurs several times, the last one."""
+        """Parses a shipped unit file. If a setting occurs several times, the last one counts."""
         parser = configparser.ConfigParser(strict=False, interpolation=None, comment_prefixes=("#",))
         parser.optionxform = str  # type: ignore[assignment]
         parser.read_string(shipped(name).replace("\\\n", " "))

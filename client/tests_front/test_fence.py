@@ -139,7 +139,7 @@ class Workers(Case):
         self.assertEqual({process.poll() for process in processes}, {1})
 
     def copy_store(self) -> bytes:
-        """The server ends for a moment, and its store with it is copied."""
+        """Kills the server, copies its store, and starts it again."""
         self.server.kill()
         copy = pathlib.Path(self.server.store).read_bytes()
         self.server.start()

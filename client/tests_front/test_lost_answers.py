@@ -52,7 +52,7 @@ class Lost(unittest.TestCase):
         self.addCleanup(self.front.kill)
 
     def connect(self) -> Client:
-        """A connection of which a first look was answered, so that the count of the front is known."""
+        """Returns a connection whose first order has been answered, so that the front knows the number of its own last order."""
         client = self.front.connect()
         self.addCleanup(client.close)
         client.ask(op="confirm", node=1, epoch=9)

@@ -83,7 +83,7 @@ class Wave:
             if match:
                 act(self, *(int(word) if word.isdigit() else word for word in match.groups("")))
                 return
-        raise Unknown("no line of the drill or of the server")
+        raise Unknown("not an output line of `resetd drill` or `resetd serve`")
 
     def begin(self, step: int, kind: str) -> None:
         modes = dict(self.all_columns[-1].modes) if self.all_columns else {}

@@ -587,7 +587,7 @@ def of_kills(tried: Tried) -> None:
         tried.calls.die_at(0)
         if not has_died:
             if call == 1:
-                raise Failed("a reset: it changes no file")
+                raise Failed("a reset: the member changed no file")
             return
         tried.kills += 1
         tried.kill()
