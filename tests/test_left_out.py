@@ -37,7 +37,7 @@ class LeftOut(Case):
         return ran.stdout.splitlines()[-4:]
 
     def test_each_lack_has_a_line(self) -> None:
-        lines = self.run_tests("test_types_of_all_programs", "test_go_without_the_library", PATH=self.folder, CI="1")
+        lines = self.run_tests("test_types_of_all_programs", "InOtherLanguages.test_go_without_the_library", PATH=self.folder, CI="1")
         self.assertEqual(lines[:2], ["left out for lack of Go: 1 test", "left out for lack of mypy: 1 test"])
         self.assertEqual(lines[3], "0 passed, 0 failed")
 
