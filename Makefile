@@ -121,12 +121,13 @@ ZSH_COMPLETIONS = $(DESTDIR)$(PREFIX)/share/zsh/vendor-completions
 # What stands below share/resetd has the places of the repository, so that each part finds the others.
 install: $(PROGRAM) $(if $(wildcard lib/libresetd_member.so),install-lib)
 	install -D -m 755 $(PROGRAM) $(DESTDIR)$(PREFIX)/bin/resetd
-	install -d $(SHARE)/client/resetd_client/control $(SHARE)/client/resetd_front $(SHARE)/tools/picture $(SHARE)/examples $(SHARE)/docs
-	install -m 755 client/resetctl client/resetd-front $(SHARE)/client/
+	install -d $(SHARE)/client/resetd_client/control $(SHARE)/client/resetd_front $(SHARE)/client/resetd_page $(SHARE)/tools/picture $(SHARE)/examples $(SHARE)/docs
+	install -m 755 client/resetctl client/resetd-front client/resetd-page $(SHARE)/client/
 	install -m 644 client/pyproject.toml client/build_wheel.py $(SHARE)/client/
 	install -m 644 client/resetd_client/*.py client/resetd_client/py.typed $(SHARE)/client/resetd_client/
 	install -m 644 client/resetd_client/control/*.py $(SHARE)/client/resetd_client/control/
-	install -m 644 client/resetd_front/*.py client/resetd_front/py.typed client/resetd_front/page.html $(SHARE)/client/resetd_front/
+	install -m 644 client/resetd_front/*.py client/resetd_front/py.typed $(SHARE)/client/resetd_front/
+	install -m 644 client/resetd_page/*.py client/resetd_page/py.typed client/resetd_page/page.html $(SHARE)/client/resetd_page/
 	install -m 755 tools/wave tools/container $(SHARE)/tools/
 	install -m 644 tools/picture/*.py $(SHARE)/tools/picture/
 	install -m 755 examples/ask examples/gateway examples/local_check examples/member examples/plain_member examples/run examples/service examples/talk examples/worker $(SHARE)/examples/
@@ -141,6 +142,7 @@ install: $(PROGRAM) $(if $(wildcard lib/libresetd_member.so),install-lib)
 	for unit in resetd-member@.service resetd-front.service; do sed 's|/usr/local/|$(PREFIX)/|' examples/$$unit > $(SHARE)/examples/$$unit; done
 	ln -sfn ../share/resetd/client/resetctl $(DESTDIR)$(PREFIX)/bin/resetctl
 	ln -sfn ../share/resetd/client/resetd-front $(DESTDIR)$(PREFIX)/bin/resetd-front
+	ln -sfn ../share/resetd/client/resetd-page $(DESTDIR)$(PREFIX)/bin/resetd-page
 	install -d $(BASH_COMPLETIONS) $(ZSH_COMPLETIONS)
 	client/resetctl completion bash > $(BASH_COMPLETIONS)/resetctl
 	client/resetctl completion zsh > $(ZSH_COMPLETIONS)/_resetctl
@@ -181,7 +183,7 @@ bin/resetd-trial:
 	@tools/program --trial > /dev/null
 
 uninstall:
-	rm -f $(DESTDIR)$(PREFIX)/bin/resetd $(DESTDIR)$(PREFIX)/bin/resetctl $(DESTDIR)$(PREFIX)/bin/resetd-front
+	rm -f $(DESTDIR)$(PREFIX)/bin/resetd $(DESTDIR)$(PREFIX)/bin/resetctl $(DESTDIR)$(PREFIX)/bin/resetd-front $(DESTDIR)$(PREFIX)/bin/resetd-page
 	rm -f $(foreach page,resetd resetctl resetd-front,$(DESTDIR)$(PREFIX)/share/man/man8/$(page).8)
 	rm -f $(BASH_COMPLETIONS)/resetctl $(ZSH_COMPLETIONS)/_resetctl
 	rm -f $(foreach file,lib/libresetd_member.a lib/libresetd_member.so lib/pkgconfig/resetd_member.pc include/resetd_member.h,$(DESTDIR)$(PREFIX)/$(file))

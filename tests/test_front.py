@@ -47,6 +47,9 @@ class Front(Files):
     def test_the_page(self) -> None:
         self.files("test_page")
 
+    def test_the_page_as_a_program(self) -> None:
+        self.files("test_page_program")
+
     def test_silent_servers(self) -> None:
         self.files("test_silent_servers")
 
