@@ -86,7 +86,7 @@ class PageProgram(Case):
         self.front.kill()
         self.first(states, lambda state: not state["up"])
         self.front.start()
-        self.first(states, lambda state: state["up"])
+        self.first(states, lambda state: bool(state["up"]))
 
     def test_another_host_name_is_refused(self) -> None:
         for host in ("evil.example", "127.0.0.1.evil.example", "evil.example:4173", ""):
