@@ -19,7 +19,7 @@ pub record GoodTexts : Type 0 where
       ≡ Ok (record { half = 32768; nodes = node 1 2 ∷ node 2 2 ∷ []; links = link 2 1 ∷ [] })
   pub repeated : reading (codes "node = [{id = 64, group = 16}, {id = 64, group = 16}]") ≡ Ok (record { half = 65536; nodes = node 64 16 ∷ node 64 16 ∷ []; links = [] })
 
--- an unknown key, a missing key, and a surplus key
+-- an unknown key, a missing key, and an extra key
 pub record WrongKeys : Type 0 where
   pub unknown : reading (codes "halves = 1") ≡ Err BadKey
   pub missing : reading (codes "half = 1\n[[node]]\nid = 1\n") ≡ Err BadKey

@@ -1,5 +1,5 @@
-//! Worked examples of texts: functions without a body whose contracts are computed
-//! through the definitions.
+//! Worked examples: functions without a body whose contracts state the results for some texts,
+//! computed through the definitions.
 
 ghost use Rattle.coord_config.specs.WorkedTexts.{GoodTexts, WrongKeys, WrongTexts, WrongValues};
 
@@ -9,7 +9,7 @@ pub fn good_texts()
     ensures { GoodTexts }
 {}
 
-/// An unknown key, a missing key, and a surplus key.
+/// An unknown key, a missing key, and an extra key.
 #[tactic(auto, using(crate::proofs::Computes::keys_compute))]
 pub fn wrong_keys()
     ensures { WrongKeys }
