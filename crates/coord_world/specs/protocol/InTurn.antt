@@ -1,11 +1,12 @@
--- Steps that are accepted one after another.
+-- Steps that a world accepts one after another.
 use Rattle.std.specs.Prelude.{◌≡◌, List, ◌∷◌, ◌++◌}
 use Rattle.coord_types.specs.declared.steps.Step.{Step}
 use Rattle.coord_world.specs.protocol.NumberedWorld.{World}
 use Rattle.coord_world.specs.protocol.Next.{fold}
 use Rattle.coord_world.specs.protocol.Acceptance.{IsFresh}
 
--- each step is fresh over the fold of the steps before it, with the fold of some of these, without a gap, as settled
+-- Each step is fresh over the world after the steps before it, where the settled world is the world after some of the
+-- first of these steps
 abbrev pub InTurn : World → List Step → Type 0
 InTurn w steps =
     (before rest : List Step) (s : Step) → steps ≡ before ++ s ∷ rest →
