@@ -65,7 +65,7 @@ infixr 20 ◌&◌
 abbrev pub ◌&◌ : {A B : Type 0} → Format A → Format B → Format (A × B)
 f & g = followed f (λ _. g)
 
--- a value made of parts that have a format
+-- the format of a value that is made from parts: `make` makes it, and `parts` takes it apart
 abbrev pub made : {A B : Type 0} → (A → B) → (B → A) → Format A → Format B
 made make parts f = record {
   text = λ y. f.text (parts y);

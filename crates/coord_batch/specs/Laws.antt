@@ -6,8 +6,8 @@ use Rattle.coord_batch.specs.Decoding.{decoded, fault_at, is_version}
 use Rattle.coord_batch.specs.Steps.{batch, step}
 use Rattle.coord_batch.specs.declared.fault.FaultKind.TheVariants.{Short, Extra}
 
--- no encoding of a step is a prefix of another step's, and likewise for batches: bytes that begin with an encoding
--- determine the value
+-- no encoding of a step is a prefix of another step's encoding, and no encoding of a batch is a prefix of another
+-- batch's: bytes that begin with an encoding determine the value
 abbrev pub StepsArePrefixFree : Type 0
 StepsArePrefixFree = (version : ℕ) (s t : Step) (rest more : List ℕ) → StepFits version s → StepFits version t → (step version).text s ++ rest ≡ (step version).text t ++ more → (s ≡ t) × (rest ≡ more)
 

@@ -1,4 +1,4 @@
--- The results of the program's readers.
+-- The results of the program's readers, compared with the formats that they read.
 use Rattle.std.specs.Prelude.{◌≡◌, ℕ, List, Result, Ok, Err}
 use Rattle.coord_batch.specs.declared.fault.Flaw.{Flaw}
 use Rattle.coord_batch.specs.Format.{Read}
@@ -10,8 +10,8 @@ abbrev pub FailsToRead : {Y : Type 0} → ReadError → Result Y Flaw → Type 0
 FailsToRead errors.Memory read = Unit {0}
 FailsToRead (errors.Flaw f) read = read ≡ Err f
 
--- A reader's result, seen through `view`, and the bytes that it leaves are those of the format's `read`, unless memory
--- ran out.
+-- A reader returns, seen through `view`, the value that the format's `read` returns, and leaves the same remaining
+-- bytes, unless memory ran out.
 abbrev pub ReadsSpelled : {X Y : Type 0} → (X → Y) → Result X ReadError → Read Y → List ℕ → Type 0
 ReadsSpelled view (Ok x) read left = read ≡ Ok (view x, left)
 ReadsSpelled view (Err e) read left = FailsToRead e read

@@ -9,14 +9,14 @@ ghost use Rattle.coord_disk.specs.Disks.Left.{IsLeft};
 use crate::Choice;
 use crate::history::{Entry, History};
 
-// Returns whether the `len` bytes from `at` on include the place.
+// Tests whether the `len` bytes from `at` on include the place.
 fn covers(at: u64, len: u64, place: u64) -> bool
     ensures { result ≡ (nat_le at place && nat_lt place (at + len)) }
 {
     at <= place && place - at < len
 }
 
-// Returns whether the place was written since the last sync.
+// Tests whether the place was written since the last sync.
 fn is_written(entries: &[Entry], place: u64) -> bool
     ensures { (first : List ℕ) → result ≡
         is_within (replayed (whole first) entries.now).written place }

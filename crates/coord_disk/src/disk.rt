@@ -32,13 +32,14 @@ pub trait Disk: Drop {
         ensures call { Writes model at bytes.now self.old self.new result }
         ensures cause { HasCause (model.failures self.old) (model.failures self.new) result };
 
-    /// Makes everything written durable: after it, a crash leaves the bytes that a read gives. A
-    /// failed sync adds no outcome of a crash.
+    /// Makes all written bytes durable: after it, a crash leaves the bytes that a read gives. After
+    /// a failed sync, a crash can leave only bytes that it could have left before.
     fn sync(&mut self) -> Result<(), DiskFault>
         ensures call { Syncs model self.old self.new result }
         ensures cause { HasCause (model.failures self.old) (model.failures self.new) result };
 
-    /// The images that a crash might have left agree with those that it may leave now.
+    /// The model is consistent: the images since a moment include the images of the present
+    /// content.
     ghost laws: { IsModel model };
 }
 

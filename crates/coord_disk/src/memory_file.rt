@@ -20,8 +20,8 @@ pub struct Syncs {
     pub folder: u64,
 }
 
-/// A raw file in memory. Each sync makes durable only what it promises to. The file counts its
-/// syncs, and fails a call if it runs out of memory.
+/// A raw file in memory. Each sync makes durable only the bytes that its contract promises. The
+/// file counts its syncs, and fails a call if it runs out of memory.
 #[derive(Drop)]
 pub struct MemFile {
     disk: MemDisk,

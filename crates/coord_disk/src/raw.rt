@@ -1,4 +1,4 @@
-//! A file of the system, and what it may keep of the written and synced bytes.
+//! The trait of a raw file of the operating system, and the model that it may keep.
 
 ghost use Rattle.std.specs.Prelude.{◌≡◌, ◌+◌, ◌<◌, ◌^◌, true, false, Bool, [], length, is_ok};
 ghost use Rattle.coord_disk.specs.Model.Calls.{HasBytes, Measures, Reads, Syncs, Writes};
@@ -67,7 +67,8 @@ pub trait RawFile: Drop {
         ensures call { Enters model is_entered self.old self.new result }
         ensures made { made self.old SyncFolder (is_ok result) self.new };
 
-    /// The images that a crash might have left agree with those that it may leave now.
+    /// The model is consistent: the images since a moment include the images of the present
+    /// content.
     ghost laws: { IsModel model };
 
     /// As long as the file's entry in its folder is not synced, none of its bytes is.

@@ -18,7 +18,7 @@ use crate::{Contents, Journal, JournalFault};
 use coord_disk::Disk;
 use std::alloc::Global;
 
-/// Where a text ends on its device: the size of a half, the selected half, and the number of bytes
+/// The end of a text on its device: the size of a half, the selected half, and the number of bytes
 /// used in it.
 #[derive(Clone, Copy)]
 struct Place {
@@ -27,7 +27,7 @@ struct Place {
     used: u64,
 }
 
-// Reads the text of a journal: where it ends, and its content.
+// Reads the text of a journal. Returns the end of the text, and its content.
 fn read_text(alloc: Global, bytes: &[u8]) -> Result<(Place, Contents<'_>), JournalFault>
     ensures text { IfOk result (λ read. IsTextAt bytes.now (content_of read.1) read.0.half_size
         (half_number read.0.half) read.0.used) }

@@ -2,8 +2,8 @@
 //!
 //! `specs/Lines.antt` defines the lines of a text. A `LineBuffer` holds one line while its bytes
 //! arrive. The main theorem is [`pieces_have_the_lines_of_the_whole`], stated in `specs/Laws.antt`:
-//! whatever the pieces in which a text arrives, they have the lines of the whole text. If writing a
-//! text fails, a prefix of it was written (`specs/Written.antt`).
+//! a text that arrives in pieces has the lines of the whole text, whatever the pieces are. If
+//! writing a text fails, a prefix of it was written (`specs/Written.antt`).
 #![tactic(auto)]
 
 mod laws;

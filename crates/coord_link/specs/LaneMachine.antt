@@ -50,7 +50,7 @@ front_of l = front_in l.base l.queue
 abbrev pub Tests : Type 0
 Tests = List (Bool × Refusal)
 
--- the refusal of the first test that holds
+-- the refusal of the first test that holds, or Ok v if none holds
 abbrev pub refused_or : {V : Type 0} → V → Tests → Result V Refusal
 refused_or v [] = Ok v
 refused_or v (t ∷ ts) = if t.0 then Err t.1 else refused_or v ts

@@ -3,8 +3,8 @@
 ghost use Rattle.std.specs.Prelude.{◌≡◌, Some, None, if◌then◌else◌};
 ghost use Rattle.coord_member.specs.Fence.{admits, new_gate, passed};
 
-/// The gate of a resource: what it keeps about the fences that it has accepted, besides the tag of
-/// the last one.
+/// The gate of a resource: the counts that it keeps of the fences that it has accepted. The
+/// resource also keeps the tag of the last one.
 #[derive(Clone, Copy, PartialEq, Eq, Debug)]
 pub struct Gate {
     /// The greatest count that was accepted before the last change of the tag: a fence with the

@@ -182,7 +182,7 @@ fn was_before(now: &[Entry], history: &[Vec<Entry>]) -> bool
 
 /// Applies the rule to a view. The returned state must be on disk before the member acts. A party
 /// must be in the history on disk before it is recorded as the start's own, and a begin must leave
-/// neither work nor party on disk.
+/// no work and no party on disk.
 #[tactic(auto, using(crate::proofs::Changed::changed_is))]
 pub fn judge(alloc: Global, kept: Kept, row: Row, now: Vec<Entry>) -> Result<Judged, AllocError>
     ensures due { IfOk result (λ judged. judged.due ≡ due kept row now.items) }

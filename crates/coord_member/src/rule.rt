@@ -24,7 +24,7 @@ pub enum Due {
 /// The change of the stored values before the due action.
 #[derive(Clone, Copy, PartialEq, Eq, Debug)]
 pub enum Change {
-    /// The stored values stay.
+    /// The stored values do not change.
     Keeps,
     /// No work is begun any more, and the start has no party. Both are stored in one write, or
     /// after the work itself is discarded.

@@ -30,7 +30,6 @@ pub record IsOnce (c : ℕ) (base : World) (first : ℕ) (e : Exchange) : Type 0
   -- no answer to the awaited line means a lost count
   pub counted : (k : ℕ) (g : Given) → slice_get e.answers k ≡ Some g → e.book.awaited ≡ Some g.serial → meaning_of g.answer ≢ CountLost
 
--- for any base world and any list of events, if the client's last number at the beginning is the one that the world has
--- for it
+-- `IsOnce` holds for any base world and any list of events, if the client begins with its last number in that world
 abbrev pub ExactlyOnce : Type 0
 ExactlyOnce = (c : ℕ) (base : World) (events : List Event) → IsOnce c base (last_number (get base.sessions c)) (run c base (begun (last_number (get base.sessions c))) events)

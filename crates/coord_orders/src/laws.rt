@@ -12,8 +12,8 @@ pub fn exactly_once()
     ensures { ExactlyOnce }
 {}
 
-/// A probe with any number changes nothing, and its refusal shows whether the number is the
-/// client's last one, the next one or another one.
+/// If the client's last order is not a probe, a probe with any number changes nothing, and its
+/// refusal shows whether the number is the client's last one, the next one or another one.
 #[tactic(auto, using(crate::proofs::FoundCount::count_is_found))]
 pub fn count_is_found()
     ensures { CountIsFound }

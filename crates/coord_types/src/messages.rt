@@ -44,7 +44,8 @@ pub enum Msg {
     /// number of links between the receiver and the node that began the reset. In version 1 it
     /// carries 0.
     Abort(u64),
-    /// The reset has reached the sender and every node that the sender passed it to.
+    /// The sender acknowledges an Abort. If the receiver is its parent, every node to which the
+    /// sender passed the reset has acknowledged it too.
     Ack,
     /// The reset is over.
     Ready,

@@ -16,8 +16,8 @@ use std::alloc::Global;
 pub enum ReadFault {
     /// Memory ran out.
     OutOfMemory,
-    /// The line is neither a reply to an order nor a refusal of one: it is a fault, or not a line
-    /// of the server.
+    /// The line is not a reply to an order or a refusal of one: it is a fault, or not a line of the
+    /// server.
     NoAnswer,
 }
 

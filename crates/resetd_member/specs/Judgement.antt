@@ -73,7 +73,7 @@ begun_at (Some epoch) (Some e) = if epoch == e then Some epoch else None
 abbrev pub first_known : Start → List Entry → Option (List Entry)
 first_known kept party = option_map (λ lines. known lines.items party) kept.party
 
--- the required text of the file of the start after this change; empty if the file stays as it is
+-- the required text of the file of the start after this change; empty if the file does not change
 abbrev pub start_after : ℕ → Option ℕ → List (String Global) → ℕ → Change → List ℕ
 start_after node begun lines settled Keeps = []
 start_after node begun lines settled Drops = start_text node None None None

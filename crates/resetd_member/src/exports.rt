@@ -191,7 +191,7 @@ pub extern "C" fn resetd_order_line(
     give(line_for(alloc, *orders, client), out, length)
 }
 
-/// Handles the answer to the line that was sent last, and returns its meaning.
+/// Handles the answer to the line that was sent last, and writes its meaning.
 #[unsafe(no_mangle)]
 pub extern "C" fn resetd_hear(
     alloc: Global,

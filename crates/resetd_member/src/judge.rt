@@ -30,7 +30,7 @@ pub struct Judgement {
     pub due: Due,
     /// The shown epoch.
     pub epoch: u64,
-    /// The required text of the file of the start; empty if the file stays as it is.
+    /// The required text of the file of the start; empty if the file does not change.
     pub start: String,
     /// The line to add to the history before that; empty if there is none.
     pub line: String,
@@ -47,8 +47,8 @@ pub struct Judged {
     pub due: u32,
     /// The shown epoch.
     pub epoch: u64,
-    /// The length of the required text of the file of the start, in bytes; 0 if the file stays as
-    /// it is.
+    /// The length of the required text of the file of the start, in bytes; 0 if the file does not
+    /// change.
     pub start_length: usize,
     /// The length of the line for the history, in bytes; 0 if there is none.
     pub line_length: usize,
@@ -112,8 +112,8 @@ fn due_at(
     }
 }
 
-/// Returns the required text of the file of the start after a change; empty if the file stays as it
-/// is.
+/// Returns the required text of the file of the start after a change; empty if the file does not
+/// change.
 fn start_after(
     alloc: Global,
     node: u8,

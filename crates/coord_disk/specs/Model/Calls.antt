@@ -31,7 +31,8 @@ pub record Written {T E : Type 0} (at : ℕ) (bytes : List ℕ) (result : Result
   pub written : OnOk result (new ≡ written_at at bytes old)
   pub crash : WritesWithin at bytes old new
 
--- After a successful sync, a crash leaves the bytes that a read gives. A failed sync adds no outcome of a crash.
+-- After a successful sync, a crash leaves the bytes that a read gives. After a failed sync, a crash can leave only
+-- bytes that it could have left before.
 pub record Synced {T E : Type 0} (result : Result T E) (old new : Present) : Type 0 where
   pub durable : OnOk result (new ≡ whole old.read)
   pub crash : FitsNoMore old new

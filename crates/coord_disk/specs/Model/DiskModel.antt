@@ -17,7 +17,7 @@ pub record DiskModel (D : Type 0) : Type 1 where
   -- the number of calls that failed
   pub failures : D → ℕ
 
--- The images that a crash might have left agree with those that it may leave now.
+-- `left_since` agrees with the images of the present content.
 pub record IsModel {D : Type 0} (m : DiskModel D) : Type 0 where
   -- an image that a crash may leave now is one that it might have left since any earlier moment
   pub counts_now : (disk : D) (t : ℕ) (image : List ℕ) → m.keeps_model disk ≡ true → t ≤ m.clock disk → IsImage (m.present disk) image → m.left_since disk t image

@@ -18,8 +18,8 @@ pub data RawCall : Type 0 where
 abbrev pub StaysEntered : {F : Type 0} → DiskModel F → (F → Bool) → F → F → Type 0
 StaysEntered m is_entered old new = m.keeps_model old ≡ true → is_entered new ≡ is_entered old
 
--- After a successful sync that reaches far enough, a crash leaves the bytes that a read gives. A sync never adds an
--- outcome of a crash.
+-- After a successful sync that reaches far enough, a crash leaves the bytes that a read gives. After any sync, a crash
+-- can leave only bytes that it could have left before.
 pub record BytesSynced {T E : Type 0} (Reaches : Type 0) (result : Result T E) (old new : Present) : Type 0 where
   pub durable : Reaches → OnOk result (new ≡ whole old.read)
   pub crash : FitsNoMore old new

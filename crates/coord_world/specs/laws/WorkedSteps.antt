@@ -184,7 +184,7 @@ pub record DropsCount : Type 0 where
   pub drops : count_by (drops_in (λ _. true)) (starts_twice ++ (passed_on ++ comes_back)) ≡ 1
   pub first : signals_of 1 (outs (fold (no_world 1) triangle_linked) (starts_twice ++ (passed_on ++ comes_back))) ≡ 3
 
--- the first link of a path of three nodes is dropped while the wave goes out
+-- the first link of a path of three nodes is dropped while the wave spreads
 abbrev pub DropInAbort : Type 0
 DropInAbort =
     IsRun
