@@ -99,39 +99,41 @@ pub fn once_or_more()
     ensures { OnceOrMore }
 {}
 
-/// During the same steps, at any time, a node of the part that has a link was signalled at most as
+/// Every node of a part that no link leaves is Ready at first, and the steps add or remove no node
+/// and no link. Then, at any time, a node of the part that has a link was signalled at most as
 /// often as resets were started in the part.
 pub fn no_more_than_started()
     ensures { NoMoreThanStarted }
 {}
 
-/// If the steps may add and remove nodes and links, but never link a node of the part with a node
-/// outside it, a node of the part is signalled at most as often as resets were started in the part,
-/// links of it were dropped, and resets of the node were answered Finished.
+/// Every node of a part that no link leaves is Ready at first. The steps may add and remove nodes
+/// and links, but never link a node of the part with a node outside it. Then a node of the part is
+/// signalled at most as often as resets were started in the part, links of it were dropped, and
+/// resets of the node were answered Finished, in total.
 pub fn no_more_with_drops()
     ensures { NoMoreWithDrops }
 {}
 
-/// In the same steps, a node of the part without a link is signalled exactly as often as its resets
-/// are answered Finished.
+/// Under the conditions of `no_more_than_started`, a node of the part without a link is signalled
+/// exactly as often as its resets are answered Finished.
 pub fn alone_as_finished()
     ensures { AloneAsFinished }
 {}
 
-/// If exactly one reset was started in the part, each node that links connect with its initiator is
-/// signalled exactly once.
+/// Under the conditions of `once_or_more`, if exactly one reset was started in the part, each node
+/// that links connect with its initiator is signalled exactly once.
 pub fn once_if_one_started()
     ensures { OnceIfOneStarted }
 {}
 
-/// If every node of the part is Ready again at the end, either all or none of the nodes that links
-/// connect with each other are signalled.
+/// Under the conditions of `once_or_more`, either all or none of the nodes that links connect with
+/// each other are signalled.
 pub fn all_or_none()
     ensures { AllOrNone }
 {}
 
-/// Each node that links connect with a node of the part whose reset was accepted, whatever the
-/// reply, is signalled at least once.
+/// Under the conditions of `once_or_more`, each node that links connect with a node of the part
+/// whose reset was accepted, whatever the reply, is signalled at least once.
 pub fn asked_reaches_all()
     ensures { AskedReachesAll }
 {}
@@ -142,20 +144,21 @@ pub fn epochs_count_signals()
     ensures { EpochsCountSignals }
 {}
 
-/// If every node of a part that no link leaves is Ready before and after such steps, either all or
-/// none of the nodes that links connect with each other enter a new epoch.
+/// Under the conditions of `once_or_more`, either all or none of the nodes that links connect with
+/// each other enter a new epoch.
 pub fn epochs_rise_together()
     ensures { EpochsRiseTogether }
 {}
 
-/// Both bounds hold for the steps of a history between two moments at which every node of a part
-/// that no link leaves is Ready.
+/// The bounds of `asked_reaches_all` and `no_more_than_started` hold for the steps of a history
+/// between two moments at which every node of a part that no link leaves is Ready, if these steps
+/// add or remove no node and no link.
 pub fn bound_between()
     ensures { BoundBetween }
 {}
 
-/// The bound with dropped links holds for the steps of a history after a moment at which every node of a
-/// part is Ready.
+/// The bound of `no_more_with_drops` holds for the steps of a history after a moment at which every
+/// node of a part is Ready.
 pub fn bound_with_drops()
     ensures { BoundWithDrops }
 {}
