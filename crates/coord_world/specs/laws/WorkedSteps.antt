@@ -54,7 +54,7 @@ IsRunIn version steps given = (verdicts (no_world version) steps ≡ map (λ r. 
 abbrev pub IsRun : List Step → List StepOutcome → Type 0
 IsRun = IsRunIn 1
 
--- two nodes are linked, and one of them is reset
+-- two nodes are added and linked; in `one_reset`, one of them is then reset
 abbrev pub two_linked : List Step
 two_linked = order 1 (Add 1 1) ∷ order 2 (Add 2 1) ∷ order 3 (Join 1 2) ∷ []
 
