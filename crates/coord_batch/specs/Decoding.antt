@@ -42,7 +42,7 @@ abbrev pub Unless : FaultKind → Type 0 → Type 0
 Unless kind.OutOfMemory P = Unit {0}
 Unless k P = P
 
--- The result, seen through `view`, is `read`, unless memory ran out.
+-- The program's result, seen through `view`, equals `read`, unless memory ran out.
 abbrev pub AnswersDecoded : {X Y : Type 0} → (X → Y) → Result X CodecFault → Result Y CodecFault → Type 0
 AnswersDecoded view (Ok x) read = read ≡ Ok (view x)
 AnswersDecoded view (Err e) read = Unless e.kind (read ≡ Err e)

@@ -16,7 +16,7 @@ pub record Rewrites {D T : Type 0} (m : DiskModel D) (before after : Content) (o
   -- Once the call has returned Ok, the disk holds the text of `after`, completely synced.
   pub done : OnOk result (IsReady m new after)
 
--- When the call is refused, and the state of the journal after it.
+-- The result of an append or a replace: the cause of each fault, and the state of the journal after the call.
 pub record Answers {D T : Type 0} (m : DiskModel D) (old new : Journal D) (result : Result T JournalFault) : Type 0 where
   pub runs : Runs m (disk_of old) (disk_of new) 4 (failures_in result)
   pub half_size : half_size_of new ≡ half_size_of old

@@ -22,13 +22,13 @@ due_with more kept row now = due_of kept.begun kept.party (was_before now (more 
 abbrev pub MoreOnlyForbids : Type 0
 MoreOnlyForbids = (more : List (List Entry)) (kept : Kept) (row : Row) (now : List Entry) → (due_with more kept row now ≡ due kept row now) ⊎ ((due_with more kept row now ≡ Wait) ⊎ (due_with more kept row now ≡ Reset))
 
--- the effect of an event if the member that looks had these parties in its history too
+-- the world after an event, if the member that looks had these parties in its history too
 abbrev pub happens_with : MemberWorld → List (List Entry) → Event → MemberWorld
 happens_with w more (Look i row now) =
     let m = w.member i in let d = due_with more m.kept row now in looked w i (member_for m (kept_for m.kept now d) row d)
 happens_with w more event = happens w event
 
--- the effect of these events, with other additional parties at each event
+-- the world after these events, if histories have additional parties, which may differ from event to event
 abbrev pub run_with : (ℕ → List (List Entry)) → MemberWorld → List Event → MemberWorld
 run_with more w [] = w
 run_with more w (event ∷ events) = run_with (λ k. more (suc k)) (happens_with w (more 0) event) events

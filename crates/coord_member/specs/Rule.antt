@@ -75,8 +75,7 @@ abbrev pub history_with : Option (List Entry) → List (List Entry) → List Ent
 history_with None history now = if is_alone now then history else history ++ (now ∷ [])
 history_with (Some party) history now = history
 
--- the shown party becomes the start's party, unless it has one; it is also added to the history, unless the node is
--- alone
+-- if the start has no party, the shown party becomes its party, and is added to the history unless it is a single node
 abbrev pub with_party : Kept → List Entry → Kept
 with_party kept now = record kept { party = Some (unwrap_or kept.party now); history = history_with kept.party kept.history now }
 

@@ -50,7 +50,7 @@ pub record StartsOnce (w : World) (task : Task) (outcome : Outcome) (bytes : Lis
   pub may : IsStart w start
   pub left : Recovered bytes (led w (turns_in w start))
 
--- each task became the start beside it, from the world that the previous start left
+-- each task became the start at its place in the list, from the world that the previous start left
 abbrev pub AreOf : World → List Task → List Outcome → List Start → Type 0
 AreOf w [] [] [] = Unit {0}
 AreOf w (task ∷ tasks) (outcome ∷ outcomes) (start ∷ starts) = IsOf w task outcome start × AreOf (led w (turns_in w start)) tasks outcomes starts

@@ -68,7 +68,7 @@ with_lanes lanes (e ∷ es) = with_lanes (insert (insert lanes e.0 e.1.forth) (e
 abbrev pub lanes_in_order : Links → List ((ℕ × ℕ) × Lane)
 lanes_in_order t = entries (with_lanes empty (entries t))
 
--- the row of a link, and the link of a row
+-- the row of a link; `link_entry` converts it back
 abbrev pub link_row : (ℕ × ℕ) × Lanes → LinkRow
 link_row e = record { a = e.0.0; b = e.0.1; forth = e.1.forth; back = e.1.back }
 

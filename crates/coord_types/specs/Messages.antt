@@ -30,7 +30,7 @@ abbrev pub behind_front : List Msg → List Msg
 behind_front [] = []
 behind_front (m ∷ ms) = ms
 
--- the number that stores a message, and the message with a number
+-- the number by which a message is stored; `msg_from` converts it back
 abbrev pub msg_number : Msg → ℕ
 msg_number msg.Ack = 0
 msg_number msg.Ready = 1

@@ -30,7 +30,7 @@ new_node g = record { group = g; mode = Ready; parent = None; pend = empty; neig
 abbrev pub no_node : NodeState
 no_node = new_node 0
 
--- the number that stores a mode, and the mode with a number
+-- the number by which a mode is stored; `mode_from` converts it back
 abbrev pub mode_number : Mode → ℕ
 mode_number Ready = 0
 mode_number Abort = 1

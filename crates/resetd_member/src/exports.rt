@@ -73,8 +73,8 @@ pub extern "C" fn resetd_begun(
     give(text, out, length)
 }
 
-/// Writes the same text as `resetd_begun`, but in a form that is valid only in the boot with this
-/// name.
+/// Writes the text for the file of the start once the common start for an epoch is loaded, in a
+/// form that is valid only in the boot with this name.
 #[unsafe(no_mangle)]
 pub extern "C" fn resetd_loaded(
     alloc: Global,

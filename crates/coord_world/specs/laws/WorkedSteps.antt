@@ -135,7 +135,7 @@ two_meet =
     order 6 (Reset 1) ∷ order 7 (Reset 2) ∷ take 2 1 4 1 (msg.Abort 0) ∷ take 1 2 4 1 (msg.Abort 0) ∷ clear 1 2 4 1 ∷ take 1 2 4 2 msg.Ack
     ∷ clear 2 1 4 1 ∷ take 2 1 4 2 msg.Ack ∷ []
 
--- then the last node starts a reset too, whose wave meets that of the second
+-- after `two_meet`, the last node starts a reset too, whose wave meets that of the second
 abbrev pub third_meets : List Step
 third_meets =
     order 8 (Reset 3) ∷ take 2 3 5 1 (msg.Abort 0) ∷ take 3 2 5 1 (msg.Abort 0) ∷ clear 2 3 5 1 ∷ take 2 3 5 2 msg.Ack ∷ clear 3 2 5 1
@@ -168,8 +168,8 @@ passed_on =
     ∷ take 2 3 6 2 msg.Ready ∷ clear 2 3 6 2 ∷ take 2 3 6 3 (msg.Abort 0) ∷ clear 3 1 5 2 ∷ take 3 1 5 3 msg.Ack
     ∷ clear 3 1 5 3 ∷ take 3 1 5 4 msg.Ready ∷ []
 
--- then the link of the first two nodes is dropped: the first node is signalled again, and the wave of the second node
--- reaches it through the third
+-- after `passed_on`, the link of the first two nodes is dropped: the first node is signalled again, and the wave of the
+-- second node reaches it through the third
 abbrev pub comes_back : List Step
 comes_back =
     order 9 (Drop 1 2) ∷ clear 3 1 5 4 ∷ take 3 1 5 5 (msg.Abort 0) ∷ clear 1 3 5 4 ∷ take 1 3 5 5 msg.Ready
