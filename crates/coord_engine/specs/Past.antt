@@ -24,7 +24,7 @@ pub record Past : Type 1 where
   pub clock : ℕ
   pub left_since : ℕ → List ℕ → Type 0
 
--- the past of a disk that keeps no model
+-- stands for the past of an engine without a disk
 abbrev pub no_past : Past
 no_past = record { keeps_model = false; clock = 0; left_since = λ t image. ⊥ }
 
