@@ -73,7 +73,7 @@ class Comparison:
         try:
             self._before = reading(path) if path else self._before
         except NotCompared:
-            pass  # because the reading after the view says so
+            pass  # `judged` reports it after the second reading
 
     def differs(self, view: View) -> bool | None:
         """Returns whether the stores differ, or None if that is unknown."""
