@@ -34,11 +34,11 @@ pub record IsMigratedLine (before after : Option Present) (line : List ℕ) : Ty
 abbrev pub IsEitherVersion : Present → List ℕ → Type 0
 IsEitherVersion old image = IsImage old image ⊎ ((w : World) × Recovered old.read w × GivesEither w (risen w) image)
 
--- A crash leaves no other bytes.
+-- A crash leaves only such bytes.
 abbrev pub GivesEitherVersion : Option Present → Option Present → Type 0
 GivesEitherVersion before after = IfSome before (λ old. IfSome after (λ new. (image : List ℕ) → IsImage new image → IsEitherVersion old image))
 
--- A migration: a crash at any moment between the two states of the disk leaves no other bytes, and the device
+-- A migration: a crash at any moment between the two states of the disk leaves only such bytes, and the device
 -- has failed this many times meanwhile.
 pub record Raises {D : Type 0} (model : DiskModel D) (failed : ℕ) (old new : D) : Type 0 where
   pub any_moment : model.keeps_model old ≡ true → LeavesOnly model old new (IsEitherVersion (model.present old))

@@ -134,7 +134,7 @@ abbrev pub is_crash : Event → Bool
 is_crash Crash = true
 is_crash event = false
 
--- The promise is made for a run on a disk that keeps the model, and for a run without crashes on any disk.
+-- P is promised for a run on a disk that keeps the model, and for a run without crashes on any disk.
 abbrev pub Promised : Bool → List Event → Type 0 → Type 0
 Promised keeps_model events Promise = (keeps_model ≡ true) ⊎ AllByRecursion (λ e. is_crash e ≡ false) events → Promise
 
