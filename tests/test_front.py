@@ -1,4 +1,4 @@
-"""The tests of client/tests_front, each file as it is run by hand."""
+"""The tests of client/tests_front. Each file runs as it does by hand."""
 
 import os
 import sys
@@ -12,7 +12,7 @@ FOLDER = f"{ROOT}/client/tests_front"
 
 class Files(Run):
     takes = 15
-    environment = {"RESETD_PROXY": ""}  # or the files would try it in the place of the front
+    environment = {"RESETD_PROXY": ""}  # otherwise the files would try this variable's program in place of the front
 
     def files(self, *names: str) -> None:
         for name in names:
@@ -65,7 +65,7 @@ class Front(Files):
 
 
 class BeforeMembers(Files):
-    """The same, before members of which one is linked with the members' library."""
+    """`resetd-front` before members, one of which is linked with the members' library."""
 
     programs = ("RESETD", "RESETD_MEMBER")
 
@@ -83,4 +83,4 @@ class Proxy(Files):
         self.files("test_proxy")
 
 
-del Files, Run  # or their tests would be found here once more
+del Files, Run  # otherwise their tests would run here a second time

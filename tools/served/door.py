@@ -21,15 +21,15 @@ from .server import Away, Server
 ROOT = os.path.dirname(os.path.dirname(os.path.dirname(os.path.abspath(__file__))))
 NODES = range(1, 65)
 HALF = 32_768
-# The other members are in Python. All leave the numbers of their orders to the front.
+# The other members are in Python. All of them leave the numbering of orders to the front.
 OF_C, OF_GO = range(1, 8), range(8, 15)
 # A replaced part of a text, and its replacement.
 Exchanges = Sequence[tuple[str, str]]
-# Adds to the state of the member in Go a count of its starts.
+# Adds a count of its starts to the state of the member in Go.
 COUNTS_STARTS: Exchanges = [
     ("\tFence   string          // of that moment\n", "\tFence   string          // of that moment\n\tStarts  int\n"),
     ('kept.Begun, kept.First = epoch, ""', 'kept.Begun, kept.First, kept.Starts = epoch, "", kept.Starts+1')]
-START_SECONDS = 120  # within which a process of the door starts, on a busy machine too
+START_SECONDS = 120  # seconds within which a process of the door starts, even on a busy machine
 
 
 class Failed(Exception):
@@ -46,8 +46,8 @@ class Programs:
 
 
 def build_members(folder: str, library: str, coordinator: str, exchanges: Exchanges = ()) -> Programs:
-    """Compiles the members. The source of those in Go gets a count of starts and then these exchanges. Raises Failed if a compiler is
-    missing: nothing is left out."""
+    """Compiles the members. The source of those in Go gets a count of starts and then these exchanges. Raises Failed if a
+    compiler is missing: no language is left out."""
     missing = [package for command, package in (("cc", "gcc"), ("go", "golang-go")) if not shutil.which(command)]
     if missing:
         raise Failed(f"these Debian packages are missing: {' '.join(missing)}")
@@ -114,7 +114,7 @@ class Front:
         self.process.wait()
 
     def ask(self, **request: Any) -> dict[str, Any]:
-        """The answer to a line over a new connection. Raises Away if none came."""
+        """Returns the answer to a line over a new connection. Raises Away if no answer came."""
         try:
             with socket.socket(socket.AF_UNIX) as connection:
                 connection.settimeout(START_SECONDS)
@@ -128,7 +128,7 @@ class Front:
 
 
 def pwd_name() -> str:
-    """The name of the user of this process."""
+    """Returns the name of the user of this process."""
     return subprocess.run(["id", "-un"], capture_output=True, text=True, check=True).stdout.strip()
 
 
@@ -166,7 +166,7 @@ class Members:
             member.kill()
             member.wait()
         with contextlib.suppress(FileNotFoundError):
-            os.remove(f"{self.folder(node)}/run")  # of whom is dead nobody hears
+            os.remove(f"{self.folder(node)}/run")  # a message to a dead member is not heard
 
     def start_all(self) -> None:
         for node in NODES:
@@ -183,7 +183,7 @@ class Members:
 
 
 class Door:
-    """All of it, in a folder."""
+    """All of these, in one folder."""
 
     def __init__(self, folder: str, programs: Programs, choice: random.Random) -> None:
         self.choice, self.answered = choice, 0
@@ -207,7 +207,7 @@ class Door:
         self.start_server()
 
     def cut_power(self) -> None:
-        """The coordinator's power is cut: its earlier answers are there."""
+        """Cuts the coordinator's power. All earlier answers must be durable."""
         self.server.process.kill()
         self.server.process.wait()
         self.device.cut()
@@ -217,7 +217,7 @@ class Door:
         self.start_server()
 
     def reset(self, node: int) -> None:
-        """Asks for a reset, whoever is there to answer."""
+        """Asks for a reset, at whichever address answers."""
         with contextlib.suppress(Away):
             self.answered = max(self.answered, self.front.ask(op="reset", node=node).get("step", 0))
 

@@ -9,10 +9,10 @@ import time
 from .ports import held_address
 
 ROOT = os.path.dirname(os.path.dirname(os.path.dirname(os.path.abspath(__file__))))
-SECONDS = 300.0  # until it listens, on a busy machine
+SECONDS = 300.0  # seconds until it listens, on a busy machine
 
 
-# Whoever comes by TCP may do what a member does.
+# A client that connects by TCP may do everything that a member does.
 POLICY = """[[allow]]
 user = "{user}"
 ops = ["show", "watch", "reset", "confirm", "add", "remove", "join", "drop", "resend", "close"]
@@ -24,7 +24,8 @@ ops = ["show", "watch", "reset", "confirm"]
 
 
 class Front:
-    """`resetd-front serve` before a server that may be started again at its address: at a socket in a folder, and on the loopback."""
+    """`resetd-front serve` before a server that may be restarted at its address. It listens at a socket in a folder, and on the
+    loopback."""
 
     def __init__(self, folder: str, server: str, signals: str) -> None:
         """`signals` is the server's file of signals."""
@@ -44,7 +45,7 @@ class Front:
 
     @property
     def address(self) -> str:
-        """That of its socket, as the client library takes it."""
+        """The address of its socket, in the form that the client library takes."""
         return f"unix:{self.path}"
 
     def end(self) -> None:
