@@ -18,8 +18,8 @@ class Held(ResetdError):
 
 
 def keep(path: str, text: str) -> None:
-    """Replaces the whole content of a file by a text. When it returns, the text is on the disk. If several callers do this at
-    the same time, the file ends with the text of one of them."""
+    """Replaces the content of a file with a string. When it returns, the string is on disk. If several callers do this at
+    the same time, the file has the string of one of them."""
     with open(alone(path + ".new"), "w", encoding="utf-8") as file:
         file.write(text)
         file.flush()

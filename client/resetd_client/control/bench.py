@@ -40,7 +40,8 @@ def bench(control: Control) -> int:
 
 
 def measured_orders(control: Control, book: Orders, view: View) -> dict[str, float]:
-    """Measures orders per second, one after another and together. Returns no measures if all nodes exist."""
+    """Measures the order rate: orders sent one at a time, and orders sent together. Returns nothing if all nodes exist, because
+    the orders add and remove a node that does not."""
     node = next((node for node in reversed(NODES) if view.node(node) is None), None)
     if node is None:
         complain(f"all {len(NODES)} nodes are there: no orders are measured, since they would add and remove one")

@@ -19,7 +19,8 @@ use Rattle.coord_commands.specs.Arguments.{AskedCommand, check, drill, init, mig
 use Rattle.coord_commands.specs.declared.fault.Fault.{Fault}
 use Rattle.coord_commands.specs.declared.fault.Fault.TheVariants.{Usage, OutOfMemory}
 
--- the environment of a run: its streams, and the contents of named disks and texts
+-- the environment in which the program runs: its streams and, by file name, the content of each store and the text
+-- of each topology file
 pub record Around : Type 0 where
   pub streams : Streams
   pub holds : List ℕ → Option Present

@@ -173,8 +173,8 @@ pub record StopsAtLine {D : Type 0} (disk : DiskModel D) (crashes : D → D → 
   pub wrote : written ≡ p.printed
   pub cut : FirstCutShort disk crashes p others refused
 
--- Some of the output could not be written. The first of the remaining lines may have been cut short before,
--- by another fault.
+-- Some of the output could not be written. By then another fault may already have cut short the first of the
+-- remaining lines.
 pub record StopsWriting {D : Type 0} (disk : DiskModel D) (crashes : D → D → Type 0) (p : Place D) (others : List Line) (written : List ℕ) (refused : Fault × D) : Type 0 where
   pub cause : IsOfWriting refused.0
   pub wrote : IsShortPart written p.printed

@@ -73,7 +73,7 @@ read_first rows (verb ∷ ws) = read_by rows verb ws
 abbrev pub one_of : {A : Type 0} → List (Row A) → Format A
 one_of rows = record { spell = spell_by rows; read = read_first rows }
 
--- A reader of the program returns this value, and leaves these words.
+-- A parser of the program returns this value and leaves these words unread.
 abbrev pub ReadsWords : {A : Type 0} → Read A → Option A → List Word → Type 0
 ReadsWords read None left = read ≡ None
 ReadsWords read (Some x) left = read ≡ Some (x, left)

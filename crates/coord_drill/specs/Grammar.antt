@@ -59,7 +59,7 @@ distance version = record {
 
 -- ---- the tables
 
--- a row with this verb: the request made of the fields, and the fields of such a request
+-- the row of the grammar for this verb: `make` builds the value from its fields, and `parts` takes such a value apart
 abbrev pub row : {A B : Type 0} → Word → Format A → (A → B) → (B → Option A) → Row B
 row verb fields make parts = record { verb = verb; fields = made make parts fields }
 

@@ -77,7 +77,8 @@ pub record Hands {D : Type 0} (disk : DiskModel D) (crashes : D → D → Type 0
 abbrev pub GivesRaised : {D : Type 0} → DriverState D → List ℕ → Type 0
 GivesRaised d = GivesEither (settled_world d.ledger.log) (risen (settled_world d.ledger.log))
 
--- The ledger's store, which has not stopped, was migrated, and is the store of the new ledger.
+-- The ledger's store was migrated, and is the store of the new ledger. If the ledger had not stopped, its disk gave the
+-- settled world at each moment, in its own version or in version 2.
 pub record RaisesTo {D : Type 0} (disk : DiskModel D) (crashes : D → D → Type 0) (d new : DriverState D) : Type 0 where
   pub begins : MayBegin disk crashes new
   pub old : D
@@ -89,7 +90,7 @@ pub record RaisesTo {D : Type 0} (disk : DiskModel D) (crashes : D → D → Typ
   pub failed : disk.failures raised ≡ disk.failures old
   pub moments : has_stopped d.ledger.log ≡ false → disk.keeps_model old ≡ true → LeavesOnly disk old raised (GivesRaised d)
 
--- The disk was returned with this fault at a moment of such a migration.
+-- A migration as in `RaisesTo` ended early with this fault, and this disk was returned.
 pub record RaisesPart {D : Type 0} (disk : DiskModel D) (d : DriverState D) (refused : Fault × D) : Type 0 where
   pub old : D
   pub there : disk_held d ≡ Some old

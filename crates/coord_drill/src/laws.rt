@@ -11,9 +11,9 @@ pub fn spelled_is_read()
     ensures { SpelledIsRead }
 {}
 
-/// The event machine allows the output of a drill over any disk, for its lines one after another
-/// (`specs/Drilled.antt`). If the drill carried out its whole input, the output is all of an allowed
-/// output; if it broke off, a prefix of one.
+/// Whatever the disk, the output of a drill is one that the event machine allows for its input lines in
+/// order (`specs/Drilled.antt`): a whole allowed output if the drill carried out all of its input,
+/// otherwise a prefix of one.
 pub fn printed_is_drilled<D: CrashDisk>()
     ensures ended { EndedIsDrilled D.model D.crashes }
     ensures broke { BrokenIsDrilled D.model D.crashes }

@@ -63,8 +63,8 @@ abbrev pub GoOn : List Step → List Returned → List Step → Type 0
 GoOn first [] last = StartsWith last first
 GoOn first (t ∷ returned) last = StartsWith t.after first × GoOn t.after returned last
 
--- The output of a connection consists of the answers to its first lines. Each follows from settled steps that
--- extend `first` and the steps of the previous answer. The output may break off within one more line.
+-- The output of a connection is the answers to a prefix of its input lines, in order, and possibly the beginning of
+-- the next answer. Each answer follows from a list of steps that extends `first` and the list of the previous answer.
 pub record WritesInOrder (base : World) (first : List Step) (talk : Talk) (last : List Step) : Type 0 where
   pub returned : List Returned
   pub torn : List Returned

@@ -75,8 +75,8 @@ pub fn return_up_to_third()
     ensures { ReturnUpToThird }
 {}
 
-/// Whatever a crash may leave of an instance's disk gives the world after the settled steps or, after a
-/// stop, possibly the world after the steps in doubt too.
+/// Whatever a crash leaves of an instance's disk opens as the world after the settled steps; if the store
+/// had stopped, it may instead open as the world after some of the steps in doubt as well.
 pub fn instances_leave_steps<D: Disk, P: Port>()
     ensures { InstancesLeaveSteps D P }
 {}

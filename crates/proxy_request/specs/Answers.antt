@@ -31,7 +31,8 @@ is_refusal line =
     && not (bytes_eq line (codes "{\"name\":\"OutOfMemory\",\"refused\":2}"))
     && not (bytes_eq line (codes "{\"name\":\"PendingFull\",\"refused\":20}"))
 
--- whether a refusal judges the order; the others depend on the server's state
+-- whether a refusal concerns the order itself, and not its number (OutOfTurn, NumberReused) or the state of the
+-- server (Stopped, OutOfMemory, PendingFull)
 abbrev pub is_of_order : Refusal → Bool
 is_of_order Stopped = false
 is_of_order OutOfMemory = false

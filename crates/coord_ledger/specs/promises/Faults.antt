@@ -13,7 +13,7 @@ abbrev pub run_fault_number : RunFaultKind → ℕ
 run_fault_number OutOfMemory = 1
 run_fault_number (Store fault) = 2
 
--- the number of device failures in the opening that ends a run with this fault
+-- the number of device failures in the failed opening that ended a run with this fault; 0 if memory ran out
 abbrev pub failed_in_run : RunFaultKind → ℕ
 failed_in_run OutOfMemory = 0
 failed_in_run (Store fault) = failed_in_opening fault
