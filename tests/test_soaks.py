@@ -21,7 +21,7 @@ class OfALostEpoch(unittest.TestCase):
         self.patience.begin()
 
     def passes(self, epochs: range, seconds: float) -> bool:
-        """Whether the wait is still on once both nodes have had these epochs, each after so many seconds."""
+        """Whether the wait is still on once both nodes have had these epochs, each after this many seconds."""
         for epoch in epochs:
             self.now += seconds
             self.patience.note([epoch, epoch + 1])

@@ -19,7 +19,7 @@ MOST_BYTES = 8_000  # of a process's last lines
 
 
 def state_of(process: int) -> str:
-    """The state of each thread of a process, and where it waits in the system."""
+    """The state of each thread of a process, and the call of the system that it waits in."""
     threads = []
     for folder in sorted(glob.glob(f"/proc/{process}/task/*")):
         with contextlib.suppress(OSError):
