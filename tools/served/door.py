@@ -85,26 +85,27 @@ class Front:
     """The front, which can be killed and started again at the same addresses."""
 
     def __init__(self, folder: str, server: str) -> None:
-        self.socket, self.port, self._said = f"{folder}/front.socket", held_ports(1)[0], f"{folder}/front.said"
+        self.socket, self.port, self.said = f"{folder}/front.socket", held_ports(1)[0], f"{folder}/front.said"
+        self.audit = f"{folder}/audit"
         policy = f"{folder}/front.toml"
         with open(policy, "w", encoding="utf-8") as file:
             file.write('[[allow]]\nuser = "nobody"\nops = ["show", "watch", "confirm", "reset"]\n'
                        f'[[allow]]\nuser = "{pwd_name()}"\nops = ["show", "watch", "confirm", "reset"]\n')
         self._words = [sys.executable, f"{ROOT}/client/resetd-front", "serve", "--server", server, "--socket", self.socket, "--tcp",
-                       f"127.0.0.1:{self.port}", "--state", f"{folder}/front", "--audit", f"{folder}/audit", "--policy", policy]
+                       f"127.0.0.1:{self.port}", "--state", f"{folder}/front", "--audit", self.audit, "--policy", policy]
         self.process: subprocess.Popen[bytes]
         self.start()
 
     def start(self) -> None:
-        with open(self._said, "ab") as said:
+        with open(self.said, "ab") as said:
             begin = said.tell()
-            self.process = subprocess.Popen(self._words, stdin=subprocess.DEVNULL, stdout=said, stderr=said)
+            self.process = subprocess.Popen(self._words, stdin=subprocess.DEVNULL, stdout=said, stderr=said, env=with_stacks())
         until("the front listens", lambda: self._listens(begin), START_SECONDS)
 
     def _listens(self, begin: int) -> bool:
         if self.process.poll() is not None:
-            raise Failed(f"the front ended by itself: {read_tail(self._said)}")
-        with open(self._said, "rb") as said:
+            raise Failed(f"the front ended by itself: {read_tail(self.said)}")
+        with open(self.said, "rb") as said:
             said.seek(begin)
             text = said.read()
         return b"listening unix:" in text and b"listening tcp:" in text
@@ -132,9 +133,14 @@ def pwd_name() -> str:
     return subprocess.run(["id", "-un"], capture_output=True, text=True, check=True).stdout.strip()
 
 
-def read_tail(path: str) -> str:
+def read_tail(path: str, most: int = 1_000) -> str:
     with open(path, errors="replace", encoding="utf-8") as file:
-        return file.read()[-1000:].strip()
+        return file.read()[-most:].strip()
+
+
+def with_stacks() -> dict[str, str]:
+    """The environment of a Python process that writes the stacks of its threads when it is aborted."""
+    return {**os.environ, "PYTHONFAULTHANDLER": "1"}
 
 
 class Members:
