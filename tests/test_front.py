@@ -79,5 +79,17 @@ class Proxy(Files):
     def test_the_proxy(self) -> None:
         self.files("test_proxy")
 
+    def test_lines_and_orders(self) -> None:
+        self.files("test_orders", "test_lost_answers", "test_peers")
+
+    def test_hostile_clients(self) -> None:
+        self.files("test_hostile")
+
+    def test_kills(self) -> None:
+        self.files("test_kills")
+
+    def test_torture(self) -> None:
+        self.files("test_torture")
+
 
 del Files, Run  # or their tests would be found here once more
