@@ -92,4 +92,14 @@ class Proxy(Files):
         self.files("test_torture")
 
 
+class MembersAtProxy(Files):
+    """Members of every language at the proxy."""
+
+    programs = ("RESETD", "RESETD_PROXY", "RESETD_MEMBER")
+    environment: dict[str, str] = {}
+
+    def test_members(self) -> None:
+        self.files("test_interop")
+
+
 del Files, Run  # or their tests would be found here once more

@@ -25,9 +25,9 @@ HERE = os.path.dirname(os.path.abspath(__file__))
 CLIENT = os.path.dirname(HERE)
 ROOT = os.path.dirname(CLIENT)
 sys.path.insert(0, CLIENT)
-from door import DOOR, PROXY, USER  # noqa: E402
+from door import DOOR, OPS, PROXY, USER  # noqa: E402
 
-__all__ = ["CLIENT", "DEADLINE", "DOOR", "PROGRAM", "PROXY", "ROOT", "USER", "Case", "Client", "Front", "Server", "ring", "unix", "unread", "until"]
+__all__ = ["CLIENT", "DEADLINE", "DOOR", "OPS", "PROGRAM", "PROXY", "ROOT", "USER", "Case", "Client", "Front", "Server", "ring", "unix", "unread", "until"]
 PROGRAM = os.path.abspath(os.environ["RESETD"]) if os.environ.get("RESETD") else ""
 DEADLINE = 120.0  # seconds, which only a hang takes
 T = TypeVar("T")

@@ -98,10 +98,15 @@ class Bridge:
         with contextlib.suppress(OSError):
             while True:
                 near, _ = self._listener.accept()
-                far = socket.socket(socket.AF_UNIX)
-                far.connect(self._path)
-                for one, other in ((near, far), (far, near)):
-                    threading.Thread(target=pass_on, args=(one, other), daemon=True).start()
+                threading.Thread(target=self._lead, args=[near], daemon=True).start()
+
+    def _lead(self, near: socket.socket) -> None:
+        with near, socket.socket(socket.AF_UNIX) as far, contextlib.suppress(OSError):
+            far.connect(self._path)
+            back = threading.Thread(target=pass_on, args=(far, near), daemon=True)
+            back.start()
+            pass_on(near, far)
+            back.join()
 
 
 def pass_on(one: socket.socket, other: socket.socket) -> None:

@@ -218,8 +218,9 @@ class Trial:
 
     def end(self) -> None:
         self.stop_helpers()
-        for front in filter(None, {self._front, self._front_for_tcp}):
-            front.end()
+        before: set[Front | Proxy | None] = {self._front, self._front_for_tcp}
+        for each in filter(None, before):
+            each.end()
         self.orders.close()
         self.server.end()
 
