@@ -218,9 +218,9 @@ class Trial:
 
     def end(self) -> None:
         self.stop_helpers()
-        before: set[Front | Proxy | None] = {self._front, self._front_for_tcp}
-        for each in filter(None, before):
-            each.end()
+        for each in {self._front, self._front_for_tcp}:
+            if each:
+                each.end()
         self.orders.close()
         self.server.end()
 
