@@ -82,5 +82,27 @@ class Proxy(Files):
     def test_the_proxy(self) -> None:
         self.files("test_proxy")
 
+    def test_lines_and_orders(self) -> None:
+        self.files("test_orders", "test_lost_answers", "test_peers")
+
+    def test_hostile_clients(self) -> None:
+        self.files("test_hostile")
+
+    def test_kills(self) -> None:
+        self.files("test_kills")
+
+    def test_torture(self) -> None:
+        self.files("test_torture")
+
+
+class MembersAtProxy(Files):
+    """Members of every language at the proxy."""
+
+    programs = ("RESETD", "RESETD_PROXY", "RESETD_MEMBER")
+    environment: dict[str, str] = {}
+
+    def test_members(self) -> None:
+        self.files("test_interop")
+
 
 del Files, Run  # otherwise their tests would run here a second time

@@ -10,7 +10,7 @@ import time
 from collections.abc import Callable, Sequence
 from typing import IO
 
-from .front import Front
+from .front import Front, Proxy
 from .ports import held_address
 from .server import TIMEOUT, Server
 
@@ -37,6 +37,7 @@ class Words(argparse.Namespace):
     seed: int | None
     events: int
     is_at_port = False  # whether the coordinator has no front
+    proxy = ""  # the program `resetd-proxy`, which then takes the front's place
 
 
 class Trial:
@@ -46,8 +47,8 @@ class Trial:
         self.words, self.folder, self.nodes = words, folder, range(1, nodes + 1)
         self.server = Server(words.program, f"{folder}/store", held_address())  # of all its starts
         self.helpers = list[subprocess.Popen[bytes]]()
-        self._front: Front | None = None
-        self._front_for_tcp: Front | None = None
+        self._front: Front | Proxy | None = None
+        self._front_for_tcp: Front | Proxy | None = None
         links = [(node, node % nodes + 1) for node in self.nodes][:nodes if is_ring and nodes > 2 else nodes - 1]
         done = self.server.found(
             "".join(f"[[node]]\nid = {node}\ngroup = 1\n" for node in self.nodes) +
@@ -56,7 +57,7 @@ class Trial:
             raise Failed(f"resetd init: {done}")
         self.start()
         if not words.is_at_port:
-            self._front = Front(folder, self.server.address, self.server.signals)
+            self._front = self._before()
         self.port = Port(self.address, 30)
         self.orders = Orders(self.port, OPERATOR, f"{folder}/operator", told=lambda _: None)
 
@@ -72,8 +73,13 @@ class Trial:
     @property
     def tcp(self) -> list[str]:
         """Returns the host and the port of a front, for a member that connects by TCP. Starts a front if the trial has none."""
-        self._front_for_tcp = self._front or self._front_for_tcp or Front(self.folder, self.server.address, self.server.signals)
+        self._front_for_tcp = self._front or self._front_for_tcp or self._before()
         return self._front_for_tcp.tcp.split(":")
+
+    def _before(self) -> Front | Proxy:
+        """Starts the front or the proxy."""
+        where = self.folder, self.server.address, self.server.signals
+        return Proxy(self.words.proxy, *where) if self.words.proxy else Front(*where)
 
     def kill(self) -> None:
         """Kills the server by signal 9, and starts it again."""
@@ -212,8 +218,9 @@ class Trial:
 
     def end(self) -> None:
         self.stop_helpers()
-        for front in filter(None, {self._front, self._front_for_tcp}):
-            front.end()
+        for each in {self._front, self._front_for_tcp}:
+            if each:
+                each.end()
         self.orders.close()
         self.server.end()
 
