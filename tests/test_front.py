@@ -77,7 +77,7 @@ class Proxy(Files):
     environment: dict[str, str] = {}
 
     def test_the_proxy(self) -> None:
-        self.files("test_proxy")
+        self.files("test_proxy", "test_lost_resets")
 
 
 del Files, Run  # or their tests would be found here once more

@@ -5,7 +5,7 @@ ghost use Rattle.proxy_core.specs.Rules.{Rules, as_sent, needs_number};
 ghost use Rattle.proxy_core.specs.Pending.{is_from};
 ghost use Rattle.std.specs.Option.{option_copied};
 ghost use Rattle.proxy_core.specs.Machine.{begins_order, is_denied, is_none, lost_of, picked, picks_of};
-ghost use Rattle.proxy_core.specs.NextOrder.{next_order};
+ghost use Rattle.proxy_core.specs.NextOrder.{next_number, next_order};
 
 use crate::choice::{choose, take_out};
 use crate::counts::{held_by, hold, release};
@@ -344,6 +344,17 @@ impl Proxy {
             return None;
         }
         Some(first.line())
+    }
+
+    /// Returns the number that the proxy gave to the line that the next answer is to, if it is an unnumbered order.
+    pub fn next_number(&self) -> Option<u64>
+        ensures { result ≡ next_number self.now.number self.now.flight }
+    {
+        if self.flight.front()?.is_unnumbered() {
+            Some(self.number.saturating_add(1))
+        } else {
+            None
+        }
     }
 
     /// Returns whether the last number of the proxy's client is known. While it is not, unnumbered orders
