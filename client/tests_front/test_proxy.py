@@ -185,7 +185,7 @@ class Losing(Fake):
     def __init__(self) -> None:
         self.losses: list[tuple[bool, Callable[[], object]]] = []  # whether a reset is carried out first, and what happens then
         self.look_seconds, self.is_left_after_view = 0.0, False
-        self.mute_resets = 0  # so many are carried out without an answer, and the connection ends after the last one
+        self.mute_resets = 0  # the number of resets that are carried out without an answer; the connection ends after the last one
         self.answers = threading.Event()  # until then it says nothing
         self.answers.set()
         self.resets: list[dict[str, Any]] = []  # that came
@@ -332,7 +332,7 @@ class LostOrders(BeforeLosing):
     """Orders that the proxy numbers, several in one flight, whose answers are lost with the server's connection."""
 
     def in_one_flight(self, *requests: dict[str, Any]) -> list[dict[str, Any]]:
-        """Sends each from a connection of its own, and returns the answers."""
+        """Sends each over another connection, and returns the answers."""
         clients = [self.client() for _ in requests]
         self.server.answers.clear()
         for client, request in zip(clients, requests):
