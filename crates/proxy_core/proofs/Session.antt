@@ -6,7 +6,7 @@ use Rattle.proxy_core.specs.Rules.{Rules}
 use Rattle.proxy_core.specs.Run.{Sent, Answer, Run, Event, new_run, run}
 use Rattle.proxy_core.specs.Numbers.{AreSerial, HasOneNumber, IsUnused}
 use Rattle.proxy_core.specs.Promises.{EveryRun}
-use Rattle.proxy_core.specs.Session.{AtMostOnce, CountsAreRight, OwnReplies, Session, TakenBackInTime, has_number, is_order_at}
+use Rattle.proxy_core.specs.Session.{AtMostOnce, CountsAreRight, OwnReplies, Session, has_number, is_order_at}
 use Rattle.proxy_core.proofs.Lists.{both_true}
 use Rattle.proxy_core.proofs.Picks.{both_of}
 use Rattle.proxy_core.proofs.Sendings.{all_at, compare, in_head, in_tail, serial_same}
@@ -120,6 +120,3 @@ own_replies r events done rule right g in_g own_g uses =
         | inr after ↦ absurd (omega (arith, after, late))
       ]
     ]
-
-pub taken_back_in_time : TakenBackInTime
-taken_back_in_time r events done right s own c in_c before less in_s = (let most = right c in_c s in_s own before in absurd (omega (arith, most, less)))

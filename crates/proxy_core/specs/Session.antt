@@ -33,11 +33,6 @@ pub record Session (r : Rules) (w : Run) (done : List Sent) : Type 0 where
 abbrev pub CountsAreRight : Run → List Sent → Type 0
 CountsAreRight w done = (c : Count) → Contains w.counts c → (s : Sent) → Contains done s → s.is_unnumbered ≡ true → s.serial < c.sent → s.number ≤ c.last
 
--- an order that was taken back is never carried out if a last number that was found after it was sent is below its number
-abbrev pub TakenBackInTime : Type 0
-TakenBackInTime = (r : Rules) (events : List Event) (done : List Sent) → CountsAreRight (run r new_run events) done
-    → (s : Sent) → s.is_unnumbered ≡ true → (c : Count) → Contains (run r new_run events).counts c → s.serial < c.sent → c.last < s.number → Contains done s → ⊥
-
 -- whatever last numbers the loop finds
 abbrev pub AtMostOnce : Type 0
 AtMostOnce = (r : Rules) (events : List Event) (done : List Sent) → Session r (run r new_run events) done → (place : ℕ) → count_by (is_order_at place) done ≤ 1

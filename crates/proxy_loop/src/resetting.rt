@@ -213,8 +213,8 @@ impl<G: Gateway> EventLoop<G> {
         Ok(())
     }
 
-    /// Gives the connection at a place another number, so that the core forgets what it has of it. A connection for which
-    /// there is none is ended.
+    /// Gives the connection at a place another number, and has the core drop its waiting lines. If no number is left, the
+    /// connection is ended.
     pub(crate) fn renumber(&mut self, place: usize) -> Result<Option<u64>, AllocError> {
         let Some(number) = self.next_number(place) else {
             self.end(place)?;

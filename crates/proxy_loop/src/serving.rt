@@ -14,10 +14,10 @@ const MOST_EVENTS: usize = 1024;
 
 /// Serves the connections of all listeners. It returns only if the system refuses a wait, or memory is out.
 ///
-/// No contract says what it does until then. The types say this: an answer of the server is appended to what a client is
-/// sent only as a `Recorded`, which `record` alone makes; a client is sent bytes only beside a `Written`, which `write`
-/// alone makes and which lets nothing be recorded as long as it is there; and the core's flight leaves the core only by
-/// `push_flight`.
+/// It has no contract for the time until then. The types ensure that an answer of the server is appended to the bytes for
+/// a client only as a `Recorded`, which `record` alone makes, and that bytes are sent to a client only beside a `Written`,
+/// which `write` alone makes, and during which nothing can be recorded. The flight is written to the server by `push_flight`
+/// alone.
 pub fn serve<R: Net + Files<File = File> + AllocGlobal + Clock + Wait + Print + Eprint, G: Gateway>(
     rt: &R,
     event_loop: &mut EventLoop<G>,

@@ -1,4 +1,4 @@
-use Rattle.proxy_core.proofs.Session.{taken_back_in_time}
+use Rattle.proxy_core.proofs.TakenBack.{taken_back_in_time}
 use Rattle.proxy_core.proofs.laws.taken_back_in_time.Goals as goal
 
 pub returns : goal.returns
