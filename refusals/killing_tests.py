@@ -29,7 +29,7 @@ LATE, SEEN = "did not end in time", ("FAILED", "waits")
 def run(edits: list[Edit], depends: Depends, jobs: int) -> int:
     """Runs the killing test of each edit. How many of them have not failed."""
     found: list[str] = []
-    alone = [edit for edit in edits if edit.tests not in TOGETHER or not schemata.fits(edit.mutant)]
+    alone = [edit for edit in edits if not runs_together(edit, depends) or not schemata.fits(edit.mutant)]
     with tempfile.TemporaryDirectory() as scratch:
         for tests in sorted({edit.tests for edit in edits} & set(TOGETHER)):
             chosen = [edit for edit in edits if edit.tests == tests and edit not in alone]
@@ -43,6 +43,11 @@ def run(edits: list[Edit], depends: Depends, jobs: int) -> int:
     failed = sum(map(found.count, SEEN))
     print(f"{len(found)} edits, {failed} seen by their killing test, {len(found) - failed} not")
     return len(found) - failed
+
+
+def runs_together(edit: Edit, depends: Depends) -> bool:
+    """Whether the build that the edit's test shares with others has its crate: that of the program has no crate of `resetd-proxy`."""
+    return edit.tests in TOGETHER and (edit.tests != "tests" or edit.crate in libraries("resetd", depends) | libraries("resetd_member", depends))
 
 
 def build_together(scratch: str, tests: str, edits: list[Edit]) -> tuple[list[Edit], list[Edit]]:

@@ -80,7 +80,7 @@ class Proxy(Files):
     environment: dict[str, str] = {}
 
     def test_the_proxy(self) -> None:
-        self.files("test_proxy")
+        self.files("test_proxy", "test_lost_resets")
 
     def test_lines_and_orders(self) -> None:
         self.files("test_orders", "test_lost_answers", "test_peers")

@@ -10,8 +10,8 @@ use Rattle.proxy_core.specs.declared.proxy.Admission.TheVariants.{Queued, Denied
 use Rattle.proxy_core.specs.declared.proxy.Outcome.TheVariants.{To, Ended, Retry, Unsolicited}
 use Rattle.proxy_core.specs.Rules.{Rules, next, needs_number}
 use Rattle.proxy_core.specs.Pending.{Pending, is_from, step, text_of}
-use Rattle.proxy_core.specs.Machine.{Proxy, outcome, outcome_of, flown, held, is_in_turn, left, picked, rest, is_alike, is_flight, is_none, is_ready, lost_of, may_go, after_first_answer, admission}
-use Rattle.proxy_core.specs.Run.{Request, Sent, Delivery, Answer, Run, Event, Arrives, Leaves, Flies, Answers, Breaks, Connects, Counts, broke, came, connected, happens, answer_of, is_ended, run, new_run, next_request, said, delivered_too, went, without, written}
+use Rattle.proxy_core.specs.Machine.{Proxy, outcome, outcome_of, flown, held, is_in_turn, left, picked, rest, is_alike, is_flight, is_none, is_ready, lost_of, may_go, after_first_answer, admission, begins_order}
+use Rattle.proxy_core.specs.Run.{Request, Sent, Delivery, Answer, Run, Event, Arrives, Leaves, Flies, Answers, Breaks, TakesBack, Connects, Counts, broke, came, connected, happens, answer_of, is_ended, run, new_run, next_request, said, delivered_too, took, went, without, written}
 use Rattle.proxy_core.specs.Numbers.{AreSerial, HasOneNumber, IsFresh, IsInOrder}
 use Rattle.proxy_core.specs.Promises.{AreNumbered, AreOf, IsAllowed, IsAnswerTo, IsKnown, IsDenied, IsDeniedRightly, Keeps, by_server, bytes_of, pending_of, is_first_at, is_once_at, refuses_number_at, place_if, places_of, places_delivered, sending, sendings}
 use Rattle.proxy_core.proofs.Lists.{AreLast, alike_rest, all_append, all_filter, all_left, all_picked, all_weaker, are_more, are_push, are_weaker, both_true, count_filter, count_less, count_sendings, count_picked, count_push, count_rest, either, ended_apart, flight_is, flight_rest, from_other, from_picked, last_picked, left_pending_of, none_from, numbered_push, of_push, one_place, picked_pending_of, rest_twice, server-append, text_same, delivered_push, without_pending_of, written_of}
@@ -811,6 +811,45 @@ lost_cases r w (a ∷ more) queued h =
     unowned true once is = ap not is
     unowned false once is = refl
 
+-- ---- an order is taken back
+
+taken_first : (r : Rules) (w : Run) (a : Request) (more queued : List Request) → w.proxy.is_up ≡ false → needs_number r a.line ≡ true → Holds r (with_hand r (a ∷ more) queued w) → Holds r (took (with_hand r (a ∷ more) queued w) (Some (next w.proxy.number)))
+taken_first r w a more queued down owned h = record {
+  quiet = λ is_down new. ap rest (h.quiet is_down new);
+  numbered = h.numbered;
+  flying = refl;
+  waiting = without_pending_of r a.from queued;
+  wire = λ up. absurd (cc (up, down));
+  wired = h.wired;
+  single = λ up. absurd (cc (up, down));
+  twice = λ is_down. all_twice_rest (pending_of r a) (map (pending_of r) more) (h.twice is_down);
+  turn = turn_forgetting a.from w.ended w.delivered more queued w.requests (λ d apart going. turn_rest a more w.delivered queued w.requests d apart (h.turn d going));
+  over = λ d is. over_all w.ended w.delivered (a ∷ more) queued w.requests h.turn h.over d;
+  own = h.own;
+  denied = h.denied;
+  in_flight = h.in_flight.1;
+  queued = all_filter (IsGood r w.requests) (λ (x : Request). not (x.from == a.from)) queued h.queued;
+  sent = h.sent;
+  once = once_forgetting r a.from w.sent queued w.requests h.once;
+  few = few_forgetting a.from (map (pending_of r) more) (map (pending_of r) queued) (few_rest (pending_of r a) (map (pending_of r) more) (map (pending_of r) queued) h.few);
+  flight = (let long = h.flight in omega (arith, long));
+  alike = alike_rest (pending_of r a) (map (pending_of r) more) h.alike;
+  last = h.last.1;
+  fresh = fresh_forgetting r a.from w.sent queued w.requests w.answers h.fresh;
+  known = subst (λ b. AllByRecursion (IsKnown w.sent) (sendings r 0 true 0 (step b w.proxy.number) more)) owned (known_serial r w.sent 1 0 (step (needs_number r a.line) w.proxy.number) more h.known.1);
+  again = h.again;
+}
+
+takes_holds : (r : Rules) (w : Run) (in_flight queued : List Request) (c : ℕ) → Holds r (with_hand r in_flight queued w) → Holds r (happens r (with_hand r in_flight queued w) (TakesBack c))
+takes_holds r w in_flight queued c h =
+    let v : Run = with_hand r in_flight queued w in
+    either (λ t. Holds r (took v t)) w.proxy.is_up None (cond (begins_order c (map (pending_of r) in_flight)) (Some (next w.proxy.number)) None) (λ up. h)
+    (λ down. either (λ t. Holds r (took v t)) (begins_order c (map (pending_of r) in_flight)) (Some (next w.proxy.number)) None (λ begins. taken_cases r w in_flight queued c down begins h) (λ other. h))
+  where
+    taken_cases : (r : Rules) (w : Run) (in_flight queued : List Request) (c : ℕ) → w.proxy.is_up ≡ false → begins_order c (map (pending_of r) in_flight) ≡ true → Holds r (with_hand r in_flight queued w) → Holds r (took (with_hand r in_flight queued w) (Some (next w.proxy.number)))
+    taken_cases r w [] queued c down begins h = absurd (cc begins)
+    taken_cases r w (a ∷ more) queued c down begins h = taken_first r w a more queued down (both_true (needs_number r a.line) (a.from == c) begins).0 h
+
 -- ---- there is a new one
 
 none_once : (r : Rules) (p : ℕ) (xs : List Request) → list_all is_twice (map (pending_of r) xs) ≡ true → count_by (is_once_request r p) xs ≡ 0
@@ -892,6 +931,7 @@ hand_happens r w in_flight queued (Leaves c) h = leaves_holds r w in_flight queu
 hand_happens r w in_flight queued (Flies picks) h = flies_holds r w in_flight queued picks h
 hand_happens r w in_flight queued (Answers answer) h = answers_holds r w in_flight queued answer h
 hand_happens r w in_flight queued Breaks h = lost_cases r w in_flight queued h
+hand_happens r w in_flight queued (TakesBack c) h = takes_holds r w in_flight queued c h
 hand_happens r w in_flight queued Connects h = connects_holds r w in_flight queued h
 hand_happens r w in_flight queued (Counts last) h = record {
   numbered = h.numbered;

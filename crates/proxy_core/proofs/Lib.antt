@@ -12,3 +12,4 @@ pub mod Ordering
 pub mod WorkedSession
 pub mod Held
 pub mod Server
+pub mod TakenBack

@@ -9,8 +9,8 @@ use Rattle.proxy_core.specs.declared.proxy.Outcome.TheVariants.{To, Ended, Retry
 use Rattle.proxy_core.specs.Rules.{Rules, next, needs_number}
 use Rattle.proxy_core.specs.Pending.{Pending, is_from, step}
 use Rattle.proxy_core.specs.declared.proxy.Outcome.{Outcome}
-use Rattle.proxy_core.specs.Machine.{Proxy, admission, after_first_answer, flown, is_alike, is_flight, is_in_turn, is_ready, left, may_go, outcome, outcome_of, picked, rest, without_connection}
-use Rattle.proxy_core.specs.Run.{Request, Sent, Delivery, Answer, answer_of, delivered_too, Count, Run, Event, Arrives, Leaves, Flies, Answers, Breaks, Connects, Counts, broke, came, connected, happens, is_ended, new_run, next_request, run, said, went, without, written}
+use Rattle.proxy_core.specs.Machine.{Proxy, admission, after_first_answer, flown, is_alike, is_flight, is_in_turn, is_ready, left, may_go, outcome, outcome_of, picked, rest, begins_order, without_connection}
+use Rattle.proxy_core.specs.Run.{Request, Sent, Delivery, Answer, answer_of, delivered_too, Count, Run, Event, Arrives, Leaves, Flies, Answers, Breaks, TakesBack, Connects, Counts, broke, came, connected, happens, is_ended, new_run, next_request, run, said, took, went, without, written}
 use Rattle.proxy_core.specs.Numbers.{AreSerial, HasOneNumber, IsFresh, IsNumberRefused, IsUnused}
 use Rattle.proxy_core.specs.Promises.{AreNumbered, IsAllowed, pending_of, sending, sendings}
 use Rattle.proxy_core.proofs.Lists.{all_append, all_filter, all_left, all_picked, all_weaker, both_true, count_filter, count_picked, count_push, count_rest, either, one_place, picked_pending_of, written_of}
@@ -292,6 +292,34 @@ breaks_numbers r w (a ∷ more) queued h =
     other : (own once : Bool) → once ≡ true → (own && not once) ≡ false
     other true once is = ap not is
     other false once is = refl
+
+-- ---- an order is taken back
+
+-- its number may be used, so the last number is no longer known
+taken_first : (r : Rules) (w : Run) (a : Request) (more queued : List Request) → needs_number r a.line ≡ true → Numbers r (with_hand r (a ∷ more) queued w) → Numbers r (took (with_hand r (a ∷ more) queued w) (Some (next w.proxy.number)))
+taken_first r w a more queued owned h = record {
+  serial = h.serial;
+  heard = h.heard;
+  hand = λ p. (let all = h.hand p in let less = count_rest (is_at p) (a ∷ more) in let filtered = count_filter (is_at p) (λ (x : Request). not (x.from == a.from)) queued in omega (arith, all, less, filtered));
+  one_number = λ s t two same. h.one_number s t (record { first = two.first; second = two.second; first_own = two.first_own; second_own = two.second_own; before = two.before }) same;
+  fresh = λ s t two same small. h.fresh s t (record { first = two.first; second = two.second; first_own = two.first_own; second_own = two.second_own; before = two.before }) same small;
+  counted = λ is. absurd (cc is);
+  waits = all_filter (WaitsAnew r w.sent w.answers) (λ (x : Request). not (x.from == a.from)) queued h.waits;
+  has = subst (λ b. AllFlying r (HasNumber r w.sent w.answers) (step b w.proxy.number) more) owned h.has.1;
+  owns = subst (λ b. AllFlying r (OwnsNumber r w.sent w.answers w.counts) (step b w.proxy.number) more) owned h.owns.1;
+  latest = h.latest;
+  only = h.only;
+}
+
+takes_numbers : (r : Rules) (w : Run) (in_flight queued : List Request) (c : ℕ) → Numbers r (with_hand r in_flight queued w) → Numbers r (happens r (with_hand r in_flight queued w) (TakesBack c))
+takes_numbers r w in_flight queued c h =
+    let v : Run = with_hand r in_flight queued w in
+    either (λ t. Numbers r (took v t)) w.proxy.is_up None (cond (begins_order c (map (pending_of r) in_flight)) (Some (next w.proxy.number)) None) (λ up. h)
+    (λ down. either (λ t. Numbers r (took v t)) (begins_order c (map (pending_of r) in_flight)) (Some (next w.proxy.number)) None (λ begins. taken_cases r w in_flight queued c begins h) (λ other. h))
+  where
+    taken_cases : (r : Rules) (w : Run) (in_flight queued : List Request) (c : ℕ) → begins_order c (map (pending_of r) in_flight) ≡ true → Numbers r (with_hand r in_flight queued w) → Numbers r (took (with_hand r in_flight queued w) (Some (next w.proxy.number)))
+    taken_cases r w [] queued c begins h = absurd (cc begins)
+    taken_cases r w (a ∷ more) queued c begins h = taken_first r w a more queued (both_true (needs_number r a.line) (a.from == c) begins).0 h
 
 -- ---- the server answers
 
@@ -725,6 +753,7 @@ hand_numbers r w in_flight queued (Leaves c) held h = leaves_numbers r (with_han
 hand_numbers r w in_flight queued (Flies picks) held h = flies_numbers r w in_flight queued picks held h
 hand_numbers r w in_flight queued (Answers answer) held h = answers_numbers r w in_flight queued answer held h
 hand_numbers r w in_flight queued Breaks held h = breaks_numbers r w in_flight queued h
+hand_numbers r w in_flight queued (TakesBack c) held h = takes_numbers r w in_flight queued c h
 hand_numbers r w in_flight queued Connects held h = connects_numbers r w in_flight queued held h
 hand_numbers r w in_flight queued (Counts last) held h = counts_numbers r (with_hand r in_flight queued w) last h
 

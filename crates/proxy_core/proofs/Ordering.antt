@@ -7,8 +7,8 @@ use Rattle.proxy_core.specs.declared.proxy.Admission.TheVariants.{Queued, Denied
 use Rattle.proxy_core.specs.declared.proxy.Outcome.TheVariants.{To, Ended, Retry, Unsolicited}
 use Rattle.proxy_core.specs.Rules.{Rules, next, needs_number}
 use Rattle.proxy_core.specs.Pending.{Pending, step}
-use Rattle.proxy_core.specs.Machine.{Proxy, admission, flown, is_alike, is_flight, is_in_turn, is_ready, left, may_go, outcome, outcome_of, picked, rest}
-use Rattle.proxy_core.specs.Run.{Request, Sent, Answer, Run, Event, Arrives, Leaves, Flies, Answers, Breaks, Connects, Counts, answer_of, broke, came, connected, happens, is_ended, new_run, next_request, run, said, went, without, written}
+use Rattle.proxy_core.specs.Machine.{Proxy, admission, flown, is_alike, is_flight, is_in_turn, is_ready, left, may_go, outcome, outcome_of, picked, rest, begins_order}
+use Rattle.proxy_core.specs.Run.{Request, Sent, Answer, Run, Event, Arrives, Leaves, Flies, Answers, Breaks, TakesBack, Connects, Counts, answer_of, broke, came, connected, happens, is_ended, new_run, next_request, run, said, took, went, without, written}
 use Rattle.proxy_core.specs.Numbers.{IsInOrder}
 use Rattle.proxy_core.specs.Promises.{pending_of, place_if, places_of, sending, sendings}
 use Rattle.proxy_core.proofs.Lists.{both_true, either, from_other, from_picked, of_push, picked_pending_of, written_of}
@@ -388,6 +388,26 @@ breaks_order r w (a ∷ more) queued h =
     })
     (λ twice. record { rising = h.rising; past = h.past; order = h.order; after = tt })
 
+-- ---- an order is taken back
+
+taken_first : (r : Rules) (w : Run) (a : Request) (more queued : List Request) → Order (with_hand r (a ∷ more) queued w) → Order (took (with_hand r (a ∷ more) queued w) (Some (next w.proxy.number)))
+taken_first r w a more queued h = record {
+  rising = λ c. rising_without a.from c (places_of c more) queued (first_rising a more queued h.rising c);
+  past = λ g in_g. all_without a.from g.sent.from (places_of g.sent.from more) queued (λ p. g.sent.place ≤ p) (first_all a more queued (λ p. g.sent.place ≤ p) g.sent.from (h.past g in_g));
+  order = h.order;
+  after = h.after;
+}
+
+takes_order : (r : Rules) (w : Run) (in_flight queued : List Request) (c : ℕ) → Order (with_hand r in_flight queued w) → Order (happens r (with_hand r in_flight queued w) (TakesBack c))
+takes_order r w in_flight queued c h =
+    let v : Run = with_hand r in_flight queued w in
+    either (λ t. Order (took v t)) w.proxy.is_up None (cond (begins_order c (map (pending_of r) in_flight)) (Some (next w.proxy.number)) None) (λ up. h)
+    (λ down. either (λ t. Order (took v t)) (begins_order c (map (pending_of r) in_flight)) (Some (next w.proxy.number)) None (λ begins. taken_cases r w in_flight queued c begins h) (λ other. h))
+  where
+    taken_cases : (r : Rules) (w : Run) (in_flight queued : List Request) (c : ℕ) → begins_order c (map (pending_of r) in_flight) ≡ true → Order (with_hand r in_flight queued w) → Order (took (with_hand r in_flight queued w) (Some (next w.proxy.number)))
+    taken_cases r w [] queued c begins h = absurd (cc begins)
+    taken_cases r w (a ∷ more) queued c begins h = taken_first r w a more queued h
+
 -- ---- a whole run
 
 hand_order : (r : Rules) (w : Run) (in_flight queued : List Request) (event : Event) → Holds r (with_hand r in_flight queued w) → Numbers r (with_hand r in_flight queued w) → Order (with_hand r in_flight queued w) → Order (happens r (with_hand r in_flight queued w) event)
@@ -396,6 +416,7 @@ hand_order r w in_flight queued (Leaves c) held numbers h = leaves_order r (with
 hand_order r w in_flight queued (Flies picks) held numbers h = flies_order r w in_flight queued picks held numbers h
 hand_order r w in_flight queued (Answers answer) held numbers h = answers_order r w in_flight queued answer held h
 hand_order r w in_flight queued Breaks held numbers h = breaks_order r w in_flight queued h
+hand_order r w in_flight queued (TakesBack c) held numbers h = takes_order r w in_flight queued c h
 hand_order r w in_flight queued Connects held numbers h = connects_order r w in_flight queued numbers h
 hand_order r w in_flight queued (Counts last) held numbers h = record { rising = h.rising; past = h.past; order = h.order; after = h.after }
 

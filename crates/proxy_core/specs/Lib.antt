@@ -11,3 +11,4 @@ pub mod Session
 pub mod WorkedRun
 pub mod Server
 pub mod NextOrder
+pub mod TakenBack

@@ -251,3 +251,23 @@ lost f = lost_of f.flight
 abbrev pub after_broken : Option ℕ → Proxy → Proxy
 after_broken None f = record f { is_up = false; is_resent = true }
 after_broken (Some c) f = without_connection c (record f { flight = rest f.flight; is_up = false; is_resent = true })
+
+-- ---- an order is taken back, while the connection to the server is down
+
+-- the first line of the flight is an unnumbered order of this connection
+abbrev pub begins_order : ℕ → List Pending → Bool
+begins_order c [] = false
+begins_order c (a ∷ more) = a.is_unnumbered && is_from c a
+
+-- the number that it was sent with
+abbrev pub taken_back : ℕ → Proxy → Option ℕ
+taken_back c f = if f.is_up then None else (if begins_order c f.flight then Some (next f.number) else None)
+
+abbrev pub sender_of : List Pending → ℕ
+sender_of [] = 0
+sender_of (a ∷ more) = a.from
+
+-- it is not sent again, and its number may be used
+abbrev pub after_taken : Option ℕ → Proxy → Proxy
+after_taken None f = f
+after_taken (Some number) f = without_connection (sender_of f.flight) (record f { flight = rest f.flight; number = number; is_counted = false })

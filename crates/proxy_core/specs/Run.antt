@@ -6,7 +6,7 @@ use Rattle.proxy_core.specs.declared.proxy.Outcome.{Outcome}
 use Rattle.proxy_core.specs.declared.proxy.Outcome.TheVariants.{To, Ended, Retry, Unsolicited}
 use Rattle.proxy_core.specs.Rules.{Rules, as_sent, next, needs_number}
 use Rattle.proxy_core.specs.Pending.{Pending, new_pending, step}
-use Rattle.proxy_core.specs.Machine.{Proxy, new_proxy, admission, after_admission, is_among, may_go, flown, picked, left, rest, firsts, counted, without_connection, outcome, after_outcome, lost, after_broken}
+use Rattle.proxy_core.specs.Machine.{Proxy, new_proxy, admission, after_admission, is_among, may_go, flown, picked, left, rest, firsts, counted, without_connection, outcome, after_outcome, lost, after_broken, taken_back, after_taken, sender_of}
 
 -- a line that was accepted from a connection
 pub record Request : Type 0 where
@@ -62,6 +62,7 @@ pub data Event : Type 0 where
   Flies : (picks : List Bool) → Event  -- these waiting lines become the flight, if they may
   Answers : (answer : List ℕ) → Event  -- the server answers
   Breaks : Event  -- the connection to the server breaks
+  TakesBack : (c : ℕ) → Event  -- the loop takes the first order of the flight back, if it is of this connection, and that to the server is down
   Connects : Event  -- a new one stands
   Counts : (last : ℕ) → Event  -- the loop found the last number of the proxy's client
 
@@ -162,6 +163,11 @@ abbrev pub broke : Run → Option ℕ → Run
 broke w None = record w { proxy = after_broken None w.proxy; wire = [] }
 broke w (Some c) = record w { proxy = after_broken (Some c) w.proxy; in_flight = rest w.in_flight; queued = without c w.queued; ended = c ∷ w.ended; wire = [] }
 
+-- the order's connection ends: if the loop keeps it, it has another number from then on
+abbrev pub took : Run → Option ℕ → Run
+took w None = w
+took w (Some number) = record w { proxy = after_taken (Some number) w.proxy; in_flight = rest w.in_flight; queued = without (sender_of w.proxy.flight) w.queued; ended = sender_of w.proxy.flight ∷ w.ended }
+
 -- ----
 
 -- an ended connection sends nothing, and no answer arrives without a connection to the server
@@ -171,6 +177,7 @@ happens r w (Leaves c) = record w { proxy = without_connection c w.proxy; queued
 happens r w (Flies picks) = if may_go picks w.proxy then went r picks w else w
 happens r w (Answers answer) = if w.proxy.is_up then said r w answer (outcome r answer w.proxy) else w
 happens r w Breaks = broke w (lost w.proxy)
+happens r w (TakesBack c) = took w (taken_back c w.proxy)
 happens r w Connects = if w.proxy.is_up then w else connected r w
 happens r w (Counts last) = record w { proxy = counted last w.proxy; counts = w.counts ++ record { last = last; sent = length w.sent } ∷ [] }
 

@@ -4,6 +4,7 @@ ghost use Rattle.proxy_core.specs.Fair.{FairShares, OldestFlies};
 ghost use Rattle.proxy_core.specs.Promises.{EveryRun};
 ghost use Rattle.proxy_core.specs.Server.{SessionRule};
 ghost use Rattle.proxy_core.specs.Session.{AtMostOnce, OwnReplies};
+ghost use Rattle.proxy_core.specs.TakenBack.{TakenBackInTime, TakenBackNumber};
 ghost use Rattle.proxy_core.specs.WorkedRun.{WorkedRun, WorkedSession};
 
 /// Whatever lines arrive, whichever connections leave, whenever the server's connection breaks and
@@ -24,6 +25,18 @@ pub fn at_most_once()
 /// carried out has the answer of its own order.
 pub fn own_replies()
     ensures { OwnReplies }
+{}
+
+/// An order that is taken back was sent with the number that `Proxy::take_back` returns, and with no other one that the
+/// server did not refuse.
+pub fn taken_back_number()
+    ensures { TakenBackNumber }
+{}
+
+/// If the loop finds the last numbers right, an order that was taken back is never carried out if a last number that
+/// was found afterwards is below its number: then its connection may ask for it again.
+pub fn taken_back_in_time()
+    ensures { TakenBackInTime }
 {}
 
 /// The oldest waiting line that may fly is the first one of the next flight.

@@ -4,8 +4,8 @@ ghost use Rattle.std.specs.Prelude.{◌≡◌, ◌<◌, ◌↔◌, [], true, IfO
 ghost use Rattle.proxy_core.specs.Rules.{Rules, as_sent, needs_number};
 ghost use Rattle.proxy_core.specs.Pending.{is_from};
 ghost use Rattle.std.specs.Option.{option_copied};
-ghost use Rattle.proxy_core.specs.Machine.{is_denied, is_none, lost_of, picked, picks_of};
-ghost use Rattle.proxy_core.specs.NextOrder.{next_order};
+ghost use Rattle.proxy_core.specs.Machine.{begins_order, is_denied, is_none, lost_of, picked, picks_of};
+ghost use Rattle.proxy_core.specs.NextOrder.{next_number, next_order};
 
 use crate::choice::{choose, take_out};
 use crate::counts::{held_by, hold, release};
@@ -72,7 +72,7 @@ impl Model for Proxy {
 
 impl Proxy {
     ghost use Rattle.proxy_core.specs.Pending.{is_from, new_pending, text_of};
-    ghost use Rattle.proxy_core.specs.Machine.{after_broken, after_number, after_outcome, after_admission, counted, without_connection, outcome, flown, has_denied, held, lost, may_go, new_proxy, picks_of, admission};
+    ghost use Rattle.proxy_core.specs.Machine.{after_broken, after_number, after_outcome, after_admission, after_taken, counted, without_connection, outcome, flown, has_denied, held, lost, may_go, new_proxy, picks_of, admission, taken_back};
 
     /// Returns a proxy without lines and without a connection to the server.
     pub fn new(alloc: Global) -> Self
@@ -296,6 +296,27 @@ impl Proxy {
         Some(connection)
     }
 
+    /// Takes back the first line of the flight after the connection to the server broke, if it is an unnumbered order
+    /// of this connection, and returns the number that it was sent with. The line is not sent again, and its connection
+    /// counts as ended. Nobody knows yet whether the number was used, so unnumbered orders wait until the last number is
+    /// found.
+    pub fn take_back(&mut self, connection: u64) -> Option<u64>
+        ensures told { result ≡ taken_back connection self.old }
+        ensures after { self.new ≡ after_taken result self.old }
+    {
+        if self.is_up || !begins_order(&self.flight, connection) {
+            return None;
+        }
+        let first = self.flight.pop_front()?;
+        let sender = first.from();
+        let number = self.number.saturating_add(1);
+        self.number = number;
+        self.is_counted = false;
+        release(&mut self.held, sender, 1);
+        self.forget(sender);
+        Some(number)
+    }
+
     /// Notes that the connection to the server stands. Returns true if it did not before: then the loop
     /// writes the flight.
     pub fn server_connected(&mut self) -> bool
@@ -323,6 +344,17 @@ impl Proxy {
             return None;
         }
         Some(first.line())
+    }
+
+    /// Returns the number that the proxy gave to the line that the next answer is to, if it is an unnumbered order.
+    pub fn next_number(&self) -> Option<u64>
+        ensures { result ≡ next_number self.now.number self.now.flight }
+    {
+        if self.flight.front()?.is_unnumbered() {
+            Some(self.number.saturating_add(1))
+        } else {
+            None
+        }
     }
 
     /// Returns whether the last number of the proxy's client is known. While it is not, unnumbered orders
@@ -401,6 +433,16 @@ fn begins_once(flight: &VecDeque<Pending>) -> bool
 {
     match flight.front() {
         Some(first) => first.is_once(),
+        None => false,
+    }
+}
+
+/// Returns whether the first line is an unnumbered order of a connection.
+fn begins_order(flight: &VecDeque<Pending>, connection: u64) -> bool
+    ensures { result ≡ begins_order connection flight.now.items }
+{
+    match flight.front() {
+        Some(first) => first.is_unnumbered() && first.from() == connection,
         None => false,
     }
 }

@@ -58,13 +58,20 @@ impl<G: Gateway> EventLoop<G> {
     /// to be left.
     fn deliver(&mut self, answer: &[u8]) -> Result<bool, AllocError> {
         let kind = self.keep_order()?;
+        let own_number = self.core.next_number();
         let Ok(outcome) = self.core.answer(&self.gateway, answer) else {
             return Ok(false);
         };
         match outcome {
-            Outcome::To(number) => self.give(number, kind, answer)?,
-            Outcome::Ended(number) => self.end_unclear(number, kind, answer)?,
-            Outcome::Retry(number) => self.keep_waiting(number)?,
+            Outcome::To(number) => {
+                self.resets.note_answer(number);
+                self.give(number, kind, answer)?;
+            }
+            Outcome::Ended(number) => self.end_unclear(number, kind, own_number, answer)?,
+            Outcome::Retry(number) => {
+                self.resets.note_answer(number);
+                self.keep_waiting(number)?;
+            }
             Outcome::Unsolicited => return Ok(false),
         }
         self.in_flight = self.in_flight.saturating_sub(1);
@@ -130,12 +137,14 @@ impl<G: Gateway> EventLoop<G> {
         Ok(())
     }
 
-    /// Ends the connection of a number, since the answer leaves open what became of its line, and records the answer.
-    /// Errors: out of memory.
+    /// Ends the connection of a number, since the answer leaves open what became of its line, and records the answer: not
+    /// if the line is an order with a number of the proxy, and the only one of the connection. Then the last number shows
+    /// whether it was carried out. Errors: out of memory.
     fn end_unclear(
         &mut self,
         number: u64,
         kind: ExchangeKind,
+        own_number: Option<u64>,
         answer: &[u8],
     ) -> Result<(), AllocError> {
         if number == self.own.number {
@@ -145,6 +154,11 @@ impl<G: Gateway> EventLoop<G> {
         let place = place_of(number);
         match self.connections.get(place) {
             Some(connection) if connection.number == number => {
+                if let Some(own_number) = own_number {
+                    if self.gateway.is_inconclusive(answer) && connection.asked.len() == 1 {
+                        return self.keep_unclear(place, own_number);
+                    }
+                }
                 let line = line_of(kind, self.order.as_slice());
                 let exchange = connection.exchange(kind, line, answer, self.at);
                 record(self.alloc, &mut self.gateway, exchange)?;

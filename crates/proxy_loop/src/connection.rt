@@ -1,9 +1,11 @@
 //! A client's connection.
 
-ghost use Rattle.std.specs.Prelude.{◌≡◌, ◌++◌, ◌∷◌, [], length, true, false, OnOk, None};
+ghost use Rattle.std.specs.Prelude.{◌≡◌, ◌++◌, ◌∷◌, [], length, true, false, OnOk, List, ℕ, None};
+ghost use Rattle.std.specs.Duration.{as_nanos};
 ghost use Rattle.proxy_core.specs.declared.proxy.Admission.TheVariants.{Queued, Denied, Deferred};
-ghost use Rattle.proxy_streams.specs.Inboxes.{after_line};
+ghost use Rattle.proxy_streams.specs.Inboxes.{after_line, new_inbox};
 ghost use Rattle.proxy_loop.specs.Answers.{not_allowed};
+ghost use Rattle.proxy_loop.specs.Waiting.{role_of, waited_since};
 
 use crate::gateway::{Exchange, ExchangeKind, Gateway, Moment};
 use crate::recording::{Recorded, Written, record};
@@ -58,13 +60,20 @@ pub(crate) struct Connection {
 }
 
 impl Connection {
+    /// Returns a connection of which nothing has come.
     pub fn new(
         alloc: Global,
         stream: UnixStream,
         number: u64,
         role: Option<u32>,
         since: Duration,
-    ) -> Self {
+    ) -> Self
+        ensures arguments { (result.stream ≡ stream) × (result.number ≡ number) × (result.role ≡ role) × (result.since ≡ since) }
+        ensures empty { (result.header.items ≡ []) × (result.inbox ≡ new_inbox) × (result.outbox ≡ []) × (result.asked.items ≡ []) }
+        ensures open { (result.is_readable ≡ true) × (result.is_closing ≡ false) × (result.has_ended ≡ false) × (result.blocked_since ≡ None) }
+        ensures idle { (result.is_deferred ≡ false) × (result.reset ≡ None) × (result.is_parked ≡ false) × (result.is_active ≡ false) }
+        ensures blind { (result.is_watching ≡ false) × (result.view_after ≡ None) × (result.owes_view ≡ false) }
+    {
         Connection {
             stream,
             number,
@@ -89,7 +98,13 @@ impl Connection {
     }
 
     /// Reads once, if all that came before is in the line. Errors: out of memory.
-    pub fn fill(&mut self) -> Result<(), AllocError> {
+    pub fn fill(&mut self) -> Result<(), AllocError>
+        ensures who { (self.new.number ≡ self.old.number) × (self.new.role ≡ self.old.role) }
+        ensures others { (self.new.outbox ≡ self.old.outbox) × (self.new.asked ≡ self.old.asked) × (self.new.reset ≡ self.old.reset) × (self.new.is_deferred ≡ self.old.is_deferred) }
+        ensures line { (self.new.inbox.line ≡ self.old.inbox.line) × (self.new.inbox.is_whole ≡ self.old.inbox.is_whole) }
+        ensures waits { self.old.inbox.is_whole ≡ true → self.new.inbox ≡ self.old.inbox }
+        ensures ended { self.old.has_ended ≡ false → self.new.has_ended ≡ true → (self.new.is_readable ≡ false) × (self.new.inbox ≡ self.old.inbox) }
+    {
         if !self.inbox.is_drained() {
             return Ok(());
         }
@@ -111,7 +126,9 @@ impl Connection {
         Ok(())
     }
 
-    fn end_input(&mut self) {
+    fn end_input(&mut self)
+        ensures { self.new ≡ record self.old { has_ended = true; is_readable = false } }
+    {
         self.has_ended = true;
         self.is_readable = false;
     }
@@ -124,7 +141,9 @@ impl Connection {
     }
 
     /// Returns how long its oldest line without an answer has waited.
-    pub fn waited(&self, now: Duration) -> Duration {
+    pub fn waited(&self, now: Duration) -> Duration
+        ensures { as_nanos result ≡ waited_since (as_nanos now) self.now.asked.items }
+    {
         match self.asked.front() {
             Some(asked) => now.saturating_sub(*asked),
             None => Duration::ZERO,
@@ -139,7 +158,9 @@ impl Connection {
         answer: &'a [u8],
         at: Moment,
     ) -> Exchange<'l, 'a>
-        ensures { (result.kind ≡ kind) × (result.line ≡ line.entry) × (result.answer ≡ answer.entry) × (result.at ≡ at) }
+        ensures given { (result.kind ≡ kind) × (result.line ≡ line.entry) × (result.answer ≡ answer.entry) × (result.at ≡ at) }
+        ensures role { result.role ≡ role_of self.now.role }
+        ensures waited { as_nanos result.waited ≡ waited_since (as_nanos at.now) self.now.asked.items }
     {
         Exchange {
             role: self.role.unwrap_or(0),
@@ -229,7 +250,12 @@ impl Connection {
     }
 
     /// Sends its answers, as far as its client takes them. Returns false if the connection has failed.
-    pub fn send<G: Gateway>(&mut self, _written: &Written<'_, G>, now: Duration) -> bool {
+    pub fn send<G: Gateway>(&mut self, _written: &Written<'_, G>, now: Duration) -> bool
+        ensures sent { (part : List ℕ) × (self.old.outbox ≡ part ++ self.new.outbox) }
+        ensures whole { result ≡ true → self.new.blocked_since ≡ None → self.new.outbox ≡ [] }
+        ensures who { (self.new.number ≡ self.old.number) × (self.new.role ≡ self.old.role) }
+        ensures others { (self.new.inbox ≡ self.old.inbox) × (self.new.asked ≡ self.old.asked) × (self.new.reset ≡ self.old.reset) }
+    {
         let before = self.outbox.len();
         match self.outbox.send(&mut self.stream) {
             Sending::Whole => {

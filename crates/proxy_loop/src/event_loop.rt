@@ -1,7 +1,7 @@
 //! The state of the loop.
 
-ghost use Rattle.std.specs.Prelude.{◌≡◌, None};
-ghost use Rattle.slab.specs.Slab.{slab_len};
+ghost use Rattle.std.specs.Prelude.{◌≡◌, ◌==◌, [], false, None, MatchOption};
+ghost use Rattle.slab.specs.Slab.{get, slab_len};
 ghost use Rattle.proxy_core.specs.Machine.{new_proxy};
 
 use crate::connection::Connection;
@@ -13,6 +13,7 @@ use crate::own::Own;
 use crate::ready::Ready;
 use crate::resetting::Resets;
 use crate::settings::Settings;
+use crate::unclear::Unclear;
 use crate::upstream::Server;
 use crate::watching::Views;
 use mio::{Interest, Registry, Token};
@@ -62,6 +63,8 @@ pub struct EventLoop<G: Gateway> {
     pub(crate) watchers: Vec<usize>,
     pub(crate) views: Views,
     pub(crate) resets: Resets,
+    /// The orders of which it is not known whether they were carried out.
+    pub(crate) unclear: VecDeque<Unclear>,
     /// A client had not taken all its answers when the connections were last looked at.
     pub(crate) has_blocked: bool,
     /// When the server is tried again.
@@ -86,7 +89,7 @@ impl<G: Gateway> EventLoop<G> {
     ) -> Self
         ensures core { result.core ≡ new_proxy }
         ensures arguments { (result.settings ≡ settings) × (result.gateway ≡ gateway) × (result.listeners ≡ listeners) × (result.addresses ≡ addresses) }
-        ensures none { (slab_len result.connections ≡ 0) × (result.in_flight ≡ 0) × (result.server ≡ None) }
+        ensures none { (slab_len result.connections ≡ 0) × (result.in_flight ≡ 0) × (result.server ≡ None) × (result.unclear.items ≡ []) }
     {
         EventLoop {
             alloc,
@@ -117,6 +120,7 @@ impl<G: Gateway> EventLoop<G> {
             watchers: Vec::new(alloc),
             views: Views::new(alloc, signals),
             resets: Resets::new(alloc),
+            unclear: VecDeque::new(alloc),
             has_blocked: false,
             retry_at: Duration::ZERO,
             accept_at: Duration::ZERO,
@@ -199,6 +203,16 @@ impl<G: Gateway> EventLoop<G> {
         match self.open.get(&role) {
             Some(count) => *count,
             None => 0,
+        }
+    }
+
+    /// Returns whether the connection of a number is at a place.
+    pub(crate) fn is_at(&self, place: usize, number: u64) -> bool
+        ensures { MatchOption (get self.now.connections place) (result ≡ false) (λ connection. result ≡ (connection.number == number)) }
+    {
+        match self.connections.get(place) {
+            Some(connection) => connection.number == number,
+            None => false,
         }
     }
 

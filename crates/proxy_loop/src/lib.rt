@@ -23,6 +23,7 @@ mod serving;
 mod settings;
 mod taking;
 mod ticking;
+mod unclear;
 mod upstream;
 mod watching;
 

@@ -1,7 +1,11 @@
 //! What the proxy asks the server for itself: the last number of its client, and views.
 
+ghost use Rattle.std.specs.Prelude.{◌≡◌, ◌+◌, ◌*◌, ◌^◌, ◌<◌, ◌≤◌, ◌||◌, [], false, None};
+ghost use Rattle.std.specs.Duration.{as_nanos};
+
 use crate::event_loop::EventLoop;
 use crate::gateway::Gateway;
+use crate::number::number_of;
 use crate::settings::FAILURE_PAUSE;
 use proxy_core::Admission;
 use proxy_streams::NumberSearch;
@@ -43,7 +47,11 @@ pub(crate) struct Own {
 }
 
 impl Own {
-    pub fn new(alloc: Global) -> Self {
+    /// Returns the proxy's own connection, for which nothing was asked.
+    pub fn new(alloc: Global) -> Self
+        ensures none { (result.number ≡ 0) × (result.asked.items ≡ []) × (result.search ≡ None) × (result.last ≡ 0) × (as_nanos result.probe_at ≡ 0) }
+        ensures blind { (result.wants_view ≡ false) × (result.awaits_view ≡ false) × (result.views ≡ 0) }
+    {
         Own {
             number: 0,
             asked: VecDeque::new(alloc),
@@ -57,10 +65,16 @@ impl Own {
     }
 
     /// Begins again as a new connection, after an answer that leaves open what became of a line.
-    pub fn begin_again(&mut self, came: &mut u64) {
+    pub fn begin_again(&mut self, came: &mut u64)
+        ensures number { came.old < 2 ^ 43 → (came.new ≡ came.old + 1) × (self.new.number ≡ came.new * 2 ^ 20) }
+        ensures last { 2 ^ 43 ≤ came.old → (came.new ≡ came.old) × (self.new.number ≡ self.old.number) }
+        ensures dropped { (self.new.asked.items ≡ []) × (self.new.search ≡ None) × (self.new.awaits_view ≡ false) }
+        ensures view { self.new.wants_view ≡ (self.old.wants_view || self.old.awaits_view) }
+        ensures others { (self.new.last ≡ self.old.last) × (self.new.views ≡ self.old.views) × (self.new.probe_at ≡ self.old.probe_at) }
+    {
         if *came < 1 << 43 {
             *came += 1;
-            self.number = *came << 20;
+            self.number = number_of(*came, 0);
         }
         self.asked.clear();
         self.search = None;
@@ -89,7 +103,12 @@ impl<G: Gateway> EventLoop<G> {
     pub(crate) fn wants_number(&self) -> bool {
         !self.core.is_counted()
             && self.own.asked.is_empty()
-            && !(self.core.is_idle() && self.resets.waiting.is_empty())
+            && !(self.core.is_idle() && self.has_nothing_to_settle())
+    }
+
+    /// Returns whether no reset waits for a view, and no order for the last number.
+    pub(crate) fn has_nothing_to_settle(&self) -> bool {
+        self.resets.waiting.is_empty() && self.unclear.is_empty()
     }
 
     fn send_probes(&mut self) -> Result<(), AllocError> {
@@ -123,10 +142,7 @@ impl<G: Gateway> EventLoop<G> {
     /// Takes an answer to a line of the proxy.
     pub(crate) fn hear_own(&mut self, answer: &[u8]) -> Result<(), AllocError> {
         match self.own.asked.pop_front() {
-            Some(OwnLine::Probe(number)) => {
-                self.hear_probe(number, answer);
-                Ok(())
-            }
+            Some(OwnLine::Probe(number)) => self.hear_probe(number, answer),
             Some(OwnLine::Show) => {
                 self.own.awaits_view = false;
                 self.hear_view(answer)
@@ -136,26 +152,30 @@ impl<G: Gateway> EventLoop<G> {
     }
 
     /// Takes an answer to the order with this number that the server refuses in any case.
-    fn hear_probe(&mut self, number: u64, answer: &[u8]) {
+    fn hear_probe(&mut self, number: u64, answer: &[u8]) -> Result<(), AllocError> {
         if self.core.is_counted() {
-            return;
+            return Ok(());
         }
         if answer == NUMBER_REUSED {
-            self.find(number);
-        } else if self.gateway.is_refusal(answer) {
-            self.find(number.saturating_sub(1));
-        } else if !self.gateway.refuses_number(answer) {
+            return self.find(number);
+        }
+        if self.gateway.is_refusal(answer) {
+            return self.find(number.saturating_sub(1));
+        }
+        if !self.gateway.refuses_number(answer) {
             self.own.search = None;
             self.own.probe_at = self
                 .at
                 .now
                 .saturating_add(Duration::from_millis(FAILURE_PAUSE));
         }
+        Ok(())
     }
 
-    fn find(&mut self, last: u64) {
+    fn find(&mut self, last: u64) -> Result<(), AllocError> {
         self.core.set_last_number(last);
         self.own.last = last;
         self.own.search = None;
+        self.clear_up(last)
     }
 }

@@ -1,5 +1,8 @@
 //! An event of a source.
 
+ghost use Rattle.std.specs.Prelude.{◌≡◌, ◌||◌};
+ghost use Rattle.mio.specs.Event.{event_token, is_error, is_read_closed, is_readable, is_writable};
+
 use mio::event::Event;
 
 /// What a source was found ready for.
@@ -13,7 +16,12 @@ pub(crate) struct Ready {
 }
 
 impl Ready {
-    pub fn of(event: &Event) -> Self {
+    /// Returns what an event says.
+    pub fn of(event: &Event) -> Self
+        ensures token { result.token ≡ (event_token event.now).0 }
+        ensures ready { (result.is_readable ≡ is_readable event.now) × (result.is_writable ≡ is_writable event.now) }
+        ensures closing { result.is_closing ≡ (is_read_closed event.now || is_error event.now) }
+    {
         Ready {
             token: event.token().0,
             is_readable: event.is_readable(),

@@ -1,8 +1,15 @@
-//! Resets that name an epoch: each goes to the server alone, right after a view by which it may go.
+//! Resets that name an epoch: each goes to the server alone, right after a view by which it may go, over the connection
+//! that the view came over. If that connection is lost before the answer, the reset is not sent again: the last number
+//! of the proxy's client shows whether it was carried out, and if not, it is judged by another view.
+
+ghost use Rattle.std.specs.Prelude.{◌≡◌, [], false, None, Some};
+ghost use Rattle.std.specs.Duration.{as_nanos};
 
 use crate::connection::NOT_ALLOWED;
 use crate::event_loop::EventLoop;
 use crate::gateway::{ExchangeKind, Gateway, Verdict};
+use crate::number::place_of;
+use crate::unclear::Unclear;
 use coord_types::NodeId;
 use proxy_core::Admission;
 use std::alloc::{AllocError, Global};
@@ -25,16 +32,33 @@ pub(crate) struct Resets {
     pub is_judged: bool,
     /// When the next one is judged.
     pub judge_at: Duration,
+    /// The number of the connection whose reset the core has.
+    pub on_its_way: Option<u64>,
 }
 
 impl Resets {
-    pub fn new(alloc: Global) -> Self {
+    /// Returns no resets.
+    pub fn new(alloc: Global) -> Self
+        ensures none { (result.waiting.items ≡ []) × (result.parked.items ≡ []) × (result.on_its_way ≡ None) }
+        ensures idle { (result.is_holding ≡ false) × (result.is_judged ≡ false) × (as_nanos result.judge_at ≡ 0) }
+    {
         Resets {
             waiting: VecDeque::new(alloc),
             parked: VecDeque::new(alloc),
             is_holding: false,
             is_judged: false,
             judge_at: Duration::ZERO,
+            on_its_way: None,
+        }
+    }
+
+    /// Notes an answer to the connection of a number.
+    pub fn note_answer(&mut self, number: u64)
+        ensures answered { self.old.on_its_way ≡ Some number → self.new.on_its_way ≡ None }
+        ensures others { (self.new.waiting ≡ self.old.waiting) × (self.new.parked ≡ self.old.parked) × (self.new.is_judged ≡ self.old.is_judged) × (self.new.is_holding ≡ self.old.is_holding) }
+    {
+        if self.on_its_way == Some(number) {
+            self.on_its_way = None;
         }
     }
 }
@@ -148,7 +172,7 @@ impl<G: Gateway> EventLoop<G> {
                     .admit(self.alloc, &self.gateway, number, role, line)?;
                 match admission {
                     // It stays the next line until its answer comes: it may have to be judged again.
-                    Admission::Queued => {}
+                    Admission::Queued => self.resets.on_its_way = Some(number),
                     Admission::Denied => {
                         let gateway = &mut self.gateway;
                         let (kind, answer) = (ExchangeKind::Denied, NOT_ALLOWED);
@@ -181,15 +205,61 @@ impl<G: Gateway> EventLoop<G> {
         Ok(())
     }
 
-    /// Judges a reset of a connection again, whose number was refused.
+    /// Judges a reset of the connection at a place again, whose number was refused.
     pub(crate) fn judge_again(&mut self, place: usize) -> Result<(), AllocError> {
+        if self.renumber(place)?.is_some() {
+            self.resets.waiting.push_back(place)?;
+        }
+        Ok(())
+    }
+
+    /// Gives the connection at a place another number, and has the core drop its waiting lines. If no number is left, the
+    /// connection is ended.
+    pub(crate) fn renumber(&mut self, place: usize) -> Result<Option<u64>, AllocError> {
         let Some(number) = self.next_number(place) else {
+            self.end(place)?;
+            return Ok(None);
+        };
+        let Some(connection) = self.connections.get_mut(place) else {
+            return Ok(None);
+        };
+        self.core.forget(connection.number);
+        connection.number = number;
+        Ok(Some(number))
+    }
+
+    /// Takes back the reset that is on its way, after the server's connection was lost. If it was sent, the last number
+    /// has to be found first; if not, it is judged again.
+    pub(crate) fn withdraw_reset(&mut self) -> Result<(), AllocError> {
+        let Some(connection) = self.resets.on_its_way.take() else {
             return Ok(());
         };
-        if let Some(connection) = self.connections.get_mut(place) {
-            self.core.forget(connection.number);
-            connection.number = number;
-            self.resets.waiting.push_back(place)?;
+        let sent = self.core.take_back(connection);
+        if sent.is_some() {
+            self.in_flight = self.in_flight.saturating_sub(1);
+        }
+        let place = place_of(connection);
+        if !self.is_at(place, connection) {
+            self.core.forget(connection);
+            self.forget_departed(connection);
+            return Ok(());
+        }
+        let Some(connection) = self.renumber(place)? else {
+            return Ok(());
+        };
+        match sent {
+            Some(number) => {
+                let line = None;
+                self.unclear.push_back(Unclear {
+                    connection,
+                    number,
+                    line,
+                })?;
+            }
+            None => {
+                self.resets.waiting.push_back(place)?;
+                self.resets.is_judged = false;
+            }
         }
         Ok(())
     }

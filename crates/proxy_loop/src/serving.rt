@@ -13,6 +13,11 @@ use std::time::{Clock, SystemTime};
 const MOST_EVENTS: usize = 1024;
 
 /// Serves the connections of all listeners. It returns only if the system refuses a wait, or memory is out.
+///
+/// It has no contract for the time until then. The types ensure that an answer of the server is appended to the bytes for
+/// a client only as a `Recorded`, which `record` alone makes, and that bytes are sent to a client only beside a `Written`,
+/// which `write` alone makes, and during which nothing can be recorded. The flight is written to the server by `push_flight`
+/// alone.
 pub fn serve<R: Net + Files<File = File> + AllocGlobal + Clock + Wait + Print + Eprint, G: Gateway>(
     rt: &R,
     event_loop: &mut EventLoop<G>,

@@ -128,7 +128,7 @@ impl<G: Gateway> EventLoop<G> {
     }
 
     /// Answers the line of the connection at a place, after all answers to its earlier lines.
-    fn refuse(
+    pub(crate) fn refuse(
         &mut self,
         place: usize,
         kind: ExchangeKind,

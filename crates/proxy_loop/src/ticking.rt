@@ -43,7 +43,7 @@ impl<G: Gateway> EventLoop<G> {
     fn needs_sweep(&self) -> bool {
         self.has_blocked
             || self.open.contains_key(&0)
-            || !self.resets.waiting.is_empty()
+            || !self.has_nothing_to_settle()
             || !self.core.is_idle()
     }
 

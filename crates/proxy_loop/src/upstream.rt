@@ -81,7 +81,11 @@ impl<G: Gateway> EventLoop<G> {
         if !server.is_connected || self.in_flight > 0 {
             return Ok(());
         }
-        if server.is_used && now.saturating_sub(server.since) > Duration::from_millis(MOST_USE) {
+        // A reset that a view lets go is sent over the connection of that view: nobody comes in between.
+        if server.is_used
+            && self.resets.on_its_way.is_none()
+            && now.saturating_sub(server.since) > Duration::from_millis(MOST_USE)
+        {
             self.let_go()?;
             return self.connect(rt, registry);
         }
@@ -143,7 +147,7 @@ impl<G: Gateway> EventLoop<G> {
             self.in_flight = self.in_flight.saturating_sub(1);
             self.end_number(number)?;
         }
-        Ok(())
+        self.withdraw_reset()
     }
 
     fn wait_for_next(&mut self) {

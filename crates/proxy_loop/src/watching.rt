@@ -1,5 +1,8 @@
 //! Connections that watch.
 
+ghost use Rattle.std.specs.Prelude.{◌≡◌, [], false};
+ghost use Rattle.std.specs.Duration.{as_nanos, max_nanos};
+
 use crate::event_loop::EventLoop;
 use crate::gateway::Gateway;
 use crate::settings::{BEAT, RESET_PAUSE};
@@ -31,7 +34,11 @@ pub(crate) struct Views {
 }
 
 impl Views {
-    pub fn new(alloc: Global, signals: Option<String>) -> Self {
+    /// Returns the state before the first view. `signals` is the path of the file that the server's signals are printed to.
+    pub fn new(alloc: Global, signals: Option<String>) -> Self
+        ensures none { (result.line.items ≡ []) × (result.is_fresh ≡ false) × (as_nanos result.ask_at ≡ max_nanos) × (as_nanos result.beat_at ≡ max_nanos) }
+        ensures signals { (result.signals ≡ signals) × (result.signals_length ≡ 0) × (as_nanos result.signals_at ≡ 0) }
+    {
         Views {
             line: Vec::new(alloc),
             is_fresh: false,
