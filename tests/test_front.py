@@ -79,5 +79,8 @@ class Proxy(Files):
     def test_the_proxy(self) -> None:
         self.files("test_proxy")
 
+    def test_the_audit_of_the_proxy(self) -> None:
+        self.files("test_proxy_audit")
+
 
 del Files, Run  # or their tests would be found here once more

@@ -125,6 +125,8 @@ class Front:
                 with open(f"{folder}/everything.toml", "w", encoding="ascii") as file:
                     file.write(f"[[allow]]\nprincipals = ['{USER}']\nops = {OPS}\n")
                 program += ["--policy", f"{folder}/everything.toml"]
+            if "--audit" not in words:
+                program += ["--audit", self.audit]
         else:
             program = [python, f"{CLIENT}/resetd-front", "serve", "--socket", self.path, "--state", f"{folder}/front", "--audit", self.audit]
         usual = {"--patience": "600", "--stuck": "600", "--server-silent": "600"}

@@ -4,3 +4,4 @@ mod OneLine
 pub mod Values
 mod Shown
 mod Due
+mod Earliest

@@ -4,3 +4,4 @@ pub mod Lines
 pub mod Quotas
 pub mod Laws
 pub mod Pending
+pub mod Audits

@@ -1,9 +1,9 @@
-//! The audit of the proxy, and its metrics.
+//! The audit of the proxy.
 //!
 //! An [`Event`] has one line of JSON, which [`append_line`] appends to a text (`specs/Lines.antt`). [`Quotas`] limits
-//! the lines that a principal can cause, and counts those that are left out (`specs/Quotas.antt`). An [`AuditText`]
-//! holds lines until they are written, and counts those that could not be written. An [`AuditFile`] is the file that
-//! has the audit's name. A [`Tally`] has the proxy's counters, as text for Prometheus (`specs/Metrics.antt`).
+//! the lines that a principal can cause, and counts those that are left out (`specs/Quotas.antt`). [`Pending`] has the
+//! lines until they are written, and counts those that are lost. An [`AuditFile`] is the file that has the audit's
+//! name. [`Audit`] is all of them together (`specs/Audits.antt`).
 //!
 //! The main theorems are those of [`laws`]: a line is read back as its event and has no other line feed than its last
 //! byte; in no second are there more lines of one principal and kind than its quota, and each line that is left out is
@@ -21,7 +21,7 @@ mod quotas;
 mod seconds;
 mod time;
 
-pub use audit_log::Audit;
+pub use audit_log::{Audit, STANDARD_OUTPUT};
 pub use event::{ClientLine, Event, MOST_TEXT_CHARS};
 pub use file::AuditFile;
 pub use line::append_line;
