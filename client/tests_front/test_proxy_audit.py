@@ -185,8 +185,11 @@ class Files(Audited):
         return [line["line"]["number"] for line in lines if line["event"] == "answered"]
 
     def test_a_file_that_is_moved(self) -> None:
+        """The next line goes to the file of that name, which somebody has made again."""
         self.order(1)
         os.rename(self.front.audit, self.front.audit + ".1")
+        with open(self.front.audit, "xb"):
+            pass
         self.order(2)
         self.assertEqual((self.numbers(self.front.audit + ".1"), self.numbers(self.front.audit)), ([1], [2]))
 

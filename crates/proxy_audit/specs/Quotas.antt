@@ -1,8 +1,6 @@
 -- How many lines a principal may cause in a second, and how many were left out. Times are nanoseconds.
 use Rattle.std.specs.Prelude.{ℕ, ◌+◌, ◌-◌, ◌^◌, ◌==◌, ◌&&◌, ◌||◌, Bool, true, nat_lt, nat_le, min, if◌then◌else◌, List, [], ◌∷◌, ◌++◌, length, Option, Some, None, unwrap_or}
-use Rattle.std.specs.BTreeMap.{get}
 use Rattle.std.specs.Duration.{max_nanos}
-use Rattle.std.specs.Ordering.{nat_cmp}
 use Rattle.proxy_audit.specs.declared.quota.LineKind.{LineKind}
 use Rattle.proxy_audit.specs.declared.quota.LineKind.TheVariants.{Refusal, Connection}
 use Rattle.proxy_audit.specs.declared.quota.TheConstants.{MOST_LINES}
