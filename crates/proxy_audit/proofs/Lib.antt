@@ -5,3 +5,4 @@ pub mod Values
 mod Shown
 mod Due
 mod Earliest
+mod Given

@@ -5,3 +5,4 @@ pub mod Quotas
 pub mod Laws
 pub mod Pending
 pub mod Audits
+pub mod Tallies

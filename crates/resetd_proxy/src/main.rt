@@ -3,11 +3,10 @@
 
 mod arguments;
 mod gateway;
-mod histogram;
 mod judging;
 mod metrics;
 mod recording;
-mod tally;
+mod totals;
 
 use arguments::{Arguments, Task, read_arguments};
 use gateway::FileGateway;

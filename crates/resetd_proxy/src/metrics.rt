@@ -1,7 +1,7 @@
 //! The metrics: a text for Prometheus, in a file or on standard output.
 
-use crate::tally::Tally;
-use proxy_audit::STANDARD_OUTPUT;
+use crate::totals::push_totals;
+use proxy_audit::{STANDARD_OUTPUT, Tally};
 use proxy_loop::Counts;
 use std::alloc::{AllocError, Global};
 use std::fs::{File, Files};
@@ -55,7 +55,7 @@ impl Metrics {
             return;
         }
         self.due = now.saturating_add(Duration::from_secs(TEXT_PAUSE));
-        let Ok(text) = self.tally.text(rt.alloc(), counts, lost) else {
+        let Ok(text) = self.new_text(rt.alloc(), counts, lost) else {
             return;
         };
         if text.as_str() == self.text.as_str() {
@@ -69,6 +69,13 @@ impl Metrics {
             let path = self.path.as_str();
             let _ = eprintln!(rt; "resetd-proxy: {path} can't be written: the metrics are old");
         }
+    }
+
+    fn new_text(&self, alloc: Global, counts: &Counts, lost: u64) -> Result<String, AllocError> {
+        let mut text = String::new(alloc);
+        self.tally.push(&mut text)?;
+        push_totals(&mut text, counts, lost)?;
+        Ok(text)
     }
 
     /// Puts a text in the place of the last one.
