@@ -1,7 +1,7 @@
 //! The metrics that are one number each.
 
 ghost use Rattle.std.specs.Prelude.{◌≡◌, ◌++◌, OnOk, string_bytes};
-ghost use Rattle.resetd_proxy.specs.Totals.{answering_lines, counter_lines, gauge_lines, totals_text};
+ghost use Rattle.resetd_proxy.specs.Totals.{answering_lines, counter_lines, counters_text, gauge_lines, gauges_text, totals_text};
 
 use proxy_loop::Counts;
 use std::alloc::AllocError;
@@ -10,37 +10,29 @@ use std::alloc::AllocError;
 pub(crate) fn push_totals(text: &mut String, counts: &Counts, lost: u64) -> Result<(), AllocError>
     ensures { OnOk result (string_bytes text.new ≡ string_bytes text.old ++ totals_text counts.now lost) }
 {
-    push_counter(
-        text,
-        "connections",
-        "connections since the start",
-        counts.connections,
-    )?;
+    push_counters(text, counts)?;
+    let about = "audit lines that could not be written";
+    push_counter(text, "audit_lost", about, lost)?;
+    push_gauges(text, counts)
+}
+
+fn push_counters(text: &mut String, counts: &Counts) -> Result<(), AllocError>
+    ensures { OnOk result (string_bytes text.new ≡ string_bytes text.old ++ counters_text counts.now) }
+{
+    let about = "connections since the start";
+    push_counter(text, "connections", about, counts.connections)?;
     push_counter(text, "flights", "flights", counts.flights)?;
-    push_counter(
-        text,
-        "resends",
-        "lines sent again to the server",
-        counts.resends,
-    )?;
-    push_counter(
-        text,
-        "audit_lost",
-        "audit lines that could not be written",
-        lost,
-    )?;
-    push_gauge(
-        text,
-        "open_connections",
-        "open connections",
-        counts.open as u64,
-    )?;
-    push_gauge(
-        text,
-        "watchers",
-        "connections that watch",
-        counts.watchers as u64,
-    )?;
+    let about = "lines sent again to the server";
+    push_counter(text, "resends", about, counts.resends)
+}
+
+fn push_gauges(text: &mut String, counts: &Counts) -> Result<(), AllocError>
+    ensures { OnOk result (string_bytes text.new ≡ string_bytes text.old ++ gauges_text counts.now) }
+{
+    let open = counts.open as u64;
+    push_gauge(text, "open_connections", "open connections", open)?;
+    let watchers = counts.watchers as u64;
+    push_gauge(text, "watchers", "connections that watch", watchers)?;
     push_answering(text, counts.is_answering)
 }
 
@@ -55,6 +47,7 @@ fn push_answering(text: &mut String, is_answering: Option<bool>) -> Result<(), A
     }
 }
 
+#[tactic(auto, unfolding(crate::specs::Totals::counter_lines))]
 fn push_counter(text: &mut String, name: &str, about: &str, count: u64) -> Result<(), AllocError>
     ensures { OnOk result (string_bytes text.new ≡ string_bytes text.old ++ counter_lines name.now about.now count) }
 {
@@ -63,6 +56,7 @@ fn push_counter(text: &mut String, name: &str, about: &str, count: u64) -> Resul
     writeln!(text, "resetd_front_{name}_total {count}")
 }
 
+#[tactic(auto, unfolding(crate::specs::Totals::gauge_lines))]
 fn push_gauge(text: &mut String, name: &str, about: &str, count: u64) -> Result<(), AllocError>
     ensures { OnOk result (string_bytes text.new ≡ string_bytes text.old ++ gauge_lines name.now about.now count) }
 {
