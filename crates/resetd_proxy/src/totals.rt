@@ -13,7 +13,8 @@ pub(crate) fn push_totals(text: &mut String, counts: &Counts, lost: u64) -> Resu
     push_counters(text, counts)?;
     let about = "audit lines that could not be written";
     push_counter(text, "audit_lost", about, lost)?;
-    push_gauges(text, counts)
+    push_gauges(text, counts)?;
+    Ok(())
 }
 
 fn push_counters(text: &mut String, counts: &Counts) -> Result<(), AllocError>
@@ -23,7 +24,8 @@ fn push_counters(text: &mut String, counts: &Counts) -> Result<(), AllocError>
     push_counter(text, "connections", about, counts.connections)?;
     push_counter(text, "flights", "flights", counts.flights)?;
     let about = "lines sent again to the server";
-    push_counter(text, "resends", about, counts.resends)
+    push_counter(text, "resends", about, counts.resends)?;
+    Ok(())
 }
 
 fn push_gauges(text: &mut String, counts: &Counts) -> Result<(), AllocError>
