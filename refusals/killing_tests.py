@@ -21,6 +21,8 @@ from edits import Edit
 TOGETHER = ("units", "tests")
 # The words of the program's build, with the files that it leaves, by the variables that name them.
 PROGRAM, FILES = ["--steps", "32", "resetd", "resetd_short"], {"RESETD": "resetd", "RESETD_SHORT": "resetd_short"}
+# The words of the build of `resetd-proxy`, which is made if a mutant is in one of its own crates.
+PROXY = ["--proxy", "--plain", "resetd_proxy"]
 # Seconds within which a test of a crate ends, and after which one that its edit makes wait counts as waiting.
 LIMIT, WAITS = 600, 60
 LATE, SEEN = "did not end in time", ("FAILED", "waits")
@@ -68,13 +70,19 @@ def build(scratch: str, tests: str, edits: list[Edit]) -> str:
     """Builds what these tests run. What a build says where it fails, and nothing where it does not."""
     chosen = ["tools/trial_build", "--schemata", *(word for edit in edits for word in ("--mutant", edit.id))]
     if tests == "tests":
-        file_of = {file: f"{scratch}/{file}" for file in FILES.values()}
-        wanted = [[*chosen, *(file_of.get(word, word) for word in PROGRAM)], ["tools/trial_library", scratch]]
+        file_of = {file: f"{scratch}/{file}" for file in [*FILES.values(), PROXY[-1]]}
+        programs = [PROGRAM, PROXY] if any(is_of_proxy(edit) for edit in edits) else [PROGRAM]
+        wanted = [[*chosen, *(file_of.get(word, word) for word in words)] for words in programs] + [["tools/trial_library", scratch]]
     else:
         wanted = [[*chosen, "--units", f"{scratch}/{tests}"]]
     making = [subprocess.Popen(words, stdout=subprocess.PIPE, stderr=subprocess.STDOUT, text=True) for words in wanted]
     said = [process.communicate()[0] for process in making]
     return "\n".join(text for process, text in zip(making, said) if process.returncode)
+
+
+def is_of_proxy(edit: Edit) -> bool:
+    """Whether an edit is in a crate of `resetd-proxy`, of which `resetd` has none."""
+    return edit.crate.startswith(("proxy_", "resetd_proxy"))
 
 
 def what_test_did(scratch: str, tests: str, test: str, number: int, seconds: int = LIMIT) -> str:
@@ -83,6 +91,8 @@ def what_test_did(scratch: str, tests: str, test: str, number: int, seconds: int
     if tests == "tests":
         files = {variable: f"{scratch}/{file}" for variable, file in FILES.items()}
         environment |= {**files, "RESETD_MEMBER": f"{scratch}/libresetd_member.so"}
+        if os.path.exists(f"{scratch}/{PROXY[-1]}"):
+            environment["RESETD_PROXY"] = f"{scratch}/{PROXY[-1]}"
         done = subprocess.run(["tests/run", "--jobs", "1", test], env=environment, capture_output=True, text=True)
         return outcome_in(test, done.stdout)
     try:

@@ -94,6 +94,9 @@ class Proxy(Files):
     def test_torture(self) -> None:
         self.files("test_torture")
 
+    def test_the_audit_of_the_proxy(self) -> None:
+        self.files("test_proxy_audit")
+
 
 class MembersAtProxy(Files):
     """Members of every language at the proxy."""

@@ -4,3 +4,5 @@ mod OneLine
 pub mod Values
 mod Shown
 mod Due
+mod Earliest
+mod Given

@@ -6,8 +6,8 @@ use Rattle.std.proofs.lemmas.List.Elements.{filter-append}
 use Rattle.std.specs.Prelude.{filter}
 use Rattle.proxy_audit.specs.declared.quota.LineKind.{LineKind}
 use Rattle.proxy_audit.specs.declared.quota.LineKind.TheVariants.{Refusal, Connection}
-use Rattle.proxy_audit.specs.Quotas.{Quota, after_admission, after_more, has_room, is_due, more, new_quota, second, times_of, with_left_out, with_moment, with_times, without_left_out}
-use Rattle.proxy_audit.specs.Laws.{AreInOrder, Call, QuotaHolds, after_call, after_calls, asks, counted_by, counted_in, is_asked, is_in_second, is_kind, left_out_by, left_out_in, line_at, lines_at, looks, or_zero}
+use Rattle.proxy_audit.specs.Quotas.{Quota, after_admission, after_more, has_room, is_due, new_quota, second, times_of, with_left_out, with_moment, with_times, without_left_out}
+use Rattle.proxy_audit.specs.Laws.{AreInOrder, Call, QuotaHolds, after_calls, asks, counted_in, is_asked, is_in_second, is_kind, left_out_in, lines_at, looks, or_zero}
 
 -- ---- counting
 

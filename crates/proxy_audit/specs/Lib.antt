@@ -4,3 +4,5 @@ pub mod Lines
 pub mod Quotas
 pub mod Laws
 pub mod Pending
+pub mod Audits
+pub mod Tallies

@@ -25,7 +25,7 @@ LosesLine old new = (new.unwritten ≡ old.unwritten) × (new.lost ≡ min (old.
 abbrev pub Adds : ℕ → Event → Pending → Pending → Type 0
 Adds nanos e old new = AddsLine nanos e old new ⊎ LosesLine old new
 
--- what becomes of a line that a quota has room for, or has not
-abbrev pub AddsWithin : Bool → ℕ → Event → Pending → Pending → Type 0
-AddsWithin true nanos e old new = Adds nanos e old new
-AddsWithin false nanos e old new = (new ≡ old) ⊎ LosesLine old new
+-- a line that a quota has room for is added, and another one is left out
+abbrev pub AddsIf : Bool → ℕ → Event → Pending → Pending → Type 0
+AddsIf true nanos e old new = Adds nanos e old new
+AddsIf false nanos e old new = new ≡ old

@@ -1,7 +1,6 @@
 -- How many lines a principal may cause in a second, and how many were left out. Times are nanoseconds.
 use Rattle.std.specs.Prelude.{ℕ, ◌+◌, ◌-◌, ◌^◌, ◌==◌, ◌&&◌, ◌||◌, Bool, true, nat_lt, nat_le, min, if◌then◌else◌, List, [], ◌∷◌, ◌++◌, length, Option, Some, None, unwrap_or}
-use Rattle.std.specs.BTreeMap.{get}
-use Rattle.std.specs.Ordering.{nat_cmp}
+use Rattle.std.specs.Duration.{max_nanos}
 use Rattle.proxy_audit.specs.declared.quota.LineKind.{LineKind}
 use Rattle.proxy_audit.specs.declared.quota.LineKind.TheVariants.{Refusal, Connection}
 use Rattle.proxy_audit.specs.declared.quota.TheConstants.{MOST_LINES}
@@ -68,6 +67,24 @@ without_left_out q = record { refusals = q.refusals; connections = q.connections
 -- after that
 abbrev pub after_more : ℕ → Quota → Quota
 after_more now q = if is_due now q then without_left_out q else q
+
+-- ---- the next count
+
+abbrev pub earlier : Option ℕ → ℕ → Option ℕ
+earlier None since = Some since
+earlier (Some before) since = if nat_lt before since then Some before else Some since
+
+abbrev pub with_since : Option ℕ → Quota → Option ℕ
+with_since earliest q = if nat_lt 0 q.left_out then earlier earliest q.since else earliest
+
+-- the earliest of a time and those since which lines of principals are left out
+abbrev pub earliest_since : Option ℕ → List Quota → Option ℕ
+earliest_since earliest [] = earliest
+earliest_since earliest (q ∷ qs) = earliest_since (with_since earliest q) qs
+
+-- when a count is due, up to the latest time
+abbrev pub a_second_after : ℕ → ℕ
+a_second_after since = min (since + second) max_nanos
 
 -- the quota of a role; that of one without lines is a new one
 abbrev pub quota_in : Option Quota → Quota

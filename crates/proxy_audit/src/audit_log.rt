@@ -1,12 +1,14 @@
 //! The audit: lines within quotas, and the file or the output that they go to.
 
-ghost use Rattle.std.specs.Prelude.{◌≡◌, ◌≢◌, ◌++◌, ℕ, List, All, IfOk, IfSome, None, Some, false};
+ghost use Rattle.std.specs.Prelude.{◌≡◌, ◌≢◌, ◌+◌, ◌++◌, ℕ, List, All, IfOk, IfSome, None, Some, false};
 ghost use Rattle.std.specs.BTreeMap.{get, values};
 ghost use Rattle.std.specs.Duration.{as_nanos};
+ghost use Rattle.std.specs.Option.{option_map};
 ghost use Rattle.std.specs.Ordering.{nat_cmp};
 ghost use Rattle.std.specs.Time.{system_time_nanos};
-ghost use Rattle.proxy_audit.specs.Pending.{Adds, AddsWithin, no_pending};
-ghost use Rattle.proxy_audit.specs.Quotas.{after_more, has_room, is_due, more, quota_in, times_of};
+ghost use Rattle.proxy_audit.specs.Audits.{AddsEvent, AddsWithin, KeepsFile, audit_quota};
+ghost use Rattle.proxy_audit.specs.Pending.{no_pending};
+ghost use Rattle.proxy_audit.specs.Quotas.{a_second_after, after_more, earliest_since, is_due, more};
 
 use crate::event::Event;
 use crate::file::AuditFile;
@@ -22,7 +24,7 @@ use std::time::{Duration, SystemTime};
 const REPORT_PAUSE: u64 = 60;
 
 /// The argument that names standard output.
-const STANDARD_OUTPUT: &str = "-";
+pub const STANDARD_OUTPUT: &str = "-";
 
 /// The audit of a proxy.
 #[derive(Drop)]
@@ -55,8 +57,7 @@ impl Audit {
 
     /// Adds the line of an event, which `write` writes.
     pub fn add(&mut self, time: SystemTime, event: &Event<'_>)
-        ensures added { Adds (system_time_nanos time) event.now self.old.pending self.new.pending }
-        ensures quotas { self.new.quotas ≡ self.old.quotas }
+        ensures { AddsEvent (system_time_nanos time) event.now self.old self.new }
     {
         self.pending.add(time, event);
     }
@@ -70,7 +71,7 @@ impl Audit {
         time: SystemTime,
         event: &Event<'_>,
     )
-        ensures { AddsWithin (has_room (as_nanos now) (times_of kind (quota_in (get nat_cmp self.old.quotas.all role)))) (system_time_nanos time) event.now self.old.pending self.new.pending }
+        ensures { AddsWithin role kind (as_nanos now) (system_time_nanos time) event.now self.old self.new }
     {
         match self.quotas.admit(role, kind, now) {
             Ok(true) => self.pending.add(time, event),
@@ -83,16 +84,20 @@ impl Audit {
     /// again.
     pub fn take_more(&mut self, now: Duration) -> Option<(u32, u64)>
         ensures none { result ≡ None → All (λ quota. is_due (as_nanos now) quota ≡ false) (values self.old.quotas.all) }
-        ensures some { IfSome result (λ found. more (as_nanos now) (quota_in (get nat_cmp self.old.quotas.all found.0)) ≡ Some found.1) }
-        ensures after { IfSome result (λ found. get nat_cmp self.new.quotas.all found.0 ≡ Some (after_more (as_nanos now) (quota_in (get nat_cmp self.old.quotas.all found.0)))) }
+        ensures some { IfSome result (λ found. more (as_nanos now) (audit_quota self.old found.0) ≡ Some found.1) }
+        ensures after { IfSome result (λ found. get nat_cmp self.new.quotas.all found.0 ≡ Some (after_more (as_nanos now) (audit_quota self.old found.0))) }
         ensures others { IfSome result (λ found. (other : ℕ) → other ≢ found.0 → get nat_cmp self.new.quotas.all other ≡ get nat_cmp self.old.quotas.all other) }
+        ensures unchanged { result ≡ None → (role : ℕ) → get nat_cmp self.new.quotas.all role ≡ get nat_cmp self.old.quotas.all role }
         ensures pending { self.new.pending ≡ self.old.pending }
+        ensures file { KeepsFile self.old self.new }
     {
         self.quotas.take_more(now)
     }
 
     /// Returns when the count of a principal is due.
-    pub fn more_at(&self) -> Option<Duration> {
+    pub fn more_at(&self) -> Option<Duration>
+        ensures { option_map as_nanos result ≡ option_map a_second_after (earliest_since None (values self.now.quotas.all)) }
+    {
         let since = self.quotas.left_out_since()?;
         Some(since.saturating_add(Duration::from_secs(1)))
     }
@@ -110,7 +115,7 @@ impl Audit {
         let is_written = match &mut self.file {
             Some(file) => {
                 let is_open = file.follow(rt).is_ok();
-                self.pending.write(file.as_mut()) && is_open
+                file.write(&mut self.pending) && is_open
             }
             None => self.pending.write(&mut io::writer(rt)),
         };

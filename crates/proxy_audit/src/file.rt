@@ -1,7 +1,8 @@
 //! The file of the audit.
 
-ghost use Rattle.std.specs.Prelude.{◌≡◌, OnErr};
+ghost use Rattle.std.specs.Prelude.{◌≡◌, ◌++◌, [], true, ℕ, List, IfOk, OnErr, string_bytes};
 
+use crate::pending::Pending;
 use std::fs::{File, Files, Metadata, OpenOptions};
 use std::io::ErrorKind;
 use std::os::unix::fs::{MetadataExt, OpenOptionsExt};
@@ -17,7 +18,9 @@ pub struct AuditFile {
 
 impl AuditFile {
     /// Opens the file of a name to append to it, and makes it if there is none. A symbolic link is refused.
-    pub fn open<R: Files<File = File>>(rt: &R, path: String) -> io::Result<Self> {
+    pub fn open<R: Files<File = File>>(rt: &R, path: String) -> io::Result<Self>
+        ensures path { IfOk result (λ opened. opened.path ≡ path) }
+    {
         let file = open_to_append(rt, path.as_str())?;
         let place = place_of(&file.metadata()?);
         Ok(AuditFile { path, file, place })
@@ -39,13 +42,20 @@ impl AuditFile {
         Ok(())
     }
 
-    /// Returns the open file.
-    pub fn as_mut(&mut self) -> &mut File {
-        &mut self.file
+    /// Writes lines to the open file, and returns whether all are written.
+    pub fn write(&mut self, pending: &mut Pending) -> bool
+        ensures path { self.new.path ≡ self.old.path }
+        ensures rest { (part : List ℕ) × (pending.old.unwritten ≡ part ++ pending.new.unwritten) }
+        ensures whole { result ≡ true → pending.new.unwritten ≡ [] }
+        ensures lost { pending.new.lost ≡ pending.old.lost }
+    {
+        pending.write(&mut self.file)
     }
 
     /// Returns the file's name.
-    pub fn path(&self) -> &str {
+    pub fn path(&self) -> &str
+        ensures { result.now ≡ string_bytes self.now.path }
+    {
         self.path.as_str()
     }
 }

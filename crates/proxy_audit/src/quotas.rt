@@ -3,8 +3,9 @@
 ghost use Rattle.std.specs.Prelude.{◌≡◌, ◌≢◌, ℕ, All, IfOk, IfSome, IsSome, OnErr, OnOk, None, Some, false, true};
 ghost use Rattle.std.specs.BTreeMap.{get, values};
 ghost use Rattle.std.specs.Duration.{as_nanos};
+ghost use Rattle.std.specs.Option.{option_map};
 ghost use Rattle.std.specs.Ordering.{nat_cmp};
-ghost use Rattle.proxy_audit.specs.Quotas.{after_admission, after_more, has_room, is_due, more, quota_in, times_of};
+ghost use Rattle.proxy_audit.specs.Quotas.{after_admission, after_more, earliest_since, has_room, is_due, more, quota_in, times_of, with_since};
 
 use crate::quota::{LineKind, Quota};
 use std::alloc::{AllocError, Global};
@@ -68,16 +69,26 @@ impl Quotas {
     }
 
     /// Returns since when lines are left out that no line has counted.
-    pub fn left_out_since(&self) -> Option<Duration> {
+    pub fn left_out_since(&self) -> Option<Duration>
+        ensures { option_map as_nanos result ≡ earliest_since None (values self.now.all) }
+    {
         let mut earliest = None;
-        for quota in self.all.values() {
-            if let Some(since) = quota.left_out_since() {
-                earliest = match earliest {
-                    Some(before) if before < since => Some(before),
-                    _ => Some(since),
-                };
-            }
+        for (_, quota) in &self.all {
+            earliest = earlier(earliest, quota);
         }
         earliest
+    }
+}
+
+/// Returns the earlier of a time and the one since which lines of a principal are left out.
+fn earlier(earliest: Option<Duration>, quota: &Quota) -> Option<Duration>
+    ensures { option_map as_nanos result ≡ with_since (option_map as_nanos earliest) quota.now }
+{
+    let Some(since) = quota.left_out_since() else {
+        return earliest;
+    };
+    match earliest {
+        Some(before) if before < since => Some(before),
+        _ => Some(since),
     }
 }

@@ -3,6 +3,7 @@
 use crate::event_loop::EventLoop;
 use crate::gateway::{Gateway, Moment};
 use crate::ready::Ready;
+use crate::recording::write;
 use mio::{Events, Poll, Registry};
 use std::fs::{File, Files};
 use std::io;
@@ -54,6 +55,7 @@ impl<G: Gateway> EventLoop<G> {
         self.drive(rt, registry)?;
         self.accept_all(registry)?;
         self.step_all(rt)?;
+        write(rt, &mut self.gateway);
         self.drive(rt, registry)
     }
 

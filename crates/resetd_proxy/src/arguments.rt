@@ -32,6 +32,10 @@ pub struct Arguments {
     pub policy: String,
     /// The path of the socket for connections whose certificate says who they are.
     pub certificates: Option<String>,
+    /// The file of the audit. None, and `-`: standard output.
+    pub audit: Option<String>,
+    /// The file of the metrics; `-`: standard output.
+    pub metrics: Option<String>,
 }
 
 /// Returns what the arguments ask for; None if they are wrong.
@@ -75,6 +79,8 @@ fn serve_arguments(alloc: Global, found: &ArgMatches<'_>) -> Option<Arguments> {
     let policy = copied(alloc, found.get_str("policy")?).ok()?;
     let signals = path_of(alloc, found, "signals").ok()?;
     let certificates = path_of(alloc, found, "certificates").ok()?;
+    let audit = path_of(alloc, found, "audit").ok()?;
+    let metrics = path_of(alloc, found, "metrics").ok()?;
     Some(Arguments {
         servers,
         sockets,
@@ -82,6 +88,8 @@ fn serve_arguments(alloc: Global, found: &ArgMatches<'_>) -> Option<Arguments> {
         signals,
         policy,
         certificates,
+        audit,
+        metrics,
     })
 }
 
@@ -96,6 +104,8 @@ fn program<'a>(alloc: Global) -> Result<Command<'a>, AllocError> {
         .arg(option(alloc, "policy").required(true))?
         .arg(option(alloc, "certificates"))?
         .arg(option(alloc, "signals"))?
+        .arg(option(alloc, "audit"))?
+        .arg(option(alloc, "metrics"))?
         .arg(option(alloc, "patience"))?
         .arg(option(alloc, "stuck"))?
         .arg(option(alloc, "server-silent"))?

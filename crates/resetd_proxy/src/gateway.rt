@@ -1,12 +1,19 @@
-//! The gateway of the loop: lines as proxy_request reads them, rights as the policy's file has them.
+//! The gateway of the loop: lines as proxy_request reads them, rights as the policy's file has them, and the audit.
 
-ghost use Rattle.std.specs.Prelude.{◌≡◌};
+ghost use Rattle.std.specs.Prelude.{◌≡◌, ◌++◌, [], ℕ, List, length, take, IfOk, IfSome, MatchOption, OnErr, Some};
+ghost use Rattle.std.specs.Duration.{as_nanos};
+ghost use Rattle.proxy_access.specs.Access.{KeepsItsRole, access_principals, access_rules, may_order_if, principal_of};
+ghost use Rattle.resetd_proxy.specs.Judging.{Gives, judged_from};
+ghost use Rattle.resetd_proxy.specs.Recording.{RecordsBegin, RecordsEnd, RecordsFor, name_of};
 
 use crate::judging::judge_reset;
+use crate::metrics::Metrics;
+use crate::recording::{record_connection, record_exchange};
 use coord_types::{Command, NodeId};
-use proxy_access::{Access, PROXY_ROLE};
+use proxy_access::{Access, MOST_PRINCIPALS, PROXY_ROLE};
+use proxy_audit::{Audit, Event};
 use proxy_core::{Judgement, Policy};
-use proxy_loop::{Counts, Exchange, Gateway, Moment, Reading, Verdict};
+use proxy_loop::{Counts, Exchange, ExchangeKind, Gateway, Moment, Reading, Verdict};
 use proxy_policy::read_policy;
 use proxy_request::{Request, read_line, spell};
 use std::alloc::{AllocError, Global};
@@ -14,10 +21,13 @@ use std::fs::{File, Files};
 use std::time::{Clock, Duration, SystemTime};
 use std::{fs, io, str};
 
-/// How often the policy's file is looked at.
+/// How many milliseconds pass between two looks at the policy's file.
 const LOOK_PAUSE: u64 = 1000;
 
-/// The policy of a file, and the principals.
+/// The name of a role that no principal has.
+const NOBODY: &str = "";
+
+/// The policy of a file, the principals, the audit and the metrics.
 #[derive(Drop)]
 pub struct FileGateway {
     access: Access,
@@ -25,11 +35,24 @@ pub struct FileGateway {
     /// When the file was changed last, and its length, as they were seen last.
     seen: Option<(SystemTime, u64)>,
     refresh_at: Duration,
+    audit: Audit,
+    metrics: Option<Metrics>,
+    /// The moment of the last call that has one.
+    now: Duration,
 }
 
 impl FileGateway {
-    /// Returns a gateway with the policy of a file. Errors: what is wrong with the file, which was reported.
-    pub fn open<R: Files + AllocGlobal + Eprint>(rt: &R, path: String) -> io::Result<Option<Self>> {
+    /// Returns a gateway with the policy of a file. None: what is wrong with the file was reported.
+    pub fn open<R: Files + AllocGlobal + Eprint>(
+        rt: &R,
+        path: String,
+        audit: Audit,
+        metrics: Option<Metrics>,
+    ) -> io::Result<Option<Self>>
+        ensures names { IfOk result (λ opened. IfSome opened (λ gateway. access_principals gateway.access ≡ [])) }
+        ensures arguments { IfOk result (λ opened. IfSome opened (λ gateway. (gateway.path ≡ path) × (gateway.audit ≡ audit) × (gateway.metrics ≡ metrics))) }
+        ensures due { IfOk result (λ opened. IfSome opened (λ gateway. as_nanos gateway.refresh_at ≡ 0)) }
+    {
         let seen = look(rt, path.as_str());
         let text = fs::read_to_string(rt, path.as_str())?;
         match read_policy(rt.alloc(), text.as_str()) {
@@ -38,6 +61,9 @@ impl FileGateway {
                 path,
                 seen,
                 refresh_at: Duration::ZERO,
+                audit,
+                metrics,
+                now: Duration::ZERO,
             })),
             Err(fault) => {
                 eprintln!(rt; "resetd-proxy: {path}: {fault}")?;
@@ -47,7 +73,14 @@ impl FileGateway {
     }
 
     /// Returns the role of a principal; None if there are too many. Errors: out of memory.
-    pub fn role_of(&mut self, alloc: Global, name: &str) -> Result<Option<u32>, AllocError> {
+    pub fn role_of(&mut self, alloc: Global, name: &str) -> Result<Option<u32>, AllocError>
+        ensures role { IfOk result (λ found. MatchOption found (length (access_principals self.old.access) ≡ MOST_PRINCIPALS) (λ role. principal_of (access_principals self.new.access) role ≡ Some name.now)) }
+        ensures known { KeepsItsRole (access_principals self.old.access) (access_principals self.new.access) name.now result }
+        ensures others { take (length (access_principals self.old.access)) (access_principals self.new.access) ≡ access_principals self.old.access }
+        ensures rules { access_rules self.new.access ≡ access_rules self.old.access }
+        ensures err { OnErr result (access_principals self.new.access ≡ access_principals self.old.access) }
+        ensures rest { (self.new.path ≡ self.old.path) × (self.new.seen ≡ self.old.seen) × (self.new.audit ≡ self.old.audit) }
+    {
         self.access.role_of(alloc, name)
     }
 }
@@ -122,7 +155,9 @@ impl Gateway for FileGateway {
         view: &[u8],
         node: NodeId,
         epoch: u64,
-    ) -> Result<Verdict, AllocError> {
+    ) -> Result<Verdict, AllocError>
+        ensures { IfOk result (λ verdict. Gives verdict (judged_from view.now node epoch)) }
+    {
         judge_reset(alloc, view, node, epoch)
     }
 
@@ -143,33 +178,101 @@ impl Gateway for FileGateway {
         self.access.role_of(alloc, principal.as_str())
     }
 
-    fn record(&mut self, _alloc: Global, _exchange: &Exchange<'_, '_>) -> Result<(), AllocError> {
+    fn record(&mut self, alloc: Global, exchange: &Exchange<'_, '_>) -> Result<(), AllocError>
+        ensures audit { RecordsFor (name_of (access_principals self.old.access) exchange.now.role) exchange.now self.old.audit self.new.audit }
+        ensures policy { (self.new.access ≡ self.old.access) × (self.new.path ≡ self.old.path) × (self.new.seen ≡ self.old.seen) × (self.new.refresh_at ≡ self.old.refresh_at) }
+    {
+        self.now = exchange.at.now;
+        let who = self.access.principal(exchange.role).unwrap_or(NOBODY);
+        record_exchange(&mut self.audit, who, exchange);
+        if let Some(metrics) = &mut self.metrics {
+            let op = op_of(alloc, exchange);
+            let _ = metrics.tally.count(op, exchange.answer, exchange.waited);
+        }
         Ok(())
     }
 
-    fn record_begin(&mut self, _alloc: Global, _role: u32, _at: Moment) -> Result<(), AllocError> {
+    fn record_begin(&mut self, _alloc: Global, role: u32, at: Moment) -> Result<(), AllocError>
+        ensures audit { RecordsBegin (may_order_if (access_rules self.old.access) (principal_of (access_principals self.old.access) role)) (name_of (access_principals self.old.access) role) role at self.old.audit self.new.audit }
+        ensures policy { (self.new.access ≡ self.old.access) × (self.new.path ≡ self.old.path) × (self.new.seen ≡ self.old.seen) × (self.new.refresh_at ≡ self.old.refresh_at) }
+    {
+        self.now = at.now;
+        if self.access.may_order(role) {
+            let who = self.access.principal(role).unwrap_or(NOBODY);
+            record_connection(&mut self.audit, role, at, &Event::Begins { who });
+        }
         Ok(())
     }
 
     fn record_end(
         &mut self,
         _alloc: Global,
-        _role: u32,
-        _lasted: Duration,
-        _at: Moment,
-    ) -> Result<(), AllocError> {
+        role: u32,
+        lasted: Duration,
+        at: Moment,
+    ) -> Result<(), AllocError>
+        ensures audit { RecordsEnd (may_order_if (access_rules self.old.access) (principal_of (access_principals self.old.access) role)) (name_of (access_principals self.old.access) role) role lasted at self.old.audit self.new.audit }
+        ensures policy { (self.new.access ≡ self.old.access) × (self.new.path ≡ self.old.path) × (self.new.seen ≡ self.old.seen) × (self.new.refresh_at ≡ self.old.refresh_at) }
+    {
+        self.now = at.now;
+        if self.access.may_order(role) {
+            let who = self.access.principal(role).unwrap_or(NOBODY);
+            record_connection(&mut self.audit, role, at, &Event::Ends { who, lasted });
+        }
         Ok(())
     }
 
-    fn write_records<R: Files<File = File> + AllocGlobal + Print + Eprint>(&mut self, _rt: &R) {}
+    fn write_records<R: Files<File = File> + AllocGlobal + Print + Eprint>(&mut self, rt: &R)
+        ensures rest { (part : List ℕ) × (self.old.audit.pending.unwritten ≡ part ++ self.new.audit.pending.unwritten) }
+        ensures counts { (self.new.audit.pending.lost ≡ self.old.audit.pending.lost) × (self.new.audit.quotas ≡ self.old.audit.quotas) }
+        ensures policy { (self.new.access ≡ self.old.access) × (self.new.path ≡ self.old.path) × (self.new.seen ≡ self.old.seen) × (self.new.refresh_at ≡ self.old.refresh_at) }
+    {
+        self.audit.write(rt, self.now);
+    }
 
     fn refresh<R: Files<File = File> + AllocGlobal + Clock + Print + Eprint>(
         &mut self,
         rt: &R,
         now: Duration,
-        _counts: &Counts,
+        counts: &Counts,
     ) -> bool {
-        self.refresh_at = now.saturating_add(Duration::from_millis(LOOK_PAUSE));
+        self.now = now;
+        self.count_left_out(rt);
+        self.audit.follow(rt, now);
+        self.audit.write(rt, now);
+        if let Some(metrics) = &mut self.metrics {
+            metrics.write(rt, now, counts, self.audit.lost());
+        }
+        let next = now.saturating_add(Duration::from_millis(LOOK_PAUSE));
+        self.refresh_at = match self.audit.more_at() {
+            Some(at) => next.min(at),
+            None => next,
+        };
+        self.read_again(rt)
+    }
+
+    fn refresh_at(&self) -> Duration {
+        self.refresh_at
+    }
+}
+
+impl FileGateway {
+    /// Adds the audit's line of each principal whose count of lines that were left out is due.
+    fn count_left_out<R: Clock>(&mut self, rt: &R) {
+        let Ok(time) = SystemTime::now(rt) else {
+            return;
+        };
+        for _ in 0..MOST_PRINCIPALS {
+            let Some((role, count)) = self.audit.take_more(self.now) else {
+                return;
+            };
+            let who = self.access.principal(role).unwrap_or(NOBODY);
+            self.audit.add(time, &Event::More { who, count });
+        }
+    }
+
+    /// Reads the policy again if its file has changed. Returns whether there is a new one.
+    fn read_again<R: Files + AllocGlobal + Eprint>(&mut self, rt: &R) -> bool {
         let seen = look(rt, self.path.as_str());
         if seen == self.seen {
             return false;
@@ -191,8 +294,16 @@ impl Gateway for FileGateway {
             }
         }
     }
+}
 
-    fn refresh_at(&self) -> Duration {
-        self.refresh_at
+/// Returns the op of an exchange's line.
+fn op_of(alloc: Global, exchange: &Exchange<'_, '_>) -> &'static str {
+    match exchange.kind {
+        ExchangeKind::Query => "show",
+        ExchangeKind::Fault => "none",
+        ExchangeKind::Order | ExchangeKind::Denied => match read_line(alloc, exchange.line) {
+            Ok(request) => request.op().name(),
+            Err(_) => "none",
+        },
     }
 }

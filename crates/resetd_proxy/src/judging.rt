@@ -1,13 +1,13 @@
 //! What a view says of a reset that names an epoch.
 
-ghost use Rattle.std.specs.Prelude.{◌≡◌, false, find, IfOk, string_bytes};
+ghost use Rattle.std.specs.Prelude.{◌≡◌, false, find, IfOk, Some, string_bytes};
 ghost use Rattle.std.specs.List.{list_all};
 ghost use Rattle.std.specs.Option.{option_copied};
 ghost use Rattle.coord_admin.specs.Replies.{reply as reply_data};
 ghost use Rattle.coord_admin.specs.declared.answer.Answer.TheVariants as answer;
 ghost use Rattle.serde_json.specs.View.{view};
 ghost use Rattle.serde_json.specs.Written.{compact_text, has_float};
-ghost use Rattle.resetd_proxy.specs.Judging.{is_of, is_outside, judged_by};
+ghost use Rattle.resetd_proxy.specs.Judging.{Gives, IsAnswer, is_of, is_outside, judged_by, judged_from, judged_in};
 
 use coord_types::{Kind, Mode, NodeId, Refusal, Reply};
 use coord_view::{NodeView, View};
@@ -29,29 +29,54 @@ pub enum Judged {
     Refused(Refusal),
 }
 
-/// Judges a reset of a node that names an epoch by a view. One that cannot be read says nothing. Errors: out of memory.
-pub fn judge_reset(
+/// Judges a reset of a node that names an epoch by the line of a view. One that cannot be read says nothing. Errors: out
+/// of memory.
+pub(crate) fn judge_reset(
     alloc: Global,
     view: &[u8],
     node: NodeId,
     epoch: u64,
-) -> Result<Verdict, AllocError> {
-    let Ok(text) = str::from_utf8(view) else {
-        return Ok(Verdict::Waits);
-    };
-    let shown = match read_show(alloc, text) {
-        Ok(shown) => shown,
-        Err(ReadFault::OutOfMemory) => return Err(AllocError),
-        Err(ReadFault::NoAnswer) => return Ok(Verdict::Waits),
-    };
-    match judge(&shown, node, epoch) {
+) -> Result<Verdict, AllocError>
+    ensures { IfOk result (λ verdict. Gives verdict (judged_from view.now node epoch)) }
+{
+    verdict_of(alloc, judge_line(alloc, view, node, epoch)?)
+}
+
+fn judge_line(alloc: Global, view: &[u8], node: NodeId, epoch: u64) -> Result<Judged, AllocError>
+    ensures { IfOk result (λ judged. judged ≡ judged_from view.now node epoch) }
+{
+    match str::from_utf8(view) {
+        Ok(text) => judge_text(alloc, text, node, epoch),
+        Err(_) => Ok(Judged::Waits),
+    }
+}
+
+fn judge_text(alloc: Global, text: &str, node: NodeId, epoch: u64) -> Result<Judged, AllocError>
+    ensures { IfOk result (λ judged. judged ≡ judged_in text.now node epoch) }
+{
+    match read_show(alloc, text) {
+        Ok(shown) => Ok(judge(&shown, node, epoch)),
+        Err(ReadFault::OutOfMemory) => Err(AllocError),
+        Err(ReadFault::NoAnswer) => Ok(Judged::Waits),
+    }
+}
+
+/// Returns what the loop does with a reset. Errors: out of memory.
+fn verdict_of(alloc: Global, judged: Judged) -> Result<Verdict, AllocError>
+    ensures { IfOk result (λ verdict. Gives verdict judged) }
+{
+    match judged {
         Judged::Goes => Ok(Verdict::Goes),
         Judged::Waits => Ok(Verdict::Waits),
         Judged::Joined(step) => {
             let kind = Kind::Joined;
-            answer(alloc, &replied(alloc, Reply { step, kind })?)
+            let text = replied(alloc, Reply { step, kind })?;
+            answer(alloc, text.as_str())
         }
-        Judged::Refused(refusal) => answer(alloc, &refused(alloc, refusal)?),
+        Judged::Refused(refusal) => {
+            let text = refused(alloc, refusal)?;
+            answer(alloc, text.as_str())
+        }
     }
 }
 
@@ -113,6 +138,8 @@ fn text_of(alloc: Global, value: &Value) -> Result<String, AllocError>
     value.to_string(alloc)
 }
 
-fn answer(alloc: Global, text: &str) -> Result<Verdict, AllocError> {
+fn answer(alloc: Global, text: &str) -> Result<Verdict, AllocError>
+    ensures { IfOk result (λ verdict. IsAnswer verdict (Some text.now)) }
+{
     Ok(Verdict::Answer(Vec::from_slice(alloc, text.as_bytes())?))
 }

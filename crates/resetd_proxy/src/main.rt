@@ -4,9 +4,14 @@
 mod arguments;
 mod gateway;
 mod judging;
+mod metrics;
+mod recording;
+mod totals;
 
 use arguments::{Arguments, Task, read_arguments};
 use gateway::FileGateway;
+use metrics::Metrics;
+use proxy_audit::{Audit, Event};
 use proxy_loop::{EventLoop, Listener, serve};
 use proxy_policy::read_policy;
 use proxy_streams::Addresses;
@@ -16,11 +21,11 @@ use std::io::ErrorKind;
 use std::net::{Net, ToSocketAddrs};
 use std::process::ExitCode;
 use std::sync::Wait;
-use std::time::Clock;
+use std::time::{Clock, SystemTime};
 use std::{env, fs, io};
 
 const USAGE: &str =
-    "usage: resetd-proxy serve --server HOST:PORT .. --policy FILE [--listen NAME=PATH] .. [--certificates PATH]\n                          [--signals FILE] [--patience SECONDS] [--stuck SECONDS] [--server-silent SECONDS] [--connections N]\n       resetd-proxy check FILE";
+    "usage: resetd-proxy serve --server HOST:PORT .. --policy FILE [--listen NAME=PATH] .. [--certificates PATH]\n                          [--signals FILE] [--audit FILE] [--metrics FILE]\n                          [--patience SECONDS] [--stuck SECONDS] [--server-silent SECONDS] [--connections N]\n       resetd-proxy check FILE";
 
 fn main(rt: HostRuntime) -> ExitCode {
     let arguments = match env::args(&rt) {
@@ -82,7 +87,13 @@ fn run<R: Net + Files<File = File> + AllocGlobal + Clock + Wait + Print + Eprint
     let Some(addresses) = Addresses::new(all) else {
         return Err(ErrorKind::InvalidInput.into());
     };
-    let Some(mut gateway) = FileGateway::open(rt, arguments.policy)? else {
+    let mut audit = Audit::open(rt, alloc, arguments.audit)?;
+    audit.add(SystemTime::now(rt)?, &Event::Starts);
+    let metrics = match arguments.metrics {
+        Some(path) => Some(Metrics::new(alloc, path)?),
+        None => None,
+    };
+    let Some(mut gateway) = FileGateway::open(rt, arguments.policy, audit, metrics)? else {
         return Ok(false);
     };
     let mut listeners = Vec::new(alloc);

@@ -1,0 +1,5 @@
+use Rattle.resetd_proxy.proofs.Joined.{three_appended}
+use Rattle.resetd_proxy.proofs.totals.push_totals.Goals as goal
+
+pub returns : goal.returns
+returns c = three_appended _ _ _ _ _ _ _ c.in_ok-push_counters.ensures c.in_ok-push_counter.ensures c.in_ok-push_gauges.ensures
