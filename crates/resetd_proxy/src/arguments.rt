@@ -26,6 +26,8 @@ pub struct Arguments {
     pub servers: Vec<String>,
     /// The principal and the path of each socket.
     pub sockets: Vec<(String, String)>,
+    /// The names of the sockets that the service manager opened, in turn; None if it opened none.
+    pub passed: Option<Vec<String>>,
     pub settings: Settings,
     /// The file that the server's signals are printed to.
     pub signals: Option<String>,
@@ -72,12 +74,17 @@ fn serve_arguments(alloc: Global, found: &ArgMatches<'_>) -> Option<Arguments> {
             .push((copied(alloc, name).ok()?, copied(alloc, path).ok()?))
             .ok()?;
     }
+    let passed = match found.get_str("listen-fds") {
+        Some(text) => Some(names_in(alloc, text)?),
+        None => None,
+    };
     let policy = copied(alloc, found.get_str("policy")?).ok()?;
     let signals = path_of(alloc, found, "signals").ok()?;
     let certificates = path_of(alloc, found, "certificates").ok()?;
     Some(Arguments {
         servers,
         sockets,
+        passed,
         settings,
         signals,
         policy,
@@ -93,6 +100,7 @@ fn program<'a>(alloc: Global) -> Result<Command<'a>, AllocError> {
                 .required(true),
         )?
         .arg(option(alloc, "listen").action(ArgAction::Append))?
+        .arg(option(alloc, "listen-fds"))?
         .arg(option(alloc, "policy").required(true))?
         .arg(option(alloc, "certificates"))?
         .arg(option(alloc, "signals"))?
@@ -139,6 +147,20 @@ fn path_of(
         Some(path) => Ok(Some(copied(alloc, path)?)),
         None => Ok(None),
     }
+}
+
+/// Returns the names of sockets that commas or colons separate; None if one of them is no name.
+fn names_in(alloc: Global, text: &str) -> Option<Vec<String>> {
+    let mut names = Vec::new(alloc);
+    for part in text.split(',') {
+        for name in part.split(':') {
+            if !is_socket_name(name.as_bytes()) {
+                return None;
+            }
+            names.push(copied(alloc, name).ok()?).ok()?;
+        }
+    }
+    Some(names)
 }
 
 fn copied(alloc: Global, text: &str) -> Result<String, AllocError> {

@@ -4,23 +4,25 @@
 mod arguments;
 mod gateway;
 mod judging;
+mod sockets;
 
 use arguments::{Arguments, Task, read_arguments};
 use gateway::FileGateway;
-use proxy_loop::{EventLoop, Listener, serve};
+use proxy_loop::{EventLoop, serve};
 use proxy_policy::read_policy;
 use proxy_streams::Addresses;
-use std::alloc::Global;
+use sockets::open_sockets;
+use std::env::Env;
 use std::fs::{File, Files};
 use std::io::ErrorKind;
 use std::net::{Net, ToSocketAddrs};
 use std::process::ExitCode;
 use std::sync::Wait;
 use std::time::Clock;
-use std::{env, fs, io};
+use std::{env, fs, io, process};
 
 const USAGE: &str =
-    "usage: resetd-proxy serve --server HOST:PORT .. --policy FILE [--listen NAME=PATH] .. [--certificates PATH]\n                          [--signals FILE] [--patience SECONDS] [--stuck SECONDS] [--server-silent SECONDS] [--connections N]\n       resetd-proxy check FILE";
+    "usage: resetd-proxy serve --server HOST:PORT .. --policy FILE [--listen NAME=PATH] ..\n                          [--listen-fds NAME,NAME..] [--certificates PATH] [--signals FILE] [--patience SECONDS]\n                          [--stuck SECONDS] [--server-silent SECONDS] [--connections N]\n       resetd-proxy check FILE";
 
 fn main(rt: HostRuntime) -> ExitCode {
     let arguments = match env::args(&rt) {
@@ -31,7 +33,7 @@ fn main(rt: HostRuntime) -> ExitCode {
         return ExitCode::from(1);
     };
     let done = match read_arguments(rt.alloc(), words.as_slice()) {
-        Some(Task::Serve(arguments)) => run(&rt, rt.alloc(), arguments),
+        Some(Task::Serve(arguments)) => run(&rt, process::id(rt.process()), arguments),
         Some(Task::Check(path)) => check(&rt, path.as_str()),
         None => {
             let _ = eprintln!(&rt; "{USAGE}");
@@ -65,12 +67,13 @@ fn check<R: Files + AllocGlobal + Print + Eprint>(rt: &R, path: &str) -> io::Res
     }
 }
 
-/// Serves as the arguments say. Returns false if the policy is none.
-fn run<R: Net + Files<File = File> + AllocGlobal + Clock + Wait + Print + Eprint>(
+/// Serves as the arguments say. Returns false if the policy is none, or the service manager passed other sockets.
+fn run<R: Net + Files<File = File> + Env + AllocGlobal + Clock + Wait + Print + Eprint>(
     rt: &R,
-    alloc: Global,
+    process: u32,
     arguments: Arguments,
 ) -> io::Result<bool> {
+    let alloc = rt.alloc();
     let mut all = Vec::new(alloc);
     for text in &arguments.servers {
         let mut found = text.as_str().to_socket_addrs(rt)?;
@@ -82,22 +85,12 @@ fn run<R: Net + Files<File = File> + AllocGlobal + Clock + Wait + Print + Eprint
     let Some(addresses) = Addresses::new(all) else {
         return Err(ErrorKind::InvalidInput.into());
     };
-    let Some(mut gateway) = FileGateway::open(rt, arguments.policy)? else {
+    let Some(mut gateway) = FileGateway::open(rt, arguments.policy.clone()?)? else {
         return Ok(false);
     };
-    let mut listeners = Vec::new(alloc);
-    for (name, path) in &arguments.sockets {
-        let role = gateway.role_of(alloc, name.as_str())?;
-        if role.is_none() {
-            return Err(ErrorKind::InvalidInput.into());
-        }
-        listeners.push(Listener::bind(rt, path.as_str(), role)?)?;
-        eprintln!(rt; "listening {name}")?;
-    }
-    if let Some(path) = &arguments.certificates {
-        listeners.push(Listener::bind(rt, path.as_str(), None)?)?;
-        eprintln!(rt; "listening certificates")?;
-    }
+    let Some(listeners) = open_sockets(rt, process, &arguments, &mut gateway)? else {
+        return Ok(false);
+    };
     let mut event_loop = EventLoop::new(
         alloc,
         arguments.settings,
