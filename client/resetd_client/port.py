@@ -10,7 +10,7 @@ import time
 from collections.abc import Callable, Iterator, Mapping, Sequence
 from typing import Any, TypeVar
 
-from .address import Address, Credentials, addresses_of
+from .address import Address, Credentials, addresses_of, default_address
 from .answers import Away, Garbled, NotNow, NotTaken, members_of
 from .errors import BadWords
 from .newest import Newest
@@ -32,7 +32,8 @@ class Port:
     """Sends requests to a coordinator, over one connection after the other, each closed at once: the port serves one at a time.
 
     `addresses` are `HOST:PORT`, `unix:PATH` or `tls:HOST:PORT`, one or several with commas between, all of one
-    coordinator, of which one serves at a time. It tries them in turn, beginning with the one that answered last, and
+    coordinator, of which one serves at a time. If none is given, the address is this user's way to the coordinator of this
+    host (`address.default_address`). It tries them in turn, beginning with the one that answered last, and
     goes on to the next if one gives no answer, or answers Stopped, PendingFull or OutOfMemory.
 
     A view of another address than that of the last view counts only if it has as many settled steps (newest.py).
@@ -40,10 +41,10 @@ class Port:
     Any threads may share it: between two calls it keeps only the address that answered last, and the steps that it showed.
     """
 
-    def __init__(self, addresses: str, seconds: float = REPLY_SECONDS, credentials: Credentials | None = None) -> None:
+    def __init__(self, addresses: str | None = None, seconds: float = REPLY_SECONDS, credentials: Credentials | None = None) -> None:
         """`seconds` is how long one answer may take. `credentials` are for `tls:`, by default those of the environment. Raises
         BadWords for an invalid address, and Unreadable for a credentials file."""
-        self.addresses = addresses_of(addresses, credentials)
+        self.addresses = addresses_of(default_address() if addresses is None else addresses, credentials)
         self.seconds = seconds
         self._last = 0
         self.newest = Newest()
