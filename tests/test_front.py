@@ -79,5 +79,11 @@ class Proxy(Files):
     def test_the_proxy(self) -> None:
         self.files("test_proxy")
 
+    def test_sockets_of_the_manager(self) -> None:
+        self.files("test_activation")
+
+    def test_haproxy(self) -> None:
+        self.files("test_haproxy")
+
 
 del Files, Run  # or their tests would be found here once more
