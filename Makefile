@@ -139,7 +139,7 @@ install: $(PROGRAM) $(PROXY) $(if $(wildcard lib/libresetd_member.so),install-li
 	for unit in examples/*.service examples/*.timer examples/*.socket; do sed 's|/usr/local/bin/|$(PREFIX)/bin/|' $$unit > $(SHARE)/$$unit; chmod 644 $(SHARE)/$$unit; done
 	install -m 644 docs/OPERATING.md docs/TAKEOVER.md docs/FORMATS.md docs/SERVICES.md docs/PROTOCOL.md docs/FRONT.md docs/PROXY.md docs/COMPARISON.md docs/QUEUES.md docs/DEPLOYING.md docs/member-vectors.json docs/*.svg docs/front.png $(SHARE)/docs/
 	install -m 644 CHANGELOG.md $(SHARE)/
-	install -m 755 examples/account examples/hello examples/hello.sh examples/one_for_all $(SHARE)/examples/
+	install -m 755 examples/account examples/certificates examples/hello examples/hello.sh examples/one_for_all $(SHARE)/examples/
 	install -m 644 examples/pair.toml $(SHARE)/examples/
 	install -d $(SHARE)/examples/members
 	install -m 644 $(addprefix examples/members/,plain_member.go front.go files.go) $(SHARE)/examples/members/

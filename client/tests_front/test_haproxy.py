@@ -59,7 +59,8 @@ class Certificates(Case):
         """Starts it by the shipped configuration, with the paths and the port of this test, and as this user."""
         with open(f"{ROOT}/examples/haproxy.cfg", encoding="utf-8") as file:
             text = file.read()
-        for shipped, own in (("/etc/resetd/certificates", self.pem), ("/run/resetd-proxy/certificates", self.socket), (":4171", f"127.0.0.1:{self.port}"),
+        for shipped, own in (("/etc/resetd/certificates", self.pem), ("/run/resetd-proxy/certificates", self.socket),
+                             ("/run/haproxy/admin.sock", f"{self.folder}/admin.sock"), (":4171", f"127.0.0.1:{self.port}"),
                              ("    user haproxy\n    group haproxy\n", ""), ("    log /dev/log local0\n", "")):
             self.assertIn(shipped, text)
             text = text.replace(shipped, own)
@@ -83,7 +84,7 @@ class Certificates(Case):
         return self.said().count("Loading success")
 
     def reload(self) -> None:
-        """Has it read all again, and waits until the connections of before have ended: they have a minute."""
+        """Has it read all again."""
         before = self.loaded()
         self.haproxy.send_signal(signal.SIGUSR2)
         until("a reload", lambda: self.loaded() > before)
@@ -107,6 +108,18 @@ class Certificates(Case):
             return "nodes" in self.connected(name).ask(op="show")
         except (OSError, ValueError):
             return False
+
+    def refusal(self, name: str) -> str:
+        """The alert that a connection with this certificate gets, which sends nothing; nothing if none comes for a second."""
+        client = self.connected(name)
+        client.socket.settimeout(1)
+        try:
+            client.socket.recv(1)
+        except ssl.SSLError as fault:
+            return fault.reason or ""
+        except OSError:
+            pass
+        return ""
 
     def test_a_certificate_is_a_principal(self) -> None:
         three, five = self.connected("service3"), self.connected("service5")
@@ -187,7 +200,7 @@ class Certificates(Case):
         make(self.pem, "revoke", "service5")
         shutil.copy(f"{self.folder}/kept.pem", f"{self.pem}/service5.pem")
         self.reload()
-        until("a refusal of the revoked certificate", lambda: not self.is_served("service5"))
+        until("a refusal of the revoked certificate", lambda: "CERTIFICATE_REVOKED" in self.refusal("service5"))
         self.assertTrue(self.is_served("service3"))
         self.assertFalse(self.is_served("service5"))
 
@@ -204,6 +217,6 @@ class Certificates(Case):
             shutil.copy(f"{old}/service5.{ending}", f"{self.pem}/service5.{ending}")
         self.reload()
         until("the new authority", lambda: self.is_served("service3"))
-        until("a refusal of the old one", lambda: not self.is_served("service5"))
+        until("a refusal of the old one", lambda: "UNKNOWN_CA" in self.refusal("service5"))
         self.assertTrue(self.is_served("service3"))
         self.assertFalse(self.is_served("service5"))

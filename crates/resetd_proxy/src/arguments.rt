@@ -1,13 +1,11 @@
 //! The program's arguments.
 
+use crate::values::{copied, names_in, path_of, servers_in};
 use clap::{Arg, ArgAction, ArgMatches, Command};
 use proxy_loop::Settings;
 use proxy_policy::is_socket_name;
 use std::alloc::{AllocError, Global};
 use std::time::Duration;
-
-/// The most addresses of the server.
-const MOST_SERVERS: usize = 8;
 
 /// The most connections of a principal, if the arguments don't say.
 const MOST_CONNECTIONS: usize = 1000;
@@ -57,13 +55,7 @@ fn serve_arguments(alloc: Global, found: &ArgMatches<'_>) -> Option<Arguments> {
             None => MOST_CONNECTIONS,
         },
     };
-    let mut servers = Vec::new(alloc);
-    for text in found.get_strs("server")? {
-        servers.push(copied(alloc, text).ok()?).ok()?;
-    }
-    if servers.len() > MOST_SERVERS {
-        return None;
-    }
+    let servers = servers_in(alloc, found.get_strs("server")?)?;
     let mut sockets = Vec::new(alloc);
     for text in found.get_strs("listen").unwrap_or(&[]) {
         let (name, path) = text.split_once("=")?;
@@ -135,36 +127,4 @@ fn seconds(found: &ArgMatches<'_>, name: &str, usual: u64) -> Option<Duration> {
         }
         None => Some(Duration::from_secs(usual)),
     }
-}
-
-/// Returns the path that an argument gives.
-fn path_of(
-    alloc: Global,
-    found: &ArgMatches<'_>,
-    name: &str,
-) -> Result<Option<String>, AllocError> {
-    match found.get_str(name) {
-        Some(path) => Ok(Some(copied(alloc, path)?)),
-        None => Ok(None),
-    }
-}
-
-/// Returns the names of sockets that commas or colons separate; None if one of them is no name.
-fn names_in(alloc: Global, text: &str) -> Option<Vec<String>> {
-    let mut names = Vec::new(alloc);
-    for part in text.split(',') {
-        for name in part.split(':') {
-            if !is_socket_name(name.as_bytes()) {
-                return None;
-            }
-            names.push(copied(alloc, name).ok()?).ok()?;
-        }
-    }
-    Some(names)
-}
-
-fn copied(alloc: Global, text: &str) -> Result<String, AllocError> {
-    let mut copy = String::new(alloc);
-    copy.push_str(text)?;
-    Ok(copy)
 }

@@ -5,6 +5,7 @@ mod arguments;
 mod gateway;
 mod judging;
 mod sockets;
+mod values;
 
 use arguments::{Arguments, Task, read_arguments};
 use gateway::FileGateway;
