@@ -1,4 +1,4 @@
-//! The variables by which the service manager says what it passes.
+//! The variables in which the service manager says how many sockets it passes, and to which process.
 
 ghost use Rattle.std.specs.Prelude.{◌≡◌};
 ghost use Rattle.std.specs.Option.{option_copied};
