@@ -142,18 +142,22 @@ class Units(unittest.TestCase):
 
     @unittest.skipUnless(shutil.which("logrotate"), "it needs logrotate: nothing is rotated")
     def test_the_audit_is_rotated(self) -> None:
-        """By its name, as the front opens it again when it is signalled."""
+        """By its name: the front opens it again when it is signalled, the proxy by itself."""
         audit, told = (os.path.join(self.folder, name) for name in ("audit", "told"))
         text = shipped("resetd.logrotate").replace("/var/log/resetd-front/audit", audit).replace("su resetd resetd\n", "\n")
+        proxys = os.path.join(self.folder, "proxy", "audit")
+        os.mkdir(os.path.dirname(proxys))
         with open(os.path.join(self.folder, "conf"), "w", encoding="utf-8") as file:
-            file.write(text.replace("systemctl try-reload-or-restart resetd-front.service", f"touch {told}"))
+            file.write(text.replace("systemctl try-reload-or-restart resetd-front.service", f"touch {told}").replace("/var/log/resetd-proxy/audit", proxys))
         os.chmod(os.path.join(self.folder, "conf"), 0o644)
-        with open(audit, "w", encoding="utf-8") as file:
-            file.write("{}\n")
+        for name in (audit, proxys):
+            with open(name, "w", encoding="utf-8") as file:
+                file.write("{}\n")
         done = subprocess.run(["logrotate", "--force", "--state", f"{self.folder}/state", f"{self.folder}/conf"],
                               capture_output=True, encoding="utf-8", check=False)
         self.assertEqual((done.returncode, done.stderr), (0, ""))
         self.assertEqual((os.path.exists(audit), os.path.exists(f"{audit}.1"), os.path.exists(told)), (False, True, True))
+        self.assertEqual((os.path.exists(proxys), os.path.exists(f"{proxys}.1")), (False, True))
 
 
 class Table(unittest.TestCase):
