@@ -3,6 +3,8 @@
 
 PREFIX ?= /usr/local
 PROGRAM ?= bin/resetd
+# The proxy is installed of the same kind as the program: the proved one, or the trial build.
+PROXY ?= $(if $(findstring trial,$(PROGRAM)),bin/resetd-proxy-trial,bin/resetd-proxy)
 # So many checks run at a time, each on one processor and with up to 3 GB of memory.
 JOBS ?= $(shell nproc)
 
@@ -13,9 +15,9 @@ help:
 	@echo 'make trial     builds the program without any proof at bin/resetd-trial, in some 80 seconds; demo, drill, example, services and soak take it where there is no bin/resetd'
 	@echo 'make example   the example services of examples/ around a coordinator, in a few seconds'
 	@echo 'make services  tries what services rest on: restores, members that come again, a work queue, torn and lost lines, 64 members, messages'
-	@echo 'make build     proves every crate, and leaves the program at bin/resetd; nothing is proved again while that is newer than every source'
+	@echo 'make build     proves every crate, and leaves the programs at bin/resetd and bin/resetd-proxy; nothing is proved again while that is newer than every source'
 	@echo 'make lib       proves the members'"'"' library for C and other languages, and leaves it in lib/: libresetd_member.a, .so, its header and a file for pkg-config'
-	@echo 'make test      what every change has to pass: every crate is proved from nothing (some kits keep what passed here before), the must-fail edits, the program, then make program; it leaves the program at bin/resetd too'
+	@echo 'make test      what every change has to pass: every crate is proved from nothing (some kits keep what passed here before), the must-fail edits, the program, then make program; it leaves the programs in bin/ too'
 	@echo 'make program   runs the tests of the crates and of the program as people run it (tests/), over trial builds, in some minutes'
 	@echo 'make load      the same ten times on a busy machine, where none may fail (TIMES=N for N)'
 	@echo 'make refusals  tries the mutants, which the prover has to refuse (CRATE=NAME for one crate)'
@@ -68,7 +70,7 @@ takeover: bin/resetd
 	@tools/takeover
 
 build:
-	@if [ -x bin/resetd ] && [ -z "$$(find crates crates.txt HANDLES -newer bin/resetd -type f -not -path '*/out/*' -print -quit)" ]; then \
+	@if [ -x bin/resetd ] && [ -x bin/resetd-proxy ] && [ -z "$$(find crates crates.txt HANDLES -newer bin/resetd -type f -not -path '*/out/*' -print -quit)" ]; then \
 	  echo 'bin/resetd is newer than every source: nothing is proved again (remove it to have that)'; \
 	else \
 	  $(MAKE) --no-print-directory prove; \
@@ -82,6 +84,7 @@ prove:
 	cd crates/resetd && rt run -- drill < stdin
 	mkdir -p bin
 	cp crates/resetd/out/resetd bin/resetd
+	cp crates/resetd_proxy/out/resetd_proxy bin/resetd-proxy
 
 lib:
 	@JOBS=$(JOBS) tools/member_library $(PREFIX)
@@ -106,6 +109,7 @@ test:
 	rt ci
 	mkdir -p bin
 	cp crates/resetd/out/resetd bin/resetd
+	cp crates/resetd_proxy/out/resetd_proxy bin/resetd-proxy
 	@tests/run
 
 program:
@@ -119,8 +123,9 @@ BASH_COMPLETIONS = $(DESTDIR)$(PREFIX)/share/bash-completion/completions
 ZSH_COMPLETIONS = $(DESTDIR)$(PREFIX)/share/zsh/vendor-completions
 
 # What stands below share/resetd has the places of the repository, so that each part finds the others.
-install: $(PROGRAM) $(if $(wildcard lib/libresetd_member.so),install-lib)
+install: $(PROGRAM) $(PROXY) $(if $(wildcard lib/libresetd_member.so),install-lib)
 	install -D -m 755 $(PROGRAM) $(DESTDIR)$(PREFIX)/bin/resetd
+	install -D -m 755 $(PROXY) $(DESTDIR)$(PREFIX)/bin/resetd-proxy
 	install -d $(SHARE)/client/resetd_client/control $(SHARE)/client/resetd_front $(SHARE)/client/resetd_page $(SHARE)/tools/picture $(SHARE)/examples $(SHARE)/docs
 	install -m 755 client/resetctl client/resetd-front client/resetd-page $(SHARE)/client/
 	install -m 644 client/pyproject.toml client/build_wheel.py $(SHARE)/client/
@@ -131,15 +136,15 @@ install: $(PROGRAM) $(if $(wildcard lib/libresetd_member.so),install-lib)
 	install -m 755 tools/wave tools/container $(SHARE)/tools/
 	install -m 644 tools/picture/*.py $(SHARE)/tools/picture/
 	install -m 755 examples/ask examples/gateway examples/local_check examples/member examples/plain_member examples/run examples/service examples/talk examples/worker $(SHARE)/examples/
-	install -m 644 examples/coordinator.py examples/ring.toml examples/front.toml examples/resetd.logrotate examples/resetd.rules.yml examples/resetd.grafana.json examples/kubernetes.yaml $(SHARE)/examples/
+	install -m 644 examples/coordinator.py examples/ring.toml examples/front.toml examples/proxy.toml examples/haproxy.cfg examples/resetd.logrotate examples/resetd.rules.yml examples/resetd.grafana.json examples/kubernetes.yaml $(SHARE)/examples/
 	for unit in examples/*.service examples/*.timer examples/*.socket; do sed 's|/usr/local/bin/|$(PREFIX)/bin/|' $$unit > $(SHARE)/$$unit; chmod 644 $(SHARE)/$$unit; done
-	install -m 644 docs/OPERATING.md docs/TAKEOVER.md docs/FORMATS.md docs/SERVICES.md docs/PROTOCOL.md docs/FRONT.md docs/COMPARISON.md docs/QUEUES.md docs/DEPLOYING.md docs/member-vectors.json docs/*.svg docs/front.png $(SHARE)/docs/
+	install -m 644 docs/OPERATING.md docs/TAKEOVER.md docs/FORMATS.md docs/SERVICES.md docs/PROTOCOL.md docs/FRONT.md docs/PROXY.md docs/COMPARISON.md docs/QUEUES.md docs/DEPLOYING.md docs/member-vectors.json docs/*.svg docs/front.png $(SHARE)/docs/
 	install -m 644 CHANGELOG.md $(SHARE)/
-	install -m 755 examples/account examples/hello examples/hello.sh examples/one_for_all $(SHARE)/examples/
+	install -m 755 examples/account examples/certificates examples/hello examples/hello.sh examples/one_for_all $(SHARE)/examples/
 	install -m 644 examples/pair.toml $(SHARE)/examples/
 	install -d $(SHARE)/examples/members
 	install -m 644 $(addprefix examples/members/,plain_member.go front.go files.go) $(SHARE)/examples/members/
-	for unit in resetd-member@.service resetd-front.service; do sed 's|/usr/local/|$(PREFIX)/|' examples/$$unit > $(SHARE)/examples/$$unit; done
+	for unit in resetd-member@.service resetd-front.service resetd-proxy.service; do sed 's|/usr/local/|$(PREFIX)/|' examples/$$unit > $(SHARE)/examples/$$unit; done
 	ln -sfn ../share/resetd/client/resetctl $(DESTDIR)$(PREFIX)/bin/resetctl
 	ln -sfn ../share/resetd/client/resetd-front $(DESTDIR)$(PREFIX)/bin/resetd-front
 	ln -sfn ../share/resetd/client/resetd-page $(DESTDIR)$(PREFIX)/bin/resetd-page
@@ -149,6 +154,7 @@ install: $(PROGRAM) $(if $(wildcard lib/libresetd_member.so),install-lib)
 	install -D -m 644 docs/resetd.8 $(DESTDIR)$(PREFIX)/share/man/man8/resetd.8
 	install -D -m 644 docs/resetctl.8 $(DESTDIR)$(PREFIX)/share/man/man8/resetctl.8
 	install -D -m 644 docs/resetd-front.8 $(DESTDIR)$(PREFIX)/share/man/man8/resetd-front.8
+	install -D -m 644 docs/resetd-proxy.8 $(DESTDIR)$(PREFIX)/share/man/man8/resetd-proxy.8
 
 # The members' library, where make lib has made it. A trial build of it is never installed.
 install-lib:
@@ -164,8 +170,8 @@ install-lib:
 	install -d $(SHARE)/examples/members
 	install -m 644 $(addprefix examples/members/,member.c member.rs resetd_member.rs member.go resetd_member.go) $(SHARE)/examples/members/
 
-deb: $(PROGRAM)
-	@PROGRAM=$(PROGRAM) tools/deb
+deb: $(PROGRAM) $(PROXY)
+	@PROGRAM=$(PROGRAM) PROXY=$(PROXY) tools/deb
 
 release:
 	@tools/release $(or $(LOG),--trial)
@@ -179,12 +185,19 @@ lib/libresetd_member.a:
 	@echo 'there is no proved library of the members yet: make lib makes it.' >&2
 	@exit 1
 
+bin/resetd-proxy:
+	@echo 'there is no proved proxy yet: make build makes it with the program.' >&2
+	@exit 1
+
 bin/resetd-trial:
 	@tools/program --trial > /dev/null
 
+bin/resetd-proxy-trial:
+	@tools/program --trial resetd-proxy > /dev/null
+
 uninstall:
-	rm -f $(DESTDIR)$(PREFIX)/bin/resetd $(DESTDIR)$(PREFIX)/bin/resetctl $(DESTDIR)$(PREFIX)/bin/resetd-front $(DESTDIR)$(PREFIX)/bin/resetd-page
-	rm -f $(foreach page,resetd resetctl resetd-front,$(DESTDIR)$(PREFIX)/share/man/man8/$(page).8)
+	rm -f $(DESTDIR)$(PREFIX)/bin/resetd $(DESTDIR)$(PREFIX)/bin/resetd-proxy $(DESTDIR)$(PREFIX)/bin/resetctl $(DESTDIR)$(PREFIX)/bin/resetd-front $(DESTDIR)$(PREFIX)/bin/resetd-page
+	rm -f $(foreach page,resetd resetctl resetd-front resetd-proxy,$(DESTDIR)$(PREFIX)/share/man/man8/$(page).8)
 	rm -f $(BASH_COMPLETIONS)/resetctl $(ZSH_COMPLETIONS)/_resetctl
 	rm -f $(foreach file,lib/libresetd_member.a lib/libresetd_member.so lib/pkgconfig/resetd_member.pc include/resetd_member.h,$(DESTDIR)$(PREFIX)/$(file))
 	rm -rf $(SHARE)

@@ -97,6 +97,12 @@ class Proxy(Files):
     def test_the_audit_of_the_proxy(self) -> None:
         self.files("test_proxy_audit")
 
+    def test_sockets_of_the_manager(self) -> None:
+        self.files("test_activation")
+
+    def test_haproxy(self) -> None:
+        self.files("test_haproxy")
+
 
 class MembersAtProxy(Files):
     """Members of every language at the proxy."""

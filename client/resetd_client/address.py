@@ -1,15 +1,16 @@
-"""The addresses of a coordinator, or of the front before it, and the connections to them.
+"""The addresses of a coordinator, or of the proxy or front before it, and the connections to them.
 
 | Written | Means |
 |---|---|
 | `HOST:PORT` | the server's port |
-| `unix:PATH` | a front's socket on this host; PATH is absolute |
-| `tls:HOST:PORT` | a front on any host: TLS 1.3, with a certificate at each end |
+| `unix:PATH` | a socket of the proxy, or of a front, on this host; PATH is absolute |
+| `tls:HOST:PORT` | a proxy or a front on any host: TLS 1.3, with a certificate at each end |
 """
 
 from __future__ import annotations
 
 import os
+import pwd
 import socket
 import ssl
 import stat
@@ -23,6 +24,7 @@ from .errors import BadWords, Unreadable, Untrusted
 
 CONNECT_SECONDS = 5.0  # at most, until a connection is made
 SERVER = "127.0.0.1:4170"
+PROXY_SOCKETS = "/run/resetd-proxy"  # the folder of the proxy's sockets, each named after its principal
 FRONT_SOCKET = "/run/resetd-front/socket"
 CREDENTIALS: Mapping[str, str] = {
     "certificate": "this client's certificate", "key": "its key", "authority": "who signs the certificates of fronts"}
@@ -219,12 +221,26 @@ def host_and_port(text: str) -> tuple[str, int]:
 
 
 def default_address() -> str:
-    """Returns the front's socket if it exists, else the server's port."""
+    """Returns the first socket of these that this process may open: the proxy's socket of this user, of the group that may order
+    (`order`), of the group that may look (`look`), and the front's. If there is none, returns the server's port."""
+    paths = [*(os.path.join(PROXY_SOCKETS, name) for name in (own_name(), "order", "look") if name), FRONT_SOCKET]
+    return next((f"unix:{path}" for path in paths if may_open(path)), SERVER)
+
+
+def own_name() -> str:
+    """Returns the name of the user that this process acts as, or nothing if it has none."""
     try:
-        is_there = stat.S_ISSOCK(os.stat(FRONT_SOCKET).st_mode)
+        return pwd.getpwuid(os.geteuid()).pw_name
+    except KeyError:
+        return ""
+
+
+def may_open(path: str) -> bool:
+    """Whether a socket is there that this process has the rights to connect to."""
+    try:
+        return stat.S_ISSOCK(os.stat(path).st_mode) and os.access(path, os.R_OK | os.W_OK, effective_ids=True)
     except OSError:
-        is_there = False
-    return f"unix:{FRONT_SOCKET}" if is_there else SERVER
+        return False
 
 
 def connected_to(host: str, port: int, seconds: float) -> socket.socket:

@@ -10,7 +10,7 @@ import time
 from collections.abc import Callable, Iterator, Mapping, Sequence
 from typing import Any, TypeVar
 
-from .address import Address, Credentials, addresses_of
+from .address import Address, Credentials, addresses_of, default_address
 from .answers import Away, Garbled, NotNow, NotTaken, members_of
 from .errors import BadWords
 from .newest import Newest
@@ -34,7 +34,8 @@ class Port:
 
     `addresses` are `HOST:PORT`, `unix:PATH` or `tls:HOST:PORT`, one address or several with commas between them. All must
     belong to one coordinator, and at most one of them serves at a time. They are tried in turn, beginning with the one that
-    answered last; if one gives no answer, or answers Stopped, PendingFull or OutOfMemory, the next one is tried.
+    answered last; if one gives no answer, or answers Stopped, PendingFull or OutOfMemory, the next one is tried. Without
+    `addresses` it is this user's way to the coordinator of this host (`address.default_address`).
 
     A view from another address than that of the last view counts only if it has at least as many settled steps (newest.py).
 
@@ -42,10 +43,10 @@ class Port:
     showed.
     """
 
-    def __init__(self, addresses: str, seconds: float = REPLY_SECONDS, credentials: Credentials | None = None) -> None:
+    def __init__(self, addresses: str | None = None, seconds: float = REPLY_SECONDS, credentials: Credentials | None = None) -> None:
         """`seconds` is the time limit for one answer. `credentials` are for `tls:`, and default to those named in the
         environment. Raises BadWords for an invalid address, and Unreadable for a credentials file that can't be read."""
-        self.addresses = addresses_of(addresses, credentials)
+        self.addresses = addresses_of(default_address() if addresses is None else addresses, credentials)
         self.seconds = seconds
         self._last = 0
         self.newest = Newest()

@@ -4,14 +4,17 @@ from __future__ import annotations
 
 import asyncio
 import os
+import pwd
 import shutil
 import socket
+import subprocess
+import sys
 import tempfile
 import threading
 import unittest
 from unittest import mock
 
-from case import Case
+from case import ROOT, Case
 from pushing import context_of, make_certificates, of_tls, of_unix
 from resetd_client import Away, BadWords, Credentials, Fault, Faulted, Orders, Port, Unreadable, Untrusted
 from resetd_client.address import SERVER, addresses_of, default_address
@@ -63,17 +66,61 @@ class Sockets(Case):
             self.assertIs(caught.exception.fault, Fault.NOT_ALLOWED)
             self.assertEqual((orders.number, orders.unanswered), (1, []))
 
-    def test_the_default_is_the_front_where_it_is(self) -> None:
-        with mock.patch("resetd_client.address.FRONT_SOCKET", self.path):
-            self.assertEqual(default_address(), f"unix:{self.path}")
-        for path in (f"{self.folder}/none", self.folder):
-            with mock.patch("resetd_client.address.FRONT_SOCKET", path):
-                self.assertEqual(default_address(), SERVER)
 
-    def test_resetctl_takes_the_default(self) -> None:
-        with mock.patch.dict(os.environ, {"RESETD_ADDRESS": ""}), mock.patch("resetd_client.address.FRONT_SOCKET", self.path):
+
+class Default(Case):
+    """The address if none is given."""
+
+    def setUp(self) -> None:
+        super().setUp()
+        self.sockets = f"{self.folder}/resetd-proxy"
+        os.mkdir(self.sockets)
+        for name, value in (("PROXY_SOCKETS", self.sockets), ("FRONT_SOCKET", f"{self.folder}/front")):
+            patched = mock.patch(f"resetd_client.address.{name}", value)
+            patched.start()
+            self.addCleanup(patched.stop)
+
+    def listen(self, path: str) -> str:
+        """Makes a socket, and returns its address."""
+        listener = socket.socket(socket.AF_UNIX)
+        self.addCleanup(listener.close)
+        listener.bind(path)
+        listener.listen()
+        return f"unix:{path}"
+
+    def test_ones_own_socket_comes_first_and_the_port_last(self) -> None:
+        user = pwd.getpwuid(os.geteuid()).pw_name
+        self.assertEqual(default_address(), SERVER)
+        os.mkdir(f"{self.sockets}/{user}")  # no socket
+        self.assertEqual(default_address(), SERVER)
+        os.rmdir(f"{self.sockets}/{user}")
+        self.listen(f"{self.sockets}/somebody")
+        for path in (f"{self.folder}/front", f"{self.sockets}/look", f"{self.sockets}/order", f"{self.sockets}/{user}"):
+            address = self.listen(path)
+            self.assertEqual(default_address(), address)
+
+    @unittest.skipIf(os.geteuid(), "it needs root: to act as another user")
+    def test_a_socket_that_this_user_may_not_open_is_passed_over(self) -> None:
+        """As another user in a process of that user, since the rights of a process are those of all its threads."""
+        os.chmod(self.folder, 0o755)
+        for name, mode in (("order", 0o600), ("look", 0o666)):
+            self.listen(f"{self.sockets}/{name}")
+            os.chmod(f"{self.sockets}/{name}", mode)
+        self.assertEqual(default_address(), f"unix:{self.sockets}/order")
+        code = ("import os; os.setgroups([]); os.setresgid(65534, 65534, 65534); os.setresuid(65534, 65534, 65534)\n"
+                f"from resetd_client import address; address.PROXY_SOCKETS = {self.sockets!r}; print(address.default_address())")
+        done = subprocess.run([sys.executable, "-c", f"import sys; sys.path.insert(0, {os.path.join(ROOT, 'client')!r}); import resetd_client.address\n{code}"],
+                              capture_output=True, encoding="utf-8", check=False)
+        self.assertEqual((done.stdout, done.stderr), (f"unix:{self.sockets}/look\n", ""))
+
+    def test_resetctl_and_a_port_take_it(self) -> None:
+        self.server.ring(2)
+        front = of_unix(self.server, f"{self.sockets}/order")
+        self.addCleanup(front.close)
+        with mock.patch.dict(os.environ, {"RESETD_ADDRESS": ""}):
             self.assertEqual(main(["--quiet", "--state", self.folder, "reset", "1"]), 0)
         self.assertEqual(self.server.row(1)[1], 1)
+        self.assertEqual(str(Port().addresses[0]), f"unix:{self.sockets}/order")
 
 
 @unittest.skipUnless(shutil.which("openssl"), "it needs openssl: for certificates")

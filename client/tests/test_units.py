@@ -67,9 +67,9 @@ class Units(unittest.TestCase):
             self.assertEqual(self.unit(name)["Unit"]["OnFailure"], "resetd-alert@%n.service")
         self.assertTrue(self.unit("resetd-alert@.service")["Service"]["ExecStart"])
 
-    def test_three_units_share_a_network_that_nobody_else_has(self) -> None:
-        """Each names the two others: a network is named after the unit that began it."""
-        names = {"resetd.service", "resetd-front.service", "resetd-health.service"}
+    def test_four_units_share_a_network_that_nobody_else_has(self) -> None:
+        """Each names the three others: a network is named after the unit that began it."""
+        names = {"resetd.service", "resetd-proxy.service", "resetd-front.service", "resetd-health.service"}
         for name in names:
             unit = self.unit(name)
             self.assertEqual(unit["Service"]["PrivateNetwork"], "yes", name)
@@ -82,6 +82,19 @@ class Units(unittest.TestCase):
                       re.sub(" +", " ", front["ExecStart"]))
         self.assertEqual((passed["Service"], passed["FileDescriptorName"]), ("resetd-front.service", "tls"))
 
+    def test_each_socket_of_the_proxy_is_its_principals(self) -> None:
+        """The names are those that the proxy is passed, and only the named can open the sockets."""
+        rights = {"resetd-proxy-order.socket": ("order", "root", "resetd", "0660"), "resetd-proxy-look.socket": ("look", "root", "resetd-look", "0660"),
+                  "resetd-proxy-certificates.socket": ("certificates", "haproxy", None, "0600"), "resetd-proxy@.socket": ("%i", "%i", None, "0600")}
+        for name, (principal, user, group, mode) in rights.items():
+            socket = self.unit(name)["Socket"]
+            self.assertEqual((socket["FileDescriptorName"], socket["Service"]), (principal, "resetd-proxy.service"), name)
+            self.assertEqual((socket["SocketUser"], socket.get("SocketGroup"), socket["SocketMode"]), (user, group, mode), name)
+            self.assertIn(f"\nListenStream=/run/resetd-proxy/{principal}\n", shipped(name))
+        proxy = self.unit("resetd-proxy.service")["Service"]
+        self.assertIn(" --listen-fds ${LISTEN_FDNAMES} ", proxy["ExecStart"])
+        self.assertEqual(proxy["Sockets"].split(), ["resetd-proxy-order.socket", "resetd-proxy-look.socket"])
+
     def test_the_folder_of_signals_is_roots(self) -> None:
         """The manager opens the file as root: the owner of the folder could otherwise redirect it to any other file."""
         for name in ("examples/resetd.service", "docs/OPERATING.md", "docs/TAKEOVER.md", "tools/deb"):
@@ -93,7 +106,8 @@ class Units(unittest.TestCase):
     @unittest.skipUnless(shutil.which("systemd-analyze"), "it needs systemd-analyze: no unit is verified")
     def test_the_units_are_understood(self) -> None:
         names = [name for name in os.listdir(EXAMPLES) if name.endswith((".service", ".timer", ".socket"))]
-        self.assertLessEqual({"resetd.service", "resetd-front.service", "resetd-health.timer", "resetd-member@.service"}, {*names})
+        self.assertLessEqual({"resetd.service", "resetd-front.service", "resetd-proxy.service", "resetd-proxy@.socket", "resetd-health.timer", "resetd-member@.service"},
+                             {*names})
         for name in names:
             with open(os.path.join(self.folder, name), "w", encoding="utf-8") as file:
                 file.write(re.sub(r"/usr/local/(?:bin|share)/[\w/-]+", "/bin/true", shipped(name)).replace("man:", "https://example.org/"))
@@ -128,18 +142,22 @@ class Units(unittest.TestCase):
 
     @unittest.skipUnless(shutil.which("logrotate"), "it needs logrotate: nothing is rotated")
     def test_the_audit_is_rotated(self) -> None:
-        """It is renamed, because the front opens it again when it is signalled."""
+        """It is renamed: the front opens it again when it is signalled, and the proxy notices by itself."""
         audit, told = (os.path.join(self.folder, name) for name in ("audit", "told"))
         text = shipped("resetd.logrotate").replace("/var/log/resetd-front/audit", audit).replace("su resetd resetd\n", "\n")
+        proxys = os.path.join(self.folder, "proxy", "audit")
+        os.mkdir(os.path.dirname(proxys))
         with open(os.path.join(self.folder, "conf"), "w", encoding="utf-8") as file:
-            file.write(text.replace("systemctl try-reload-or-restart resetd-front.service", f"touch {told}"))
+            file.write(text.replace("systemctl try-reload-or-restart resetd-front.service", f"touch {told}").replace("/var/log/resetd-proxy/audit", proxys))
         os.chmod(os.path.join(self.folder, "conf"), 0o644)
-        with open(audit, "w", encoding="utf-8") as file:
-            file.write("{}\n")
+        for name in (audit, proxys):
+            with open(name, "w", encoding="utf-8") as file:
+                file.write("{}\n")
         done = subprocess.run(["logrotate", "--force", "--state", f"{self.folder}/state", f"{self.folder}/conf"],
                               capture_output=True, encoding="utf-8", check=False)
         self.assertEqual((done.returncode, done.stderr), (0, ""))
         self.assertEqual((os.path.exists(audit), os.path.exists(f"{audit}.1"), os.path.exists(told)), (False, True, True))
+        self.assertEqual((os.path.exists(proxys), os.path.exists(f"{proxys}.1")), (False, True))
 
 
 class Table(unittest.TestCase):

@@ -1,11 +1,16 @@
 //! A socket that clients connect to.
 
-ghost use Rattle.std.specs.Prelude.{◌≡◌, true, IfOk};
+ghost use Rattle.std.specs.Prelude.{◌≡◌, ◌≤ℤ◌, pos, true, IfOk};
+ghost use Rattle.mio.specs.Net.{unix_listener_fd};
 
 use mio::net::UnixListener;
+use os::FromRawFd;
 use std::fs::{Files, Permissions};
+use std::io::ErrorKind;
 use std::net::Net;
+use std::os::fd::{AsRawFd, RawFd};
 use std::os::unix::fs::{FileTypeExt, PermissionsExt};
+use std::os::unix::net as unix;
 use std::{fs, io};
 
 /// A listening socket, and the role of its clients.
@@ -35,4 +40,35 @@ impl Listener {
             is_ready: true,
         })
     }
+
+    /// Takes the listening socket that another process opened and passed as this descriptor. Nothing else may use
+    /// the descriptor. Errors: it is no Unix socket.
+    pub fn take(descriptor: u32, role: Option<u32>) -> io::Result<Self>
+        ensures role { IfOk result (λ listener. (listener.role ≡ role) × (listener.is_ready ≡ true)) }
+        ensures descriptor { IfOk result (λ listener. unix_listener_fd listener.socket ≡ pos descriptor) }
+    {
+        let Ok(number) = RawFd::try_from(descriptor) else {
+            return Err(ErrorKind::InvalidInput.into());
+        };
+        let socket = socket_of(number);
+        socket.local_addr()?;
+        socket.set_nonblocking(true)?;
+        let socket = UnixListener::from_std(socket);
+        // The kit's call says nothing of the number.
+        if socket.as_raw_fd() != number {
+            return Err(ErrorKind::InvalidInput.into());
+        }
+        Ok(Listener {
+            socket,
+            role,
+            is_ready: true,
+        })
+    }
+}
+
+/// Returns the socket of a descriptor.
+fn socket_of(number: RawFd) -> unix::UnixListener
+    requires { pos 0 ≤ℤ number }
+{
+    unsafe { unix::UnixListener::from_raw_fd(number) }
 }

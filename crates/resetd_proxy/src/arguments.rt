@@ -1,18 +1,16 @@
 //! The program's arguments.
 
+use crate::values::{copied, names_in, path_of, servers_in};
 use clap::{Arg, ArgAction, ArgMatches, Command};
 use proxy_loop::Settings;
 use proxy_policy::is_socket_name;
 use std::alloc::{AllocError, Global};
 use std::time::Duration;
 
-/// The most addresses of the server.
-const MOST_SERVERS: usize = 8;
-
 /// The most connections of a principal, if the arguments don't say.
 const MOST_CONNECTIONS: usize = 1000;
 
-/// What the program is asked for.
+/// The task that the arguments ask for.
 #[derive(Drop)]
 pub enum Task {
     Serve(Arguments),
@@ -24,21 +22,29 @@ pub enum Task {
 #[derive(Drop)]
 pub struct Arguments {
     pub servers: Vec<String>,
-    /// The principal and the path of each socket.
-    pub sockets: Vec<(String, String)>,
+    pub sockets: SocketArguments,
     pub settings: Settings,
     /// The file that the server's signals are printed to.
     pub signals: Option<String>,
     pub policy: String,
-    /// The path of the socket for connections whose certificate says who they are.
-    pub certificates: Option<String>,
     /// The file of the audit. None, and `-`: standard output.
     pub audit: Option<String>,
     /// The file of the metrics; `-`: standard output.
     pub metrics: Option<String>,
 }
 
-/// Returns what the arguments ask for; None if they are wrong.
+/// The sockets that `serve` listens on.
+#[derive(Drop)]
+pub struct SocketArguments {
+    /// The principal and the path of each socket.
+    pub named: Vec<(String, String)>,
+    /// The path of the socket for connections whose certificate says who they are.
+    pub certificates: Option<String>,
+    /// The names of the sockets that the service manager opened, in turn; None if it opened none.
+    pub passed: Option<Vec<String>>,
+}
+
+/// Returns the task that the arguments ask for; None if they are wrong, or memory is out.
 pub fn read_arguments(alloc: Global, words: &[String]) -> Option<Task> {
     let program = program(alloc).ok()?;
     let matches = program.try_get_matches_from(words).ok()?;
@@ -59,26 +65,10 @@ fn serve_arguments(alloc: Global, found: &ArgMatches<'_>) -> Option<Arguments> {
             None => MOST_CONNECTIONS,
         },
     };
-    let mut servers = Vec::new(alloc);
-    for text in found.get_strs("server")? {
-        servers.push(copied(alloc, text).ok()?).ok()?;
-    }
-    if servers.len() > MOST_SERVERS {
-        return None;
-    }
-    let mut sockets = Vec::new(alloc);
-    for text in found.get_strs("listen").unwrap_or(&[]) {
-        let (name, path) = text.split_once("=")?;
-        if !is_socket_name(name.as_bytes()) {
-            return None;
-        }
-        sockets
-            .push((copied(alloc, name).ok()?, copied(alloc, path).ok()?))
-            .ok()?;
-    }
+    let servers = servers_in(alloc, found.get_strs("server")?)?;
+    let sockets = socket_arguments(alloc, found)?;
     let policy = copied(alloc, found.get_str("policy")?).ok()?;
     let signals = path_of(alloc, found, "signals").ok()?;
-    let certificates = path_of(alloc, found, "certificates").ok()?;
     let audit = path_of(alloc, found, "audit").ok()?;
     let metrics = path_of(alloc, found, "metrics").ok()?;
     Some(Arguments {
@@ -87,9 +77,31 @@ fn serve_arguments(alloc: Global, found: &ArgMatches<'_>) -> Option<Arguments> {
         settings,
         signals,
         policy,
-        certificates,
         audit,
         metrics,
+    })
+}
+
+fn socket_arguments(alloc: Global, found: &ArgMatches<'_>) -> Option<SocketArguments> {
+    let mut named = Vec::new(alloc);
+    for text in found.get_strs("listen").unwrap_or(&[]) {
+        let (name, path) = text.split_once("=")?;
+        if !is_socket_name(name.as_bytes()) {
+            return None;
+        }
+        named
+            .push((copied(alloc, name).ok()?, copied(alloc, path).ok()?))
+            .ok()?;
+    }
+    let passed = match found.get_str("listen-fds") {
+        Some(text) => Some(names_in(alloc, text)?),
+        None => None,
+    };
+    let certificates = path_of(alloc, found, "certificates").ok()?;
+    Some(SocketArguments {
+        named,
+        certificates,
+        passed,
     })
 }
 
@@ -101,6 +113,7 @@ fn program<'a>(alloc: Global) -> Result<Command<'a>, AllocError> {
                 .required(true),
         )?
         .arg(option(alloc, "listen").action(ArgAction::Append))?
+        .arg(option(alloc, "listen-fds"))?
         .arg(option(alloc, "policy").required(true))?
         .arg(option(alloc, "certificates"))?
         .arg(option(alloc, "signals"))?
@@ -137,22 +150,4 @@ fn seconds(found: &ArgMatches<'_>, name: &str, usual: u64) -> Option<Duration> {
         }
         None => Some(Duration::from_secs(usual)),
     }
-}
-
-/// Returns the path that an argument gives.
-fn path_of(
-    alloc: Global,
-    found: &ArgMatches<'_>,
-    name: &str,
-) -> Result<Option<String>, AllocError> {
-    match found.get_str(name) {
-        Some(path) => Ok(Some(copied(alloc, path)?)),
-        None => Ok(None),
-    }
-}
-
-fn copied(alloc: Global, text: &str) -> Result<String, AllocError> {
-    let mut copy = String::new(alloc);
-    copy.push_str(text)?;
-    Ok(copy)
 }

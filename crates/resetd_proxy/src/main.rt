@@ -6,26 +6,29 @@ mod gateway;
 mod judging;
 mod metrics;
 mod recording;
+mod sockets;
 mod totals;
+mod values;
 
 use arguments::{Arguments, Task, read_arguments};
 use gateway::FileGateway;
 use metrics::Metrics;
 use proxy_audit::{Audit, Event};
-use proxy_loop::{EventLoop, Listener, serve};
+use proxy_loop::{EventLoop, serve};
 use proxy_policy::read_policy;
 use proxy_streams::Addresses;
-use std::alloc::Global;
+use sockets::open_sockets;
+use std::env::Env;
 use std::fs::{File, Files};
 use std::io::ErrorKind;
 use std::net::{Net, ToSocketAddrs};
 use std::process::ExitCode;
 use std::sync::Wait;
 use std::time::{Clock, SystemTime};
-use std::{env, fs, io};
+use std::{env, fs, io, process};
 
 const USAGE: &str =
-    "usage: resetd-proxy serve --server HOST:PORT .. --policy FILE [--listen NAME=PATH] .. [--certificates PATH]\n                          [--signals FILE] [--audit FILE] [--metrics FILE]\n                          [--patience SECONDS] [--stuck SECONDS] [--server-silent SECONDS] [--connections N]\n       resetd-proxy check FILE";
+    "usage: resetd-proxy serve --server HOST:PORT .. --policy FILE [--listen NAME=PATH] ..\n                          [--listen-fds NAME,NAME..] [--certificates PATH] [--signals FILE] [--audit FILE]\n                          [--metrics FILE] [--patience SECONDS] [--stuck SECONDS] [--server-silent SECONDS]\n                          [--connections N]\n       resetd-proxy check FILE";
 
 fn main(rt: HostRuntime) -> ExitCode {
     let arguments = match env::args(&rt) {
@@ -36,7 +39,7 @@ fn main(rt: HostRuntime) -> ExitCode {
         return ExitCode::from(1);
     };
     let done = match read_arguments(rt.alloc(), words.as_slice()) {
-        Some(Task::Serve(arguments)) => run(&rt, rt.alloc(), arguments),
+        Some(Task::Serve(arguments)) => run(&rt, process::id(rt.process()), arguments),
         Some(Task::Check(path)) => check(&rt, path.as_str()),
         None => {
             let _ = eprintln!(&rt; "{USAGE}");
@@ -70,12 +73,13 @@ fn check<R: Files + AllocGlobal + Print + Eprint>(rt: &R, path: &str) -> io::Res
     }
 }
 
-/// Serves as the arguments say. Returns false if the policy is none.
-fn run<R: Net + Files<File = File> + AllocGlobal + Clock + Wait + Print + Eprint>(
+/// Serves as the arguments say. Returns false if the policy is none, or the service manager passed other sockets.
+fn run<R: Net + Files<File = File> + Env + AllocGlobal + Clock + Wait + Print + Eprint>(
     rt: &R,
-    alloc: Global,
+    process: u32,
     arguments: Arguments,
 ) -> io::Result<bool> {
+    let alloc = rt.alloc();
     let mut all = Vec::new(alloc);
     for text in &arguments.servers {
         let mut found = text.as_str().to_socket_addrs(rt)?;
@@ -96,19 +100,9 @@ fn run<R: Net + Files<File = File> + AllocGlobal + Clock + Wait + Print + Eprint
     let Some(mut gateway) = FileGateway::open(rt, arguments.policy, audit, metrics)? else {
         return Ok(false);
     };
-    let mut listeners = Vec::new(alloc);
-    for (name, path) in &arguments.sockets {
-        let role = gateway.role_of(alloc, name.as_str())?;
-        if role.is_none() {
-            return Err(ErrorKind::InvalidInput.into());
-        }
-        listeners.push(Listener::bind(rt, path.as_str(), role)?)?;
-        eprintln!(rt; "listening {name}")?;
-    }
-    if let Some(path) = &arguments.certificates {
-        listeners.push(Listener::bind(rt, path.as_str(), None)?)?;
-        eprintln!(rt; "listening certificates")?;
-    }
+    let Some(listeners) = open_sockets(rt, process, &arguments.sockets, &mut gateway)? else {
+        return Ok(false);
+    };
     let mut event_loop = EventLoop::new(
         alloc,
         arguments.settings,
