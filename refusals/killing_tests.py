@@ -21,7 +21,7 @@ from edits import Edit
 TOGETHER = ("units", "tests")
 # The words of the program's build, with the files that it leaves, by the variables that name them.
 PROGRAM, FILES = ["--steps", "32", "resetd", "resetd_short"], {"RESETD": "resetd", "RESETD_SHORT": "resetd_short"}
-# The words of the build of `resetd-proxy`, which is made if a mutant is in one of its own crates.
+# The words of the build of `resetd-proxy`, which is made if a mutant is in a crate that only this program has.
 PROXY = ["--proxy", "--plain", "resetd_proxy"]
 # Seconds within which a test of a crate ends, and after which one that its edit makes wait counts as waiting.
 LIMIT, WAITS = 600, 60

@@ -1,4 +1,4 @@
-"""The audit and the metrics of `resetd-proxy`: what is written, within which quotas, and that it stands there before an answer goes out."""
+"""The audit and the metrics of `resetd-proxy`: their lines, the quotas, and that a line is written before its answer is sent."""
 
 from __future__ import annotations
 
@@ -103,7 +103,7 @@ class Lines(Audited):
         self.assertEqual(set(lines[2]), {"time", "event", "who", "line", "answer", "seconds"})
 
     def test_a_denial_and_no_look(self) -> None:
-        """One who may only look leaves no line but of a denial, not even of its begin and end."""
+        """A principal that may only look leaves a line of a denial alone, and none of its begin and end."""
         with self.looking() as client:
             self.assertIn("nodes", client.ask(op="show"))
             self.assertIn("nodes", client.ask(op="watch"))

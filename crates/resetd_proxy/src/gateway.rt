@@ -42,7 +42,7 @@ pub struct FileGateway {
 }
 
 impl FileGateway {
-    /// Returns a gateway with the policy of a file. None: what is wrong with the file was reported.
+    /// Returns a gateway with the policy of a file. None: the file is no policy, and its fault was reported.
     pub fn open<R: Files + AllocGlobal + Eprint>(
         rt: &R,
         path: String,

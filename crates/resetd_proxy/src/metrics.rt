@@ -11,7 +11,7 @@ use std::{fs, io};
 /// How many seconds pass at least between two texts.
 const TEXT_PAUSE: u64 = 1;
 
-/// What is counted, and where its text goes.
+/// The counts, and the destination of their text.
 #[derive(Drop)]
 pub(crate) struct Metrics {
     pub tally: Tally,
