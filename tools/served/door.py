@@ -29,7 +29,7 @@ Exchanges = Sequence[tuple[str, str]]
 COUNTS_STARTS: Exchanges = [
     ("\tFence   string          // of that moment\n", "\tFence   string          // of that moment\n\tStarts  int\n"),
     ('kept.Begun, kept.First = epoch, ""', 'kept.Begun, kept.First, kept.Starts = epoch, "", kept.Starts+1')]
-START_SECONDS = 120  # within which a process of the door starts, on a busy machine too
+START_SECONDS = 300  # within which a process of the door starts, on a busy machine too
 
 
 class Failed(Exception):
