@@ -10,7 +10,7 @@ import time
 import unittest
 from typing import Any
 
-from case import DEADLINE, PROXY, Case, Front, until
+from case import DEADLINE, PROXY, Case, Client, Front, until
 from test_lost_answers import Losing
 
 STOPPED = b'{"name":"Stopped","refused":1}\n'
@@ -55,13 +55,19 @@ class Addresses(Case):
             return answer if "kind" in answer else None
         self.assertEqual(until("the other one", carried_out)["kind"], "started")
 
+    def note_end(self, client: Client, ended: threading.Event) -> None:
+        with contextlib.suppress(ConnectionError):
+            while client.line():
+                pass
+        ended.set()
+
     def test_one_who_sends_on_is_ended_too(self) -> None:
         """The first line without an answer counts."""
         front = self.front_of(self.server.address, "--patience", "1.5")
         self.server.kill()
         ended, began = threading.Event(), time.monotonic()
         with front.connect() as client:
-            threading.Thread(target=lambda: (client.line(), ended.set()), daemon=True).start()
+            threading.Thread(target=self.note_end, args=(client, ended), daemon=True).start()
             number = 0
             with contextlib.suppress(ConnectionError):
                 while not ended.wait(0.2):
