@@ -27,7 +27,10 @@ class Front(Files):
         self.files("test_pairing", "test_policy", "test_own_orders", "test_judging")
 
     def test_lines_and_orders(self) -> None:
-        self.files("test_requests", "test_orders", "test_lost_answers")
+        self.files("test_requests", "test_orders", "test_order_of_lines", "test_lost_answers")
+
+    def test_breaks(self) -> None:
+        self.files("test_breaks")
 
     def test_watchers(self) -> None:
         self.files("test_watch")
@@ -83,7 +86,13 @@ class Proxy(Files):
         self.files("test_proxy", "test_lost_resets")
 
     def test_lines_and_orders(self) -> None:
-        self.files("test_orders", "test_lost_answers", "test_peers")
+        self.files("test_orders", "test_order_of_lines", "test_peers")
+
+    def test_breaks(self) -> None:
+        self.files("test_lost_answers", "test_breaks", "test_silent_servers")
+
+    def test_watchers(self) -> None:
+        self.files("test_watch")
 
     def test_hostile_clients(self) -> None:
         self.files("test_hostile")

@@ -15,7 +15,7 @@ from collections.abc import Iterable, Sequence
 
 import crowd
 from coordinator import Server
-from running import Proxy, Tools, has_audit
+from running import Proxy, Tools, audit_words, has_audit
 from waves import CHORDS, NODES
 
 SHOW = b'{"op":"show"}\n'
@@ -88,7 +88,7 @@ def beside(tools: Tools, count: int, many: int) -> tuple[float, float, int, floa
     the median and the 99th percentile in milliseconds, how many were ended, and by how many KB the audit grew in a second."""
     with Server(tools.server, tools.library, NODES, CHORDS) as server:
         words = ["--certificates", f"{server.folder}/certificates.socket", "--stuck", "600", "--patience", "600", "--server-silent", "60"]
-        words += ["--audit", f"{server.folder}/audit"] if has_audit(tools.proxy) else []
+        words += audit_words(tools, server.folder)
         with Proxy(tools, server.address, server.folder, *NAMES, words=words) as proxy:
             handshakes = [connected(f"{server.folder}/certificates.socket") for _ in range(60)]
             for each in handshakes:

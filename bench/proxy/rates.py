@@ -5,13 +5,12 @@ from __future__ import annotations
 import asyncio
 import statistics
 import tempfile
-from collections.abc import Iterator
 from dataclasses import dataclass
 
 import peers
 import waves
 from coordinator import Links, Server
-from running import Answering, Driven, Proxy, Tools
+from running import Answering, Driven, Proxy, Tools, audit_words
 
 LOADS = {(1, 1): 6_000, (16, 1): 20_000, (64, 1): 40_000, (16, 16): 60_000, (64, 64): 100_000}  # connections, outstanding: orders
 COUNTS = {1: 2_000, 16: 16_000, 64: 32_000}  # connections: orders of a round
@@ -29,12 +28,14 @@ class Rates:
     port_median: float
 
 
-def costs(tools: Tools, part: int) -> Iterator[tuple[tuple[int, int], Driven]]:
+def cost(tools: Tools, load: tuple[int, int], part: int, is_audited: bool) -> Driven:
     """The processor time of the proxy for an order, by connections and orders outstanding at each. The server answers at once."""
-    for load, orders in LOADS.items():
-        with tempfile.TemporaryDirectory() as folder, Answering(tools, folder) as server, Proxy(tools, server.address, folder) as proxy:
+    orders = max(LOADS[load] // part, load[0] * load[1])
+    with tempfile.TemporaryDirectory() as folder, Answering(tools, folder) as server:
+        words = audit_words(tools, folder) if is_audited else []
+        with Proxy(tools, server.address, folder, words=words) as proxy:
             tools.drive("own", proxy.path(), 1, 1, 1, proxy.process.pid)  # the number of its client is found
-            yield load, tools.drive("numbered", proxy.path(), load[0], max(orders // part, load[0] * load[1]), load[1], proxy.process.pid)
+            return tools.drive("numbered", proxy.path(), load[0], orders, load[1], proxy.process.pid)
 
 
 def many(tools: Tools) -> Driven:
@@ -47,9 +48,10 @@ def many(tools: Tools) -> Driven:
 
 
 def through(tools: Tools, connections: int, orders: int) -> Driven:
-    with Server(tools.server, tools.library, waves.NODES, []) as server, Proxy(tools, server.address, server.folder) as proxy:
-        tools.drive("own", proxy.path(), 1, 1, 1, proxy.process.pid)
-        return tools.drive("own", proxy.path(), connections, orders, 1, proxy.process.pid)
+    with Server(tools.server, tools.library, waves.NODES, []) as server:
+        with Proxy(tools, server.address, server.folder, words=audit_words(tools, server.folder)) as proxy:
+            tools.drive("own", proxy.path(), 1, 1, 1, proxy.process.pid)
+            return tools.drive("own", proxy.path(), connections, orders, 1, proxy.process.pid)
 
 
 def at_port(tools: Tools, outstanding: int, orders: int) -> Driven:
@@ -81,6 +83,7 @@ def committed(tools: Tools, connections: int, rounds: int, part: int) -> Rates:
 def wave(tools: Tools, links: Links, micros: int, count: int) -> tuple[float, float]:
     """Milliseconds and syncs from a reset to the last of 64 confirms, each over a connection of its own."""
     with Server(tools.server, tools.library, waves.NODES, links, micros) as server:
-        with Proxy(tools, server.address, server.folder, words=["--signals", server.signals]) as proxy:
+        words = ["--signals", server.signals, *audit_words(tools, server.folder)]
+        with Proxy(tools, server.address, server.folder, words=words) as proxy:
             server.path = proxy.path()
             return asyncio.run(waves.measure(server, "front", links, count))

@@ -3,6 +3,7 @@
 from __future__ import annotations
 
 import contextlib
+import functools
 import os
 import pathlib
 import subprocess
@@ -99,6 +100,12 @@ class Proxy(Running):
         return 0
 
 
+def audit_words(tools: Tools, folder: str) -> list[str]:
+    """What has the proxy write an audit, as it does where it is installed."""
+    return ["--audit", f"{folder}/audit"] if has_audit(tools.proxy) else []
+
+
+@functools.cache
 def has_audit(proxy: str) -> bool:
     """Whether this build writes an audit: status 2 is that of unknown arguments."""
     words = ["serve", "--server", "127.0.0.1:1", "--policy", "/nowhere/policy", "--listen", "a=/nowhere/a", "--audit", "/dev/null"]

@@ -119,7 +119,7 @@ class Front:
         self.path, self.audit, self.errors = DOOR.path(folder), f"{folder}/audit", f"{folder}/front.errors"
         program = DOOR.command(folder, words, python)
         usual = {"--patience": "600", "--stuck": "600", "--server-silent": "600"}
-        self._words = [*before, *program, "--server", address,
+        self._words = [*before, *program, *DOOR.servers(address),
                        *(word for flag, value in usual.items() if flag not in words for word in (flag, value)), *words]
         self.process: subprocess.Popen[bytes] | None = None
         self.start()
@@ -174,8 +174,10 @@ class Front:
             self.process.wait()
 
     def reload(self) -> None:
+        """Has it read its files again; the proxy does so by itself."""
         assert self.process
-        self.process.send_signal(signal.SIGHUP)
+        if not PROXY:
+            self.process.send_signal(signal.SIGHUP)
 
     def connect(self) -> Client:
         return Client(unix(self.path))

@@ -28,6 +28,10 @@ class FrontDoor:
         return [python, f"{CLIENT}/resetd-front", "serve", "--socket", self.path(folder), "--state", f"{folder}/front",
                 "--audit", f"{folder}/audit"]
 
+    def servers(self, addresses: str) -> list[str]:
+        """The words for the addresses of a server, with commas between them."""
+        return ["--server", addresses]
+
     def path(self, folder: str, user: str = USER) -> str:
         """The socket of a user."""
         return f"{folder}/front.socket"
@@ -69,6 +73,9 @@ class ProxyDoor(FrontDoor):
         if self.has_audit() and "--audit" not in words:
             command += ["--audit", f"{folder}/audit"]
         return command
+
+    def servers(self, addresses: str) -> list[str]:
+        return [word for address in addresses.split(",") for word in ("--server", address)]
 
     def path(self, folder: str, user: str = USER) -> str:
         return f"{folder}/front.socket" if user == USER else f"{folder}/{user}.socket"

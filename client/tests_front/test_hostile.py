@@ -62,6 +62,25 @@ class Beside(Case):
             self.others_are_served()
         self.assertGreater(unread(client), 0)
 
+    def test_ones_that_do_not_read_take_little_memory(self) -> None:
+        """However many answers wait for them."""
+        self.others_are_served()
+        before = self.resident()
+        for _ in range(40):
+            client = self.client()
+            client.socket.setblocking(False)
+            with contextlib.suppress(BlockingIOError):
+                client.socket.send(SHOW * 10_000)
+        for _ in range(20):
+            self.others_are_served()
+        self.assertLess(self.resident() - before, 40 * 256)
+
+    def resident(self) -> int:
+        """The memory of the front, in KiB."""
+        assert self.front.process
+        with open(f"/proc/{self.front.process.pid}/status", encoding="ascii") as file:
+            return next(int(line.split()[1]) for line in file if line.startswith("VmRSS:"))
+
     def test_one_that_reads_late(self) -> None:
         """Nothing of its answers is lost, and no more is read of it than it may have in the works."""
         client = self.client()
@@ -239,21 +258,15 @@ class Limited(Case):
 
 @unittest.skipUnless(PROXY, "the front makes room, as the next class says")
 class NoMoreDescriptors(Limited):
-    """Nobody is ended for a newcomer, and the server is still reached."""
+    """Nobody is ended for a newcomer."""
 
     def test_more_connections_than_descriptors(self) -> None:
         """Those that wait for a place are served once others leave."""
         clients = [self.client() for _ in range(self.most + 30)]
-        served = clients[:self.most // 2]
-        for client in served:
-            self.assertIn("nodes", client.ask(op="show"))
-        self.server.kill()
-        self.server.start()
-        for client in served:
-            self.assertIn("nodes", client.ask(op="show"))
-        for client in served:
+        for client in clients[:self.most // 2]:
             client.close()
-        self.assertIn("nodes", clients[-1].ask(op="show"))
+        for client in clients[self.most // 2:]:
+            self.assertIn("nodes", client.ask(op="show"))
 
 
 @unittest.skipIf(PROXY, "the proxy ends nobody for a newcomer")

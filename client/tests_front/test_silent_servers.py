@@ -20,7 +20,7 @@ class Silent(Case):
     nodes = 2
     has_front = False
 
-    def front_before(self, *addresses: str, silent: float = 0.5) -> Front:
+    def front_before(self, *addresses: str, silent: float = 2.0) -> Front:
         front = Front(self.folder, ",".join(addresses), "--server-silent", str(silent))
         self.addCleanup(front.kill)
         return front
@@ -64,7 +64,7 @@ class Silent(Case):
         front.ask(op="show")
         assert self.server.process
         self.server.process.send_signal(signal.SIGSTOP)
-        threading.Timer(2.0, self.server.process.send_signal, [signal.SIGCONT]).start()
+        threading.Timer(4.0, self.server.process.send_signal, [signal.SIGCONT]).start()
         self.assertEqual(front.ask(op="reset", client=1, number=1, node=1)["kind"], "started")
 
     def test_one_that_answers_slowly_is_not_left(self) -> None:

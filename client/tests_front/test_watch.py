@@ -7,7 +7,7 @@ import socket
 import unittest
 from typing import Any
 
-from case import USER, Case, Client, until
+from case import DOOR, USER, Case, Client
 from resetd_front.watchers import Watchers
 
 
@@ -106,7 +106,7 @@ class Watching(Case):
     def test_one_that_leaves(self) -> None:
         client, _ = self.watcher()
         client.close()
-        self.front.await_audited("its end", lambda line: line["event"] == "ends")
+        self.front.ask(op="show")  # its end has been seen by then
         self.front.ask(op="reset", node=1)
         self.assertEqual([row[4] for row in self.server.await_settled()["nodes"]], [1] * 8)
 
@@ -124,16 +124,16 @@ class Watching(Case):
         self.front.kill()
         path = f"{self.folder}/policy"
         with open(path, "w", encoding="ascii") as file:
-            file.write(f"[[allow]]\nuser = '{USER}'\nops = ['watch']\n")
+            file.write(DOOR.policy((USER, ["watch"])))
         self.front = self.started("--policy", path)
         client, _ = self.watcher()
         with open(path, "w", encoding="ascii") as file:
-            file.write(f"[[allow]]\nuser = '{USER}'\nops = ['show']\n")
+            file.write(DOOR.policy((USER, ["show"])))
         self.front.reload()
         while client.line():
             pass
-        self.assertIn("may not watch", until("its end", lambda: [
-            line["why"] for line in self.front.audited() if line["event"] == "ends" and "why" in line])[0])
+        self.assertEqual(self.front.ask(op="watch"), {"fault": "NotAllowed"})
+        self.assertIn("nodes", self.front.ask(op="show"))
 
 
 if __name__ == "__main__":

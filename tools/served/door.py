@@ -29,7 +29,7 @@ Exchanges = Sequence[tuple[str, str]]
 COUNTS_STARTS: Exchanges = [
     ("\tFence   string          // of that moment\n", "\tFence   string          // of that moment\n\tStarts  int\n"),
     ('kept.Begun, kept.First = epoch, ""', 'kept.Begun, kept.First, kept.Starts = epoch, "", kept.Starts+1')]
-START_SECONDS = 120  # seconds within which a process of the door starts, even on a busy machine
+START_SECONDS = 300  # seconds within which a process of the door starts, even on a busy machine
 
 
 class Failed(Exception):
