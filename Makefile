@@ -126,12 +126,13 @@ ZSH_COMPLETIONS = $(DESTDIR)$(PREFIX)/share/zsh/vendor-completions
 install: $(PROGRAM) $(PROXY) $(if $(wildcard lib/libresetd_member.so),install-lib)
 	install -D -m 755 $(PROGRAM) $(DESTDIR)$(PREFIX)/bin/resetd
 	install -D -m 755 $(PROXY) $(DESTDIR)$(PREFIX)/bin/resetd-proxy
-	install -d $(SHARE)/client/resetd_client/control $(SHARE)/client/resetd_front $(SHARE)/tools/picture $(SHARE)/examples $(SHARE)/docs
-	install -m 755 client/resetctl client/resetd-front $(SHARE)/client/
+	install -d $(SHARE)/client/resetd_client/control $(SHARE)/client/resetd_front $(SHARE)/client/resetd_page $(SHARE)/tools/picture $(SHARE)/examples $(SHARE)/docs
+	install -m 755 client/resetctl client/resetd-front client/resetd-page $(SHARE)/client/
 	install -m 644 client/pyproject.toml client/build_wheel.py $(SHARE)/client/
 	install -m 644 client/resetd_client/*.py client/resetd_client/py.typed $(SHARE)/client/resetd_client/
 	install -m 644 client/resetd_client/control/*.py $(SHARE)/client/resetd_client/control/
-	install -m 644 client/resetd_front/*.py client/resetd_front/py.typed client/resetd_front/page.html $(SHARE)/client/resetd_front/
+	install -m 644 client/resetd_front/*.py client/resetd_front/py.typed $(SHARE)/client/resetd_front/
+	install -m 644 client/resetd_page/*.py client/resetd_page/py.typed client/resetd_page/page.html $(SHARE)/client/resetd_page/
 	install -m 755 tools/wave tools/container $(SHARE)/tools/
 	install -m 644 tools/picture/*.py $(SHARE)/tools/picture/
 	install -m 755 examples/ask examples/gateway examples/local_check examples/member examples/plain_member examples/run examples/service examples/talk examples/worker $(SHARE)/examples/
@@ -146,6 +147,7 @@ install: $(PROGRAM) $(PROXY) $(if $(wildcard lib/libresetd_member.so),install-li
 	for unit in resetd-member@.service resetd-front.service resetd-proxy.service; do sed 's|/usr/local/|$(PREFIX)/|' examples/$$unit > $(SHARE)/examples/$$unit; done
 	ln -sfn ../share/resetd/client/resetctl $(DESTDIR)$(PREFIX)/bin/resetctl
 	ln -sfn ../share/resetd/client/resetd-front $(DESTDIR)$(PREFIX)/bin/resetd-front
+	ln -sfn ../share/resetd/client/resetd-page $(DESTDIR)$(PREFIX)/bin/resetd-page
 	install -d $(BASH_COMPLETIONS) $(ZSH_COMPLETIONS)
 	client/resetctl completion bash > $(BASH_COMPLETIONS)/resetctl
 	client/resetctl completion zsh > $(ZSH_COMPLETIONS)/_resetctl
@@ -194,7 +196,7 @@ bin/resetd-proxy-trial:
 	@tools/program --trial resetd-proxy > /dev/null
 
 uninstall:
-	rm -f $(DESTDIR)$(PREFIX)/bin/resetd $(DESTDIR)$(PREFIX)/bin/resetd-proxy $(DESTDIR)$(PREFIX)/bin/resetctl $(DESTDIR)$(PREFIX)/bin/resetd-front
+	rm -f $(DESTDIR)$(PREFIX)/bin/resetd $(DESTDIR)$(PREFIX)/bin/resetd-proxy $(DESTDIR)$(PREFIX)/bin/resetctl $(DESTDIR)$(PREFIX)/bin/resetd-front $(DESTDIR)$(PREFIX)/bin/resetd-page
 	rm -f $(foreach page,resetd resetctl resetd-front resetd-proxy,$(DESTDIR)$(PREFIX)/share/man/man8/$(page).8)
 	rm -f $(BASH_COMPLETIONS)/resetctl $(ZSH_COMPLETIONS)/_resetctl
 	rm -f $(foreach file,lib/libresetd_member.a lib/libresetd_member.so lib/pkgconfig/resetd_member.pc include/resetd_member.h,$(DESTDIR)$(PREFIX)/$(file))

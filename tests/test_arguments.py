@@ -1,4 +1,4 @@
-"""Word lists that the program refuses: one line on standard error, status 2, and nothing touched."""
+"""Arguments that the program refuses: one line on standard error, status 2, and no file is touched."""
 
 import os
 

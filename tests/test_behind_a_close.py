@@ -1,4 +1,4 @@
-"""The input after a close: it is discarded, so that the client can read the answer, and delays no end."""
+"""The input after a close: it is discarded, so that the client can read the answer, and it does not delay the end."""
 
 import contextlib
 import socket
@@ -10,15 +10,15 @@ from support.case import Case
 from support.serving import Connection, Serving
 from support.stores import topology
 
-DISCARD = 1  # for how many seconds it is discarded
-LATE = 60  # seconds by which a busy machine may be late
+DISCARD = 1  # the number of seconds in which it is discarded
+LATE = 60  # the number of seconds by which a busy machine may be late
 
 
 class BehindAClose(Case):
     takes = 6
 
     def serving(self, name: str = "store") -> Serving:
-        """By a clock that stands still: all received input is discarded, however long the server takes for it."""
+        """Serves with a clock that stands still, so all received input is discarded, however long the server takes."""
         self.needs("a C compiler", preloaded.has_compiler())
         return Serving(self.made(topology([(1, 1)]), name), env=preloaded.environment(self.folder, STILL=1))
 
@@ -27,7 +27,7 @@ class BehindAClose(Case):
             with self.subTest(after=len(after)), self.serving(f"store{len(after)}") as server, \
                     server.connect() as connection:
                 connection.send(b'{"op":"close"}\n' + after)
-                # a connection that is torn off raises here
+                # a connection that was reset raises here
                 self.assertEqual(connection.rest(), [b'{"kind":"closed"}\n'])
                 connection.socket.close()
                 self.assertEqual((server.ended().status, server.ended().told), (0, ""))
@@ -46,7 +46,7 @@ class BehindAClose(Case):
         self.fail("the machine was too busy to send a line after a close in time")
 
     def expect_discarded(self, server: Serving, connection: Connection) -> None:
-        """Nothing more is said, and the connection is not torn off."""
+        """Checks that nothing more is sent, and the connection is not reset."""
         try:
             self.assertEqual(connection.rest(), [])
         except ConnectionError as torn:
@@ -55,7 +55,8 @@ class BehindAClose(Case):
         self.assertEqual(server.ended().status, 0)
 
     def test_a_client_is_told_that_no_more_comes(self) -> None:
-        """After the answer, and before its remaining input is discarded: so it need not wait for the end of that."""
+        """The server shuts down writing after the answer, before it discards the client's remaining input. So the client need
+        not wait for the end of that."""
         self.needs("a C compiler", preloaded.has_compiler())
         environment = preloaded.environment(self.folder, CALLS=self.path("calls"), WAITS=1)
         with Serving(self.made(topology([(1, 1)])), env=environment) as server, server.connect() as connection:
@@ -86,7 +87,7 @@ class BehindAClose(Case):
 
     @staticmethod
     def send_on(connection: Connection) -> None:
-        """A few bytes at a time, until nobody takes them."""
+        """Sends a few bytes at a time, until they are no longer accepted."""
         with contextlib.suppress(OSError):
             while True:
                 connection.socket.send(b"x")

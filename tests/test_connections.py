@@ -1,4 +1,4 @@
-"""Clients that come in great numbers, that leave too early, or half."""
+"""Clients that connect in great numbers, leave too early, or leave in the middle of a line."""
 
 import os
 import signal
@@ -10,13 +10,13 @@ from support.case import Case, until
 from support.serving import Serving
 from support.stores import ring, topology
 
-STORM = 15_000  # calls of one kind in turn, less than there may be
+STORM = 15_000  # consecutive calls of one kind, fewer than are allowed
 RESENT = {"count": 0, "kind": "resent"}
-GONE_AT_ONCE = b"\1\0\0\0\0\0\0\0"  # of SO_LINGER: a close resets the connection
+GONE_AT_ONCE = b"\1\0\0\0\0\0\0\0"  # for SO_LINGER: a close resets the connection
 
 
 def state_of(process: int) -> str:
-    """The letter of a process's state; T of one that is stopped."""
+    """Returns the letter of a process's state; T is a stopped process."""
     with open(f"/proc/{process}/stat", encoding="ascii") as file:
         return file.read().rsplit(")", 1)[1].split()[0]
 
@@ -32,13 +32,13 @@ class Connections(Case):
             descriptors = os.listdir(f"/proc/{server.process.pid}/fd")
             for number in range(1, 201):
                 self.assertEqual(server.order(number, "reset", node=1), {"kind": "finished", "step": number + 1})
-            # that of the last one may not be given back yet
+            # the descriptor of the last one may not be closed yet
             self.assertLessEqual(len(os.listdir(f"/proc/{server.process.pid}/fd")), len(descriptors) + 1)
             self.assertEqual(server.await_signals(200), [(1, epoch) for epoch in range(1, 201)])
             self.assertEqual(server.close().status, 0)
 
     def test_fifteen_hundred_that_say_nothing(self) -> None:
-        """Clients come and go. Any number may come."""
+        """Clients connect and leave. Their number is not limited."""
         with self.serving() as server:
             host, port = server.address.split(":")
             for _ in range(1_500):
@@ -47,7 +47,7 @@ class Connections(Case):
             self.assertEqual(server.close().status, 0)
 
     def test_an_answer_goes_out_at_once(self) -> None:
-        """The system is set up for that on each connection: otherwise it may wait for the client to read earlier bytes."""
+        """The system is configured for that on each connection: otherwise it may wait until the client has read earlier bytes."""
         self.needs("a C compiler", preloaded.has_compiler())
         environment = preloaded.environment(self.folder, CALLS=self.path("calls"), WAITS=1)
         with Serving(self.made(topology([(1, 1)])), env=environment) as server:
@@ -58,7 +58,8 @@ class Connections(Case):
         self.assertEqual(told, ["1"] * 3)
 
     def test_an_order_is_not_looked_behind(self) -> None:
-        """A read that found less than it asked for has taken all that was there. After any other it is looked for more."""
+        """A read that did not fill its buffer has taken everything that had arrived. Only after any other read does the server
+        check for more."""
         self.needs("a C compiler", preloaded.has_compiler())
         environment = preloaded.environment(self.folder, CALLS=self.path("calls"), WAITS=1)
         with Serving(self.made(topology([(1, 1)])), env=environment) as server:
@@ -74,11 +75,11 @@ class Connections(Case):
             self.assertEqual(server.close().status, 0)
 
     def looks(self) -> int:
-        """How often the program has looked whether more is there."""
+        """Returns how often the program has checked for more input."""
         return self.read("calls").decode().count("look ")
 
     def test_reads_and_writes_that_are_interrupted(self) -> None:
-        """As a stop of the process does. Also answers that go out byte by byte come whole, and once."""
+        """A stop of the process interrupts them. Even answers that are sent byte by byte arrive whole, and once."""
         self.needs("a C compiler", preloaded.has_compiler())
         environment = preloaded.environment(self.folder, INTERRUPTS=1, PIECE=1)
         with Serving(self.made(ring(64)), env=environment) as server, server.connect() as connection:
@@ -95,7 +96,7 @@ class Connections(Case):
         self.expect_served(SEND_STORM=STORM)
 
     def expect_served(self, **settings: int) -> None:
-        """By a clock that stands still: however long it takes, it is in time."""
+        """Checks with a clock that stands still: however long it takes, the client is served in time."""
         self.needs("a C compiler", preloaded.has_compiler())
         environment = preloaded.environment(self.folder, STILL=1, **settings)
         with Serving(self.made(topology([(1, 1)])), env=environment) as server:
@@ -103,7 +104,7 @@ class Connections(Case):
             self.assertEqual(server.close().status, 0)
 
     def test_a_server_that_is_stopped_and_goes_on(self) -> None:
-        """A wait for a line, and for the rest of one, goes on too."""
+        """A wait for a line continues, and so does a wait for the rest of a line."""
         with self.serving() as server, server.connect() as connection:
             for _ in range(10):
                 for part in (b'{"op":', b'"resend"}\n'):
@@ -116,7 +117,7 @@ class Connections(Case):
             self.assertEqual(server.close().status, 0)
 
     def test_two_hundred_at_once(self) -> None:
-        """Each has its answer, in whatever order they are served."""
+        """Each gets its answer, in whatever order they are served."""
         with self.serving() as server:
             answers, lock = [], threading.Lock()
 
@@ -135,7 +136,7 @@ class Connections(Case):
             self.assertEqual(server.close().status, 0)
 
     def test_clients_that_left_before_they_were_served(self) -> None:
-        """Some have sent a line, of which nobody can say whether it was carried out; the next one has its turn."""
+        """Some have sent a line that may or may not have been carried out. The next client is served."""
         with self.serving() as server:
             descriptors = os.listdir(f"/proc/{server.process.pid}/fd")
             with server.connect() as first:
@@ -151,7 +152,7 @@ class Connections(Case):
             self.assertEqual(server.close().status, 0)
 
     def test_a_client_that_says_it_sends_no_more(self) -> None:
-        """The client still has all its answers, and then the connection ends."""
+        """The client still gets all its answers, and then the connection ends."""
         with self.serving() as server, server.connect() as connection:
             connection.send({"op": "resend"}, {"op": "resend"}, b'{"op":"sh')
             connection.socket.shutdown(socket.SHUT_WR)
@@ -166,7 +167,7 @@ class Connections(Case):
                     self.assertEqual(connection.rest(), [])
 
     def test_an_order_of_a_client_that_left_is_kept(self) -> None:
-        """The order had no answer; sent again, it has the answer of its one step."""
+        """The order had no answer. Sent again, it gets the answer of its one step."""
         with Serving(self.made(ring(8))) as server:
             for number in range(1, 11):
                 with server.connect() as connection:
@@ -178,7 +179,7 @@ class Connections(Case):
             server.await_quiet()
 
     def test_many_lines_of_one_connection(self) -> None:
-        """A thousand that are sent before the first answer is read: the answers come in their order."""
+        """A thousand lines are sent before the first answer is read: the answers arrive in order."""
         with self.serving() as server, server.connect() as connection:
             sent = [{"op": "reset", "client": 1, "number": number, "node": 1} for number in range(1, 1_001)]
             sender = threading.Thread(target=connection.send, args=sent)
@@ -187,7 +188,7 @@ class Connections(Case):
             sender.join()
 
     def test_more_bytes_than_reads(self) -> None:
-        """The bound of 1,048,576 for a connection is one of reads, and a read takes more than a byte."""
+        """The limit of 1,048,576 for a connection counts reads, and a read takes more than one byte."""
         line = b'{"op":"resend"}'.ljust(511) + b"\n"
         with self.serving() as server, server.connect() as connection:
             for _ in range(33):
@@ -195,7 +196,7 @@ class Connections(Case):
                 self.assertEqual([connection.reply() for _ in range(64)], [RESENT] * 64)
 
     def test_a_second_connection_after_each_kind_of_end(self) -> None:
-        """After a line that is too long, one that is cut, and one that was reset."""
+        """The previous connection ended with a line that was too long, with a partial line, or by a reset."""
         with self.serving() as server:
             for last in (b"x" * 600 + b"\n", b"x" * 600, b'{"op":"resend"}', b"\xff\xff\n", b"\0" * 5_000):
                 with server.connect() as connection:

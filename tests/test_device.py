@@ -1,8 +1,8 @@
-"""What the device has at each moment: an answer and a signal go out only once their step is there for good.
+"""The content of the device at each moment: an answer and a signal are sent only once their step is durable.
 
-The test notes the calls of the program as it serves. From them it makes the files that a power cut may leave at each moment: all
-synced bytes, and any prefix of the later writes. Each such file must be a legal store with every step that was answered, or whose
-signal was printed, before that moment.
+The test records the calls of the program while it serves. From them it makes the files that a power cut may leave at each
+moment: all synced bytes, and any prefix of the later writes. Each such file must be a legal store with every step whose
+answer or signal was sent before that moment.
 """
 
 import os
@@ -23,7 +23,7 @@ BEGUN = re.compile(r"^node (\d+) 1 \w+ \d+ 1 ", re.MULTILINE)
 Order = dict[str, str | int]
 # A recorded call: its name, its file, its offset and its bytes.
 Call = tuple[str, int, int, bytes]
-# What `init` prints of a ring of three, and what `check` says of what a cut of it leaves.
+# What `init` prints for a ring of three nodes, and what `check` prints for a store that a cut of it leaves.
 WHOLE, LEGAL = Ended(0, "created 6\n", ""), Ended(0, "legal 6\n", "")
 CUT = [faulted(1, "NoMagic"), faulted(1, "BadRecord"), Ended(0, "legal 0\n", ""), LEGAL]
 RESET: Order = {"op": "reset", "node": 1}
@@ -33,7 +33,7 @@ EACH_KIND: list[Order] = [RESET, {"op": "add", "node": 2, "group": 1}, {"op": "j
 
 
 class Device:
-    """A file as the calls have it: the synced bytes, and the writes since."""
+    """A file as the calls have made it: the synced bytes, and the writes since."""
 
     def __init__(self, content: bytes) -> None:
         self.synced, self.since = bytearray(content), list[tuple[int, bytes]]()
@@ -47,7 +47,7 @@ class Device:
         self.since = []
 
     def images(self) -> list[bytes]:
-        """What a power cut may leave: of each write since the last sync nothing, a part or all, in every mixture."""
+        """Yields what a power cut may leave: of each write since the last sync nothing, a part or all, in every combination."""
         images = [bytes(self.synced)]
         for place, text in self.since:
             parts = {0, 1, len(text) // 2, len(text) - 1, len(text)}
@@ -68,7 +68,7 @@ def with_part(before: bytes, place: int, text: bytes) -> bytes:
 
 
 def calls_of(path: str) -> Iterator[Call]:
-    """The calls that were written down."""
+    """Returns the calls that were recorded."""
     with open(path, encoding="ascii") as file:
         for line in file:
             name, descriptor, place, text = line.rstrip("\n").split(" ")
@@ -83,7 +83,7 @@ class Moments(Case):
         self.needs("a C compiler", preloaded.has_compiler())
 
     def follow(self, before: bytes, calls: Iterable[Call]) -> Iterator[tuple[str, int, bytes, Device]]:
-        """After each call: the device, and what the call was."""
+        """Yields, after each call, the device and the call."""
         device, store = Device(before), None
         for name, descriptor, place, text in calls:
             if name == "write":
@@ -94,7 +94,7 @@ class Moments(Case):
             yield name, place, text, device
 
     def moments(self, before: bytes, calls: Iterable[Call]) -> Iterator[tuple[str, int, Device, int]]:
-        """After each call: the device, and the greatest step that was answered so far."""
+        """Yields, after each call, the device and the greatest step that was answered so far."""
         answered = 1
         for name, place, text, device in self.follow(before, calls):
             if name == "out":
@@ -103,13 +103,14 @@ class Moments(Case):
             yield name, place, device, answered
 
     def expect_kept(self, image: bytes, answered: int) -> None:
-        """A file that a power cut left has all that was answered."""
+        """Checks that a file that a power cut left has every answered step."""
         ended = ran("check", self.write("left", image))
         self.assertEqual((ended.status, ended.told), (0, ""), ended.printed)
         self.assertGreaterEqual(int(ended.printed.split()[1]), answered)
 
     def test_a_store_that_is_made(self) -> None:
-        """A cut of `init` leaves no store, one without a step, or the whole one; once it has printed its line, the whole one."""
+        """A cut of `init` leaves no store, a store without a step, or the whole store; once the line is printed, the whole
+        store."""
         path, calls = self.path("store"), self.path("calls")
         self.assertEqual(ran("init", path, self.write("topology", ring(3)),
                              env={**os.environ, **preloaded.environment(self.folder, CALLS=calls)}), WHOLE)
@@ -124,7 +125,7 @@ class Moments(Case):
         self.assertEqual(found, set(CUT))
 
     def serve(self, first: int, orders: Sequence[Order]) -> tuple[bytes, list[Call]]:
-        """Serves orders, from one number to another: the store before, and the calls."""
+        """Serves orders with these numbers. Returns the store before, and the calls."""
         store, calls = self.made(topology([(1, 1)], half=stores.HALF)), self.path("calls")
         self.order(store, orders[:first - 1])
         before = self.read("store")
@@ -132,7 +133,7 @@ class Moments(Case):
         return before, list(calls_of(calls))
 
     def order(self, store: str, orders: Sequence[Order], first: int = 1, env: Mapping[str, str] | None = None) -> None:
-        """One order at a time, so that each needs its own flight and as much of the journal."""
+        """Sends one order at a time, so that each needs its own flight and the same amount of the journal."""
         with Serving(store, env=env) as server:
             with server.connect() as connection:
                 for number, order in enumerate(orders, first):
@@ -166,13 +167,13 @@ class Moments(Case):
         self.assertEqual(printed, {"1", "2", "3", "4"})
 
     def test_moments_of_many_orders_and_checkpoints(self) -> None:
-        """All moments of two checkpoints, which move the journal to the other half and back, and some of the others."""
+        """Tries all moments of two checkpoints, which move the journal to the other half and back, and some of the others."""
         choice, selectors, near = random.Random(1), [], 0
         before, calls = self.serve(1_150, [RESET] * 2_450)
         last = 0
         for name, place, device, answered in self.moments(before, calls):
             if answered > last:
-                # an order goes out only once the one before it was answered, so nothing else is on its way to the device
+                # an order is sent only after the previous one was answered, so nothing else is on its way to the device
                 self.assertEqual((answered, device.since), (answered, []))
                 last = answered
             if name == "write" and place == 0:

@@ -1,4 +1,4 @@
-"""The drill over the program's own standard input: the worked runs, and runs that are longer than they."""
+"""The drill over the program's standard input: the worked runs, and longer runs."""
 
 import os
 import subprocess
@@ -7,7 +7,7 @@ from support.case import Case
 from support.program import TIMEOUT, PROGRAM, Ended, ran
 from support.runs import worked_runs
 
-# Lines without a request: an unknown word, too few or too many words, other spaces, no number or one out of range.
+# Lines that are no request: an unknown word, too few or too many words, wrong spaces, no number or one out of range.
 BAD_LINES = (
     "fly 1", "Add 1 1", "add", "add 1", "add 1 1 1", "add 1 1 ", " add 1 1", "add  1 1", "add 1 1\r", "add\t1 1",
     "add 0 1", "add 65 1", "add 1 0", "add 1 17", "add +1 1", "add -1 1", "add 1x 1", "add 1 \u00e9", "add 257 1",
@@ -24,7 +24,7 @@ def drill_text(text: str) -> Ended:
 
 
 class WorkedRuns(Case):
-    """Each run of the folder drill: its input and its output."""
+    """Tries each run in the folder `drill`: its input and its output."""
 
     def test_each_is_printed(self) -> None:
         runs = worked_runs()
@@ -34,7 +34,7 @@ class WorkedRuns(Case):
                 self.assertEqual(ran("drill", given=given), Ended(0, wanted.decode(), ""))
 
     def test_input_in_pieces(self) -> None:
-        """An answer comes before the end of the input: each line is answered as it is read."""
+        """Each line is answered as it is read, before the end of the input."""
         for name, given, wanted in worked_runs().values():
             with self.subTest(run=name):
                 drill = subprocess.Popen([PROGRAM, "drill"], stdin=subprocess.PIPE, stdout=subprocess.PIPE)
@@ -61,7 +61,7 @@ class WorkedRuns(Case):
 
 class LongRuns(Case):
     def test_a_crash_after_many_steps(self) -> None:
-        """Every step that was settled is there again, far beyond a thousand."""
+        """Every settled step is there again, far beyond a thousand."""
         for count in (1_002, 3_000):
             text = "add 1 1\n" + "reset 1\n" * (count - 1) + "crash\n" + "reset 1\ncheck\nshow\n"
             wanted = "done 1\n" + "".join(f"finished {step}\nsignal 1 {step - 1}\n" for step in range(2, count + 1))
@@ -88,7 +88,7 @@ class LongRuns(Case):
         self.assertEqual(drill_text(text), Ended(0, wanted, ""))
 
     def test_packets_of_a_second_link(self) -> None:
-        """Both its lanes have the number of the step that joined it."""
+        """The incarnation of both its lanes is the number of the step that joined the link."""
         text = "add 1 1\nadd 2 1\nadd 3 1\njoin 1 2\njoin 2 3\nreset 2\n"
         wanted = "".join(f"done {step}\n" for step in range(1, 6)) + "started 6\ndata 2 1 1 abort\ndata 2 3 1 abort\n"
         text += "data 2 3 4 1 abort\ndata 2 3 5 1 abort\ndata 3 2 4 1 ack\ndata 3 2 5 1 ack\n"
@@ -99,7 +99,7 @@ class LongRuns(Case):
         self.assertEqual(drill_text("add 1 1\nadd 2 1"), Ended(0, "done 1\ndone 2\n", ""))
 
     def test_lines_that_are_bad(self) -> None:
-        """Lines are counted from 1, skipped ones too."""
+        """Lines are counted from 1, including skipped ones."""
         bad = ["add 1", "add  1 1", " add 1 1", "add 1 1 ", "add 1 1\r", "fly", "add 65 1", "#" * 513]
         text = "".join(f"{line}\n" for line in ["# a comment", "", *bad]) + "#" * 512
         self.assertEqual(drill_text(text), Ended(0, "".join(f"bad line {line}\n" for line in range(3, 11)), ""))
@@ -107,7 +107,7 @@ class LongRuns(Case):
         self.assertEqual(ran("drill", given=b"\xff\n#\xff\n\n\xff"), Ended(0, "bad line 1\nbad line 4\n", ""))
 
     def test_the_limit_of_a_line(self) -> None:
-        """A line of at most 512 bytes is read, and a longer one is bad, be it a comment or not."""
+        """A line of at most 512 bytes is read. A longer one is bad, even if it is a comment."""
         lines = ["#".ljust(length, "a") for length in (512, 513, 1_500)]
         lines += ["add " + "0" * (length - 7) + "1 1" for length in (512, 513)]
         self.assertEqual([len(line) for line in lines], [512, 513, 1_500, 512, 513])
@@ -115,11 +115,11 @@ class LongRuns(Case):
         self.assertEqual(drill_text(text), Ended(0, "bad line 2\nbad line 3\ndone 1\nbad line 5\n", ""))
 
     def test_more_bytes_than_reads(self) -> None:
-        """The bound of 1,048,576 is one of reads, and a read asks for 512 bytes."""
+        """The limit of 1,048,576 counts reads, and a read asks for 512 bytes."""
         self.assertEqual(drill_text(("#".ljust(511, "a") + "\n") * 2_400 + "add 1 1\n"), Ended(0, "done 1\n", ""))
 
     def test_the_most_links(self) -> None:
-        """A ring with chords: each of 64 nodes is linked to the next and the next but one."""
+        """In a ring with chords, each of 64 nodes is linked to the next and the next but one."""
         pairs = [(node, (node + step) % 64 + 1) for node in range(1, 65) for step in (0, 1)]
         text = "".join(f"add {node} 1\n" for node in range(1, 65)) + "".join(f"join {a} {b}\n" for a, b in pairs) + "join 1 4\n"
         wanted = "".join(f"done {step}\n" for step in range(1, 193)) + "no 14 LinksFull\n"
@@ -133,7 +133,7 @@ class LongRuns(Case):
         self.assertEqual(drill_text(text), Ended(0, wanted, ""))
 
     def test_as_many_are_held_again(self) -> None:
-        """At most 1,024 steps are held, and as many again once these are settled."""
+        """At most 1,024 steps are held; once these are settled, the same number again."""
         text = "add 1 1\nhold\n" + "reset 1\n" * 1_025 + "flush\n" * 4 + "reset 1\n" * 1_024
         wanted = "done 1\n" + "".join(f"pending {step}\n" for step in range(2, 1_026)) + "no 20 PendingFull\n"
         for last in (257, 513, 769, 1_025):
@@ -143,13 +143,13 @@ class LongRuns(Case):
         self.assertEqual(drill_text(text), Ended(0, wanted, ""))
 
     def test_each_line_that_is_bad(self) -> None:
-        """Alone, and with no line feed after it."""
+        """Each bad line is tried alone, without a line feed after it."""
         for line in BAD_LINES:
             with self.subTest(line=line):
                 self.assertEqual(drill_text(line), Ended(0, "bad line 1\n", ""))
 
     def test_no_input(self) -> None:
-        """Standard input that is closed can't be read."""
+        """If standard input is closed, it can't be read."""
         done = subprocess.run(["sh", "-c", 'exec "$0" drill <&-', PROGRAM], capture_output=True, timeout=TIMEOUT)
         self.assertEqual(Ended(done.returncode, done.stdout.decode(), done.stderr.decode()), Ended(3, "", "resetd: Read\n"))
 

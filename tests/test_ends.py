@@ -1,4 +1,4 @@
-"""How a server ends by what others do: signals, a second server on its file or at its address."""
+"""How a server ends through others: by signals, by a second server on its file or at its address."""
 
 import contextlib
 import json
@@ -22,7 +22,7 @@ class Ends(Case):
     takes = 5
 
     def test_a_signal_ends_it_as_a_crash_does(self) -> None:
-        """Also during a reset: the next start continues it, and no node is signalled twice."""
+        """This is also so during a reset: the next start continues it, and no node is signalled twice."""
         store = self.made(ring(8))
         for number, each in enumerate((signal.SIGTERM, signal.SIGKILL, signal.SIGTERM, signal.SIGINT), 1):
             with Serving(store) as server:
@@ -38,7 +38,7 @@ class Ends(Case):
                 self.assertEqual(server.close().status, 0)
 
     def test_two_servers_on_one_file(self) -> None:
-        """The second one says Device, whatever name of the file it is given, and the first one goes on."""
+        """The second server reports Device, whatever name of the file it is given, and the first one continues."""
         store, others = self.made(topology([(1, 1)])), [self.path("link"), self.path("hard")]
         os.symlink(store, others[0])
         os.link(store, others[1])
@@ -48,7 +48,7 @@ class Ends(Case):
                     for words in (["serve", name, "127.0.0.1:0"], ["migrate", name], ["init", name, f"{store}.toml"]):
                         self.assertEqual(ran(*words), SERVED_ALREADY)
                 self.assertEqual(server.order(number, "reset", node=1), {"kind": "finished", "step": 1 + number})
-                # these take no lock
+                # these commands take no lock
                 self.assertEqual(ran("check", store), Ended(0, f"legal {1 + number}\n", ""))
                 self.assertEqual(ran("show", store).status, 0)
             self.assertEqual(server.close().status, 0)
@@ -56,13 +56,13 @@ class Ends(Case):
             self.assertEqual(server.order(3, "reset", node=1), {"kind": "finished", "step": 4})
 
     def test_two_servers_at_one_address(self) -> None:
-        """The second one says Socket, and has written nothing."""
+        """The second server reports Socket, and has written nothing."""
         with Serving(self.made(topology([(1, 1)]))) as server:
             other = self.made(topology([(2, 2)]), "other")
             before = self.read("other")
             self.assertEqual(ran("serve", other, server.address), faulted(3, "Socket"))
             self.assertEqual(self.read("other"), before)
-            # FILE is judged before the socket
+            # FILE is checked before the socket
             self.assertEqual(ran("serve", self.write("no", "no store at all, no"), server.address), faulted(1, "NoMagic"))
             self.assertEqual(server.close().status, 0)
 
@@ -84,7 +84,7 @@ class Ends(Case):
                 self.assertEqual(server.close().status, 0)
 
     def test_an_address_of_several(self) -> None:
-        """The server listens at the address that is named, says so, and is at no other."""
+        """The server listens only at the address that is named, and prints it."""
         store = self.made(topology([(1, 1)]))
         with Serving(store, address="127.255.255.254:0") as server:
             self.assertEqual(server.address.split(":")[0], "127.255.255.254")
@@ -98,7 +98,7 @@ class Ends(Case):
             self.assertEqual(server.close().status, 0)
 
     def test_a_limit_on_the_size_of_files(self) -> None:
-        """The signal of the system ends it without a line, and nothing that was answered is lost."""
+        """The system's signal ends it without a line, and nothing that was answered is lost."""
         store = self.made(topology([(1, 1)], half=stores.HALF))
         limit = ["prlimit", "--core=0", f"--fsize={os.path.getsize(store) + 300}"]
         with Serving(store, before=limit) as server, server.connect() as connection:
@@ -117,7 +117,8 @@ class Ends(Case):
             self.assertEqual(server.close().status, 0)
 
     def test_a_device_that_fails(self) -> None:
-        """A limit on the size of the file: each later order and `show` is Stopped, and the close ends with Device."""
+        """The size of the file is limited: each later order and `show` is answered Stopped, and a close ends the server with
+        Device."""
         store = self.made(topology([(1, 1)], half=stores.HALF))
         most = os.path.getsize(store) + 300
         limit = ["sh", "-c", f'trap "" XFSZ; exec prlimit --fsize={most} "$@"', "sh"]

@@ -1,4 +1,4 @@
-"""Resets through many epochs: every signal once and in order, far beyond the first ones."""
+"""Resets through many epochs: every signal is printed once and in order, far beyond the first ones."""
 
 import os
 import resource
@@ -10,14 +10,14 @@ from support.serving import Serving
 from support.stores import ring, topology
 
 
-CLOSING = 60  # processor seconds within which an instance of this many steps is closed: some 1, and 500 if each is searched one by one
+CLOSING = 60  # processor seconds within which an instance with this many steps is closed: about 1, but 500 if each step is searched for
 
 
 class Epochs(Served):
     takes = 20
 
     def test_a_ring_of_8_through_20_epochs(self) -> None:
-        """One wave after the other, each begun at another node."""
+        """One wave follows another, each begun at another node."""
         with Serving(self.made(ring(8))) as server:
             for epoch in range(1, 21):
                 reply = server.order(epoch, "reset", node=(epoch * 3) % 8 + 1)
@@ -30,7 +30,7 @@ class Epochs(Served):
             self.expect_closed(server, 8 * 20)
 
     def test_the_links_of_high_nodes(self) -> None:
-        """A ring of 64, so every node has a worker that carries its packets."""
+        """In a ring of 64, every node has a worker that carries its packets."""
         with Serving(self.made(ring(64))) as server:
             for epoch in range(1, 5):
                 self.assertEqual(server.order(epoch, "reset", node=65 - epoch * 16)["kind"], STARTED)
@@ -39,7 +39,7 @@ class Epochs(Served):
             self.expect_closed(server, 64 * 4)
 
     def test_the_longest_way(self) -> None:
-        """64 nodes in a row: the last one is 63 links away from the first."""
+        """In a row of 64 nodes, the last one is 63 links away from the first."""
         row = topology([(node, 1) for node in range(1, 65)], [(node, node + 1) for node in range(1, 64)])
         with Serving(self.made(row)) as server:
             for epoch, node in enumerate((1, 64), 1):
@@ -49,7 +49,7 @@ class Epochs(Served):
             self.expect_closed(server, 64 * 2)
 
     def test_signals_come_in_the_order_of_their_steps(self) -> None:
-        """Those of one flight too, whichever nodes they are of."""
+        """The signals of one flight are in that order too, whichever nodes they belong to."""
         nodes = [7, 64, 1, 8, 9, 33, 2, 63]
         with Serving(self.made(topology([(node, 1) for node in nodes]))) as server, server.connect() as connection:
             numbers = range(1, 1_001)
@@ -64,7 +64,7 @@ class Epochs(Served):
             self.expect_closed(server, 1_000)
 
     def test_several_that_ask_at_once(self) -> None:
-        """Those that begin or join one wave: as many signals of each node as its epoch says."""
+        """Several members begin or join one wave: each node has as many signals as its epoch says."""
         with Serving(self.made(ring(16))) as server:
             for number in range(1, 11):
                 for client in range(1, 9):
@@ -91,7 +91,7 @@ class ManySignals(Served):
         self.assertEqual(ran("show", server.store).printed, "view 1001 1001\nnode 64 16 ready 0 1000 0\n")
 
     def test_seven_hundred_waves_over_one_link(self) -> None:
-        """Packets far beyond the first ones of a link: each wave takes two of one lane and one of the other."""
+        """The packets are far beyond the first ones of a link: each wave takes two of one lane and one of the other."""
         waves = 700
         with Serving(self.made(topology([(1, 1), (2, 1)], [(1, 2)], stores.HALF))) as server, server.connect() as connection:
             for epoch in range(1, waves + 1):
@@ -109,7 +109,7 @@ class ManySteps(Served):
     most = 3_600
 
     def test_a_hundred_thousand_steps_in_one_instance(self) -> None:
-        """Waves over as many links as there may be, asked for by all clients at once."""
+        """All clients ask at once for waves over the maximum number of links."""
         links = [(node, (node + far - 1) % 64 + 1) for far in (1, 9) for node in range(1, 65)]
         store = self.made(topology([(node, 1) for node in range(1, 65)], links, 1_048_576))
         with Serving(store) as server:
@@ -134,13 +134,13 @@ class ManySteps(Served):
 
     @staticmethod
     def spent(process: int) -> float:
-        """The processor seconds of a process that runs, the system's for it among them."""
+        """Returns the processor seconds of a running process, including those of the system for it."""
         with open(f"/proc/{process}/stat", encoding="ascii") as stat:
             ticks = stat.read().rpartition(")")[2].split()[11:13]
         return sum(map(int, ticks)) / os.sysconf("SC_CLK_TCK")
 
     @staticmethod
     def spent_by_ended() -> float:
-        """Those of all processes that this one has started and that have ended."""
+        """Returns the processor seconds of all child processes that have ended."""
         spent = resource.getrusage(resource.RUSAGE_CHILDREN)
         return spent.ru_utime + spent.ru_stime

@@ -1,10 +1,10 @@
-"""The search of resources that a fence does not protect (tools/search_fence): nothing is wrong, and each part is needed."""
+"""The search for resources that a fence does not protect (tools/search_fence): it finds nothing, and each part is needed."""
 
 import subprocess
 
 from support.case import Case, tool
 
-# The searches that find nothing: their members and depths.
+# The searches that find nothing: their numbers of members and depths.
 ABOUT = (("links", 3, 99), ("joins", 3, 99), ("split", 3, 5), ("resets", 3, 6), ("readd", 3, 4), ("lose", 3, 4), ("restore", 3, 5),
          ("again", 2, 7), ("sides", 2, 7), ("sides", 3, 4))
 # The violation without each part, and the search that finds it first.
@@ -17,7 +17,7 @@ class Searches(Case):
     takes = 60
 
     def said(self, *words: str) -> tuple[int, list[str]]:
-        """The status of a search, and its lines."""
+        """Returns the status of a search, and its lines."""
         done = subprocess.run([tool("search_fence"), "--seconds", "500", *words], capture_output=True, text=True, check=False)
         self.assertEqual(done.stderr, "")
         return done.returncode, done.stdout.splitlines()

@@ -1,4 +1,4 @@
-"""The file of a store: who may open it, what of it is synced before an answer, and calls of it that fail or do a part."""
+"""The file of a store: who may open it, what is synced before an answer, and calls that fail or do only a part."""
 
 import contextlib
 import errno
@@ -19,15 +19,15 @@ COMMANDS = ["init", "check", "show", "migrate", "serve"]
 FAILED = faulted(3, "Device")
 STOPPED = {"name": "Stopped", "refused": 1}
 ORDERS = 4
-# What the system may say of a call that fails.
+# The errors with which the system may fail a call.
 ERRORS = [errno.EIO, errno.ENOSPC, errno.EDQUOT, errno.EINVAL, errno.EROFS, errno.EOPNOTSUPP, errno.ENOMEM, errno.EAGAIN]
-# The syncs of a start: of the folder and the file; and of an order: of its batch, and of the byte that lets it be read.
+# The syncs of a start (of the folder and the file), and of an order (of its batch, and of the byte that makes it readable).
 AT_A_START, AT_AN_ORDER = 2, 2
 
 
 class Made(Case):
     def test_its_owner_alone_may_open_it(self) -> None:
-        """Whichever command makes it, and whatever the user lets others do."""
+        """This is so whichever command creates the file, and whatever the umask permits."""
         words: dict[str, list[str]] = {
             "init": [self.write("topology", ONE)], "check": [], "show": [], "migrate": [], "serve": ["127.0.0.1:0"]}
         for command, more in words.items():
@@ -49,8 +49,8 @@ class Made(Case):
 
 
 class ReadOnly(Case):
-    """What a user may do who may read a file, or a folder, and not write it. Root is such a user without its leave to pass
-    over the modes."""
+    """What a user can do who may read a file or a folder but not write it. Root without its privilege to override the modes is
+    such a user."""
 
     words = ["setpriv", "--bounding-set=-dac_override,-dac_read_search"] if os.geteuid() == 0 else []
 
@@ -59,7 +59,7 @@ class ReadOnly(Case):
         return Ended(done.returncode, done.stdout.decode(), done.stderr.decode())
 
     def test_a_store(self) -> None:
-        """The store is checked and shown, but not served or migrated."""
+        """The store can be checked and shown, but not served or migrated."""
         path = self.made(ONE)
         before = self.read("store")
         os.chmod(path, 0o400)
@@ -70,7 +70,7 @@ class ReadOnly(Case):
         self.assertEqual(self.read("store"), before)
 
     def test_a_folder(self) -> None:
-        """An existing store is served. None is made there, and no other file."""
+        """An existing store is served. No store is created there, and no other file."""
         topology_path, folder = self.write("topology", ONE), self.path("folder")
         os.mkdir(folder)
         self.assertEqual(ran("init", f"{folder}/store", topology_path).status, 0)
@@ -83,7 +83,7 @@ class ReadOnly(Case):
         self.assertEqual(os.listdir(folder), ["store"])
 
     def test_a_folder_that_is_not_read(self) -> None:
-        """Its entries can't be synced: so no existing file is written to."""
+        """The folder's entries can't be synced, so an existing file is not written."""
         topology_path, folder = self.write("topology", ONE), self.path("folder")
         os.mkdir(folder)
         self.assertEqual(ran("init", f"{folder}/store", topology_path).status, 0)
@@ -104,7 +104,7 @@ class ReadOnly(Case):
 
 class Looked(Case):
     def test_who_reads_a_store_locks_nobody_out(self) -> None:
-        """`check` and `show` take no lock, not even for the moment in which they read."""
+        """`check` and `show` take no lock, not even while they read."""
         self.needs("a C compiler", preloaded.has_compiler())
         store = self.made(ONE)
         for command in ("check", "show"):
@@ -115,14 +115,14 @@ class Looked(Case):
             until("a look", lambda: store in self.open_files(reader.pid))
             with open(store, "rb") as file:
                 for _ in range(20):
-                    fcntl.flock(file, fcntl.LOCK_EX | fcntl.LOCK_NB)  # which fails where somebody has it
+                    fcntl.flock(file, fcntl.LOCK_EX | fcntl.LOCK_NB)  # which fails if another process holds it
                     fcntl.flock(file, fcntl.LOCK_UN)
                     time.sleep(0.02)
             self.assertIn(store, self.open_files(reader.pid))
 
     @staticmethod
     def open_files(process: int) -> set[str]:
-        """The files that a process has open."""
+        """Returns the files that the process has open."""
         names = set()
         for number in os.listdir(f"/proc/{process}/fd"):
             with contextlib.suppress(OSError):
@@ -141,7 +141,8 @@ class Called(Case):
         return {**os.environ, **preloaded.environment(self.folder, **settings)}
 
     def synced_at_first(self) -> tuple[set[str], bool]:
-        """The files that were synced before any output, by their paths; and whether something was written that was not synced."""
+        """Returns the paths of the files that were synced before any output, and whether something was written that was not
+        synced."""
         synced, is_written = [], False
         with open(self.path("calls"), encoding="ascii") as calls:
             for name, _, _, text in (line.rstrip("\n").split(" ") for line in calls):
@@ -153,7 +154,7 @@ class Called(Case):
         return set(synced), is_written
 
     def test_a_file_and_its_entry_are_synced(self) -> None:
-        """Before anything is said of it. The entry is synced though the file was there: its maker may have left it so."""
+        """Both are synced before any output. The entry is synced even if the file existed: its creator may not have synced it."""
         folder, topology_path, log = self.path("folder"), self.write("topology", ONE), self.path("calls")
         os.mkdir(folder)
         store = f"{folder}/store"
@@ -168,7 +169,7 @@ class Called(Case):
         self.assertEqual(self.synced_at_first(), ({folder, store}, False))
 
     def test_a_sync_that_fails_where_a_store_is_made(self) -> None:
-        """Device is reported, whichever it is."""
+        """Device is reported for each sync."""
         words = ["init", self.path("store"), self.write("topology", ONE)]
         log = self.path("calls")
         self.assertEqual(ran(*words, env=self.environment(CALLS=log)), Ended(0, "created 1\n", ""))
@@ -184,7 +185,7 @@ class Called(Case):
             self.expect_refused(COMMANDS, LENGTH_FAILS=number)
 
     def test_a_lock_that_can_not_be_had(self) -> None:
-        """Whatever the reason is."""
+        """Device is reported whatever the reason is."""
         self.expect_refused(["init", "migrate", "serve"], LOCK_FAILS=1)
 
     def test_a_first_sync_that_fails(self) -> None:
@@ -194,11 +195,11 @@ class Called(Case):
         self.expect_refused(COMMANDS[1:], READ_FAILS=1)
 
     def test_a_file_that_ends_too_soon(self) -> None:
-        """The file is cut while it is read."""
+        """The file is truncated while it is read."""
         self.expect_refused(COMMANDS[1:], [errno.EIO], READ_ENDS=1)
 
     def test_a_write_that_is_interrupted(self) -> None:
-        """The call is made again, and nobody hears of it."""
+        """The call is repeated, and nothing is reported."""
         for number in (1, 2, 3):
             words = ["init", self.path(f"store{number}"), self.write("topology", ONE)]
             environment = self.environment(ERROR=errno.EINTR, WRITE_FAILS=number)
@@ -210,7 +211,7 @@ class Called(Case):
         self.assertEqual(ran("check", self.made(ONE), env=environment), Ended(0, "legal 1\n", ""))
 
     def expect_refused(self, commands: list[str], errors: list[int] = ERRORS, **call: int) -> None:
-        """If this call fails alone, with any error, the commands report Device, and leave the store unchanged."""
+        """Checks that, if only this call fails, with any error, the commands report Device and leave the store unchanged."""
         more = {"init": [self.write("topology", ONE)], "serve": ["127.0.0.1:0"]}
         content = stores.store(bodies=[stores.batch(1, stores.add(1))])
         for command in commands:
@@ -220,7 +221,7 @@ class Called(Case):
                 self.assertEqual((where, ended, self.read("store")), (where, FAILED, content))
 
     def test_a_write_that_fails_where_a_store_is_made(self) -> None:
-        """Nothing more is asked of the device after it."""
+        """The device is not called again after it."""
         words = ["init", self.path("store"), self.write("topology", ONE)]
         ended, made = self.called(words, WRITE_FAILS=4)
         self.assertEqual(ended, Ended(0, "created 1\n", ""))
@@ -233,7 +234,7 @@ class Called(Case):
                 self.assertTrue(made[len(called)].startswith("write"))
 
     def called(self, words: list[str], **settings: int) -> tuple[Ended, list[str]]:
-        """How the program ended, and which writes and syncs there were."""
+        """Returns how the program ended, and the writes and syncs that it made."""
         calls = self.write("calls", "")
         ended = ran(*words, env=self.environment(CALLS=calls, **settings))
         with open(calls, encoding="ascii") as lines:
@@ -250,7 +251,8 @@ class Called(Case):
                     self.assertEqual((ran("check", path), stores.version_of(path)), (Ended(0, "legal 1\n", ""), 1))
 
     def test_a_write_that_fails_while_orders_are_served(self) -> None:
-        """Alone, with each error: the order is Stopped, and each later one, and the close ends with Device."""
+        """A single failure, with each error: the order and each later one is answered Stopped, and a close ends the server with
+        Device."""
         store = self.made(ONE)
         before = self.read("store")
         for number, error in enumerate(ERRORS, 1):
@@ -258,7 +260,7 @@ class Called(Case):
             environment = self.environment(WRITE_FAILS=number, ERROR=error)
             with self.subTest(write=number, error=errno.errorcode[error]), Serving(store, env=environment) as server:
                 answers = [server.order(each, "reset", node=1) for each in range(1, len(ERRORS) // 2 + 2)]
-                done = (number - 1) // 2  # an order has two writes
+                done = (number - 1) // 2  # an order needs two writes
                 kept = [{"kind": "finished", "step": 1 + each} for each in range(1, done + 1)]
                 self.assertEqual(answers, kept + [STOPPED] * (len(answers) - done))
                 ended = server.close()
@@ -266,7 +268,7 @@ class Called(Case):
             self.assertGreaterEqual(int(ran("check", store).printed.split()[1]), 1 + done)
 
     def test_a_sync_that_fails_while_a_store_is_raised(self) -> None:
-        """One that fails alone: it is reported, and the store is of one version or the other."""
+        """A single failure is reported, and the store has one version or the other."""
         content, log = stores.store(bodies=[stores.batch(1, stores.add(1))]), self.path("calls")
         path = self.write("store", content)
         self.assertEqual(ran("migrate", path, env=self.environment(CALLS=log)), Ended(0, "migrated 1\n", ""))
@@ -277,7 +279,7 @@ class Called(Case):
                 self.assertEqual(ran("check", path), Ended(0, "legal 1\n", ""))
 
     def test_a_sync_that_fails_while_orders_are_served(self) -> None:
-        """The order that waited for it, and each later one, is Stopped, though no other sync fails."""
+        """The order that waited for the sync and each later one is answered Stopped, although no other sync fails."""
         for number in range(AT_A_START + 1, AT_A_START + 1 + AT_AN_ORDER * ORDERS):
             store = self.made(ONE, f"store{number}")
             done = (number - AT_A_START - 1) // AT_AN_ORDER
@@ -296,7 +298,7 @@ class Called(Case):
             self.assertEqual(ran("serve", store, "127.0.0.1:0", env=self.environment(SYNC_FAILS=number)), FAILED)
 
     def test_read_and_written_in_pieces(self) -> None:
-        """The system may do only a part of a call, for a file, the output or a connection."""
+        """The system may do only a part of each call, for a file, the output or a connection."""
         pieces = self.environment(PIECE=5)
         topology_path = self.write("topology", stores.ring(8, stores.HALF))
         whole, parts = self.path("whole"), self.path("parts")

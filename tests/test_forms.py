@@ -1,4 +1,4 @@
-"""The two rules of form of tools/forms: what each refuses, and what it accepts."""
+"""The two rules of tools/forms: what each refuses, and what it accepts."""
 
 import importlib.machinery
 import importlib.util
@@ -27,7 +27,7 @@ class Forms(Case):
     programs = ()
 
     def found(self, code: str) -> list[str]:
-        """The rules that a function with this code breaks."""
+        """Returns the rules that a function with this code violates."""
         return [rule for rule, function, _ in forms.places(BODY.format(code=code)) if function == "added"]
 
     def test_the_sources_keep_both_rules(self) -> None:

@@ -1,4 +1,4 @@
-"""The tests of client/tests_front, each file as it is run by hand."""
+"""The tests of client/tests_front. Each file runs as it does by hand."""
 
 import os
 import sys
@@ -12,7 +12,7 @@ FOLDER = f"{ROOT}/client/tests_front"
 
 class Files(Run):
     takes = 15
-    environment = {"RESETD_PROXY": ""}  # or the files would try it in the place of the front
+    environment = {"RESETD_PROXY": ""}  # otherwise the files would try this variable's program in place of the front
 
     def files(self, *names: str) -> None:
         for name in names:
@@ -47,6 +47,9 @@ class Front(Files):
     def test_the_page(self) -> None:
         self.files("test_page")
 
+    def test_the_page_as_a_program(self) -> None:
+        self.files("test_page_program")
+
     def test_silent_servers(self) -> None:
         self.files("test_silent_servers")
 
@@ -62,7 +65,7 @@ class Front(Files):
 
 
 class BeforeMembers(Files):
-    """The same, before members of which one is linked with the members' library."""
+    """`resetd-front` before members, one of which is linked with the members' library."""
 
     programs = ("RESETD", "RESETD_MEMBER")
 
@@ -85,5 +88,27 @@ class Proxy(Files):
     def test_haproxy(self) -> None:
         self.files("test_haproxy")
 
+    def test_lines_and_orders(self) -> None:
+        self.files("test_orders", "test_lost_answers", "test_peers")
 
-del Files, Run  # or their tests would be found here once more
+    def test_hostile_clients(self) -> None:
+        self.files("test_hostile")
+
+    def test_kills(self) -> None:
+        self.files("test_kills")
+
+    def test_torture(self) -> None:
+        self.files("test_torture")
+
+
+class MembersAtProxy(Files):
+    """Members of every language at the proxy."""
+
+    programs = ("RESETD", "RESETD_PROXY", "RESETD_MEMBER")
+    environment: dict[str, str] = {}
+
+    def test_members(self) -> None:
+        self.files("test_interop")
+
+
+del Files, Run  # otherwise their tests would run here a second time

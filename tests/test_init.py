@@ -1,4 +1,4 @@
-"""`init`: the store that it makes, each of its faults, and the file after each."""
+"""`init`: the store that it creates, each of its faults, and the file after each."""
 
 import os
 
@@ -35,7 +35,7 @@ UNREAD: list[tuple[str, str | bytes]] = [
     ("NotToml", "half = 032768"), ("NotToml", "half 32768"), ("NotToml", " " * 65_537),
 ]
 
-# Topologies in other spellings, and how many steps each is.
+# Topologies in other spellings, and the number of steps of each.
 READ = [
     ("half = 65536 # the usual size\r\nnode = []\r\n", 0), ('"half" = 0x8000', 0), ("half = 32_768", 0),
     ("node = [{id = 1, group = 1}, {id = 2, group = 1}]\nlink = [{a = 2, b = 1}]", 3), (" " * 65_536, 0),
@@ -55,7 +55,7 @@ class Init(Case):
                          Ended(0, "view 3 3\nnode 1 1 ready 0 0 0\nnode 2 1 ready 0 0 0\nlink 1 2 3\n", ""))
 
     def test_the_bytes_of_a_pair(self) -> None:
-        """An empty world of version 2 in the first half, and one batch after it."""
+        """The first half has an empty world of version 2, and then one batch."""
         self.assertEqual(self.init(topology([(7, 1)], half=40_000))[0], 0)
         order = b"\0\x10" + stores.wide(1) + b"\0\7\1"
         whole = stores.store(version=2, bodies=[stores.batch(1, order)], half=40_000)
@@ -73,7 +73,7 @@ class Init(Case):
                 self.assertEqual(ran("check", self.path(f"store{half}")), Ended(0, "legal 1\n", ""))
 
     def test_the_longest_text(self) -> None:
-        """A comment fills it up, to one byte less than is refused."""
+        """A comment fills the file up to one byte less than is refused."""
         self.assertEqual(self.init(PAIR.ljust(65_535, "#") + "\n"), Ended(0, "created 3\n", ""))
 
     def test_an_empty_topology(self) -> None:
@@ -84,7 +84,7 @@ class Init(Case):
         for number, (text, count) in enumerate(READ):
             with self.subTest(text=text[:60]):
                 self.assertEqual(self.init(text, f"store{number}"), Ended(0, f"created {count}\n", ""))
-        # a link of a node with itself is read, and its order is refused
+        # a link from a node to itself can be read, but its order is refused
         self.assertEqual(self.init("link = [{a = 1, b = 1}]", "linked"), faulted(1, "6 UnknownNode"))
 
     def test_the_largest_network(self) -> None:
@@ -102,14 +102,14 @@ class Init(Case):
         self.assertEqual(self.init(PAIR), Ended(0, "created 3\n", ""))
 
     def test_refused_orders(self) -> None:
-        """An empty store is left."""
+        """An empty store remains."""
         for number, (name, text) in enumerate(REFUSED):
             with self.subTest(refusal=name):
                 self.assertEqual(self.init(text, f"store{number}"), faulted(1, name))
                 self.assertEqual(ran("check", self.path(f"store{number}")), Ended(0, "legal 0\n", ""))
 
     def test_more_entries_than_there_may_be(self) -> None:
-        """Too many entries are not a fault of the text, even if they are all equal: the first refused order is reported."""
+        """Too many entries are not a fault of the text, even if all are equal: the first refused order is reported."""
         pair = "node = [{id = 1, group = 1}, {id = 2, group = 1}]\n"
         for name, text in (("7 NodeExists", "node = [" + "{id=1,group=1}," * 300 + "]"),
                            ("11 LinkExists", pair + "link = [" + "{a=1,b=2}," * 300 + "]"),
@@ -119,7 +119,7 @@ class Init(Case):
                 self.assertEqual(ran("check", self.path(name)), Ended(0, "legal 0\n", ""))
 
     def test_topologies_that_are_not_read(self) -> None:
-        """The file is not touched: it is not even made."""
+        """The store's file is not touched, and not even created."""
         for name, text in UNREAD:
             with self.subTest(fault=name, text=text[:60]):
                 self.assertEqual(self.init(text), faulted(1, name))
@@ -142,7 +142,7 @@ class Init(Case):
             self.assertEqual(ran("init", path, self.write("topology", PAIR)), faulted(3, "Device"))
 
     def test_faults_in_their_order(self) -> None:
-        """The topology is judged before the file, and an order after it."""
+        """The topology is checked before the store's file, and an order after it."""
         self.write("store", "something")
         self.assertEqual(self.init("halves = 1"), faulted(1, "BadKey"))
         self.assertEqual(self.init(REFUSED[0][1]), faulted(1, "NotEmpty"))

@@ -1,4 +1,4 @@
-"""A server whose instances end after 32 steps: nothing of what clients see changes with them."""
+"""A server whose instances end after 32 steps: nothing that clients see changes with the instance."""
 
 import contextlib
 import os
@@ -11,18 +11,18 @@ from support.serving import Serving
 from support.stores import ring, topology
 
 INSTANCES = 50
-MANY = 1_000  # lines, more than an instance takes, and fewer bytes than are discarded after its end
-FLUSHER = 2  # the third thread, in the order of their starts: each instance has its own
+MANY = 1_000  # lines, more than an instance takes, with fewer bytes than are discarded after its end
+FLUSHER = 2  # the third thread in the order of starts; each instance has its own
 
-# When a thread was started, in ticks of the system's clock, and its number, which others may have had before.
+# The time at which a thread was started, in ticks of the system's clock, and its number, which an earlier thread may have had.
 Started = tuple[int, int]
 
 
 def threads_of(process: int) -> list[Started]:
-    """The threads of a process, in the order of their starts."""
+    """Returns the threads of a process, in the order in which they were started."""
     found = list[Started]()
     for thread in os.listdir(f"/proc/{process}/task"):
-        # one that ends meanwhile is none
+        # a thread that ends meanwhile is not counted
         with contextlib.suppress(FileNotFoundError, ProcessLookupError), open(f"/proc/{process}/task/{thread}/stat", encoding="utf-8") as file:
             found.append((int(file.read().rsplit(")", 1)[1].split()[19]), int(thread)))
     return sorted(found)
@@ -34,12 +34,12 @@ class Instances(Served):
     programs = ("RESETD_SHORT",)
 
     def flusher(self, server: Serving) -> Started | None:
-        """The present instance's flusher."""
+        """Returns the flusher of the present instance."""
         threads = threads_of(server.process.pid)
         return threads[FLUSHER] if len(threads) > FLUSHER else None
 
     def test_a_ring_through_fifty_instances(self) -> None:
-        """Instances are counted as they are seen; all signals come, once and in order."""
+        """Instances are counted as they are seen. All signals are printed, once and in order."""
         instances, epoch = set[Started | None](), 0
         with Serving(self.made(ring(8)), program=SHORT) as server:
             while len(instances) < INSTANCES and epoch < 400:
@@ -54,7 +54,7 @@ class Instances(Served):
             self.expect_closed(server, 8 * epoch)
 
     def test_a_hundred_and_fifty_instances(self) -> None:
-        """One for each connection, and no more threads than in the first one."""
+        """Each connection has its own instance, and there are never more threads than in the first one."""
         with Serving(self.made(topology([(1, 1)])), program=SHORT) as server:
             instances, threads, count = set(), set(), 150 * SHORT_STEPS
             for first in range(1, count, SHORT_STEPS):
@@ -81,7 +81,7 @@ class Instances(Served):
             self.expect_closed(server, 206)
 
     def test_a_connection_that_stays_is_ended_behind_a_reply(self) -> None:
-        """Whatever it has sent, it reads all answers that were given, and the end; the rest is sent again."""
+        """Whatever the client has sent, it can read all answers and then the end of the connection; it sends the rest again."""
         with Serving(self.made(topology([(1, 1)])), program=SHORT) as server:
             answered, connections = 0, 0
             while answered < 1_400:
@@ -90,7 +90,7 @@ class Instances(Served):
                     connection.send(*({"op": "reset", "client": 1, "number": number, "node": 1}
                                       for number in range(answered + 1, answered + MANY + 1)))
                     lines = connection.rest()
-                # the instance was new, and is over at twice its steps; a read has some lines more
+                # the instance was new, and is over at twice its steps; one read may have some more lines
                 self.assertTrue(2 * SHORT_STEPS <= len(lines) < 3 * SHORT_STEPS, len(lines))
                 for line in lines:
                     answered += 1
@@ -102,7 +102,7 @@ class Instances(Served):
             self.assertEqual(signals, [(1, epoch) for epoch in range(1, len(signals) + 1)])
 
     def test_a_close_behind_many_instances(self) -> None:
-        """The answer to a close can be read though lines stand after it, and all is settled."""
+        """The answer to a close can be read although lines follow it, and everything is settled."""
         with Serving(self.made(topology([(1, 1)])), program=SHORT) as server:
             for number in range(1, 101):
                 server.order(number, "reset", node=1)
@@ -113,7 +113,7 @@ class Instances(Served):
             self.assertEqual((ended.status, ended.told, len(ended.printed.splitlines())), (0, "", 101))
 
     def test_an_output_that_is_not_read(self) -> None:
-        """A slow output holds up no answer, and no next instance: what an instance has released is printed in later ones."""
+        """A slow output delays no answer and no next instance. What an instance has released is printed during later ones."""
         with Piped(self.made(topology([(1, 1)])), program=SHORT) as server:
             count = 20 * SHORT_STEPS
             for first in range(1, count, SHORT_STEPS):
@@ -128,7 +128,7 @@ class Instances(Served):
             self.assertEqual(server.ended(), Ended(0, f"listening {server.address}\n{signals}", ""))
 
     def test_two_clients_across_instances(self) -> None:
-        """Each waits for its turn, and each order is carried out once."""
+        """Each client waits for its turn, and each order is carried out once."""
         with Serving(self.made(topology([(1, 1), (2, 2)])), program=SHORT) as server:
             steps: dict[int, list[int]] = {1: [], 2: []}
 

@@ -1,4 +1,4 @@
-"""The lines that `tests/run` prints last: about missing things, and about failures."""
+"""The last lines of `tests/run`: about missing requirements, and about failures."""
 
 import os
 import subprocess
@@ -30,7 +30,7 @@ class All(unittest.TestCase):
 
 class LeftOut(Case):
     def run_tests(self, *names: str, **environment: str) -> list[str]:
-        """The lines that `tests/run` prints last, of tests for which no program is built."""
+        """Returns the last lines of `tests/run` for tests for which no program is built."""
         named = {"RESETD": "/nonexistent", "RESETD_MEMBER": "/nonexistent", **environment}
         ran = subprocess.run([sys.executable, f"{ROOT}/tests/run", *names], env={**os.environ, **named}, capture_output=True, text=True,
                              check=False)
@@ -53,7 +53,7 @@ class LeftOut(Case):
         self.assertEqual(sorted(lacking(within)), ["a thing", *["a thing's part"] * 2])
 
     def test_each_failure_is_named(self) -> None:
-        """With those within it: here the tests of a front whose program is missing."""
+        """A failure is named with those within it: here the tests of a front whose program is missing."""
         lines = self.run_tests("test_front.Front.test_the_audit")
         self.assertRegex(lines[1], r"^failed: test_front\.Front\.test_the_audit: test_audit\.Written\.test_a_file_that_is_moved, test_audit\.Written\.")
         self.assertNotIn("test_audit.Files.", lines[1])

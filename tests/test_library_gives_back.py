@@ -1,4 +1,4 @@
-"""The members' library frees all memory that a call takes, and reports a refused allocation as that and nothing else."""
+"""The members' library frees all memory that a call allocates, and reports exactly a refused allocation as out of memory."""
 
 import json
 from collections.abc import Callable
@@ -13,7 +13,7 @@ Call = Callable[[], object]
 
 
 def show_line(nodes: int = 8, epoch: int = 5, confirmed: int = 5, mode: str = "ready") -> bytes:
-    """The line that shows a row of nodes, the first of them in this mode with this confirmed epoch."""
+    """Returns the line that shows a row of nodes, the first of them in this mode with this confirmed epoch."""
     rows = [[node, 1, "ready", 0, epoch, epoch] for node in range(1, nodes + 1)]
     rows[0][2], rows[0][5] = mode, confirmed
     links = [[node, node + 1, 100 + node] for node in range(1, nodes)]
@@ -34,7 +34,7 @@ class GivesBack(OfLibrary):
         self.talk = self.library.judge(SHOW, 1, self.begun, b"", 5)
 
     def judgements(self) -> dict[str, Callable[[], Told]]:
-        """One judgement for each thing that may be due, with and without what the files may hold."""
+        """Returns a judgement for each action that may be due, with and without the possible content of the files."""
         judge, history = self.library.judge, self.talk.line
         return {
             "talks first": lambda: judge(SHOW, 1, self.begun, b"", 5),
@@ -47,7 +47,7 @@ class GivesBack(OfLibrary):
         }
 
     def refusals(self) -> dict[str, Call]:
-        """One call for each thing that does not read."""
+        """Returns a call for each input that can't be parsed."""
         judge = self.library.judge
         return {
             "a torn line": lambda: judge(SHOW[:40], 1),
@@ -75,11 +75,11 @@ class GivesBack(OfLibrary):
         }
 
     def ordered(self, op: int) -> bytes:
-        """The line of an order of this kind."""
+        """Returns the line of an order of this kind."""
         return self.library.order_line(Orders(7, Order(op, 5, 2 if op in (1, 3, 4) else 0, 9 if op == 6 else 0)), 16)
 
     def heard(self, line: bytes) -> None:
-        """Hears a line. Orders that were refused stay as they were."""
+        """Passes a line to the order book. Refused orders stay as they were."""
         orders = Orders(7, Order(6, 1, 0, 5))
         try:
             self.library.hear(orders, line)
@@ -99,7 +99,7 @@ class GivesBack(OfLibrary):
             return refused.status
 
     def test_the_judgements(self) -> None:
-        """They are of each kind, so that what follows tries each."""
+        """They are of each kind, so that the tests below try each kind."""
         dues = [call().due for call in self.judgements().values()]
         self.assertEqual(dues, ["TALK", "TALK", "RESET", "WAIT", "BEGIN", "RESET", "TALK"])
         self.assertNotIn(0, [self.status_of(call) for call in self.refusals().values()])
@@ -111,7 +111,7 @@ class GivesBack(OfLibrary):
                 self.assertEqual(self.library.kept, 0)
 
     def test_each_refused_allocation(self) -> None:
-        """The call reports it, and has freed the others."""
+        """The call reports it, and has freed all other allocations."""
         for name, call in self.calls().items():
             self.library.count_from_here()
             self.status_of(call)

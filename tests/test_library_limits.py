@@ -1,5 +1,5 @@
-"""The members' library with orders, answers, texts and numbers of every kind and size: no call reports a lack of memory where
-none was refused."""
+"""The members' library with orders, answers, texts and numbers of every kind and size: no call reports that memory ran out if
+no allocation was refused."""
 
 import hashlib
 import json
@@ -28,7 +28,7 @@ MEANINGS = {
 
 
 def show_line(epoch: int, nodes: int = 2, accepted: int = 9) -> bytes:
-    """The line that shows a row of nodes that are ready at this epoch. Of 64 nodes it shows 128 links, the most there can be."""
+    """Returns the line that shows a row of nodes that are ready at this epoch. With 64 nodes it shows 128 links, the maximum."""
     rows = [[node, 1, "ready", 0, epoch, epoch] for node in range(1, nodes + 1)]
     links = [[node, node + 1, 100 + node] for node in range(1, nodes)]
     if nodes == 64:
@@ -81,7 +81,7 @@ class Limits(OfLibrary):
                 self.assertEqual((orders.last, orders.in_hand.op), (last, 0 if meaning == NOT_DONE else 5))
 
     def test_long_histories(self) -> None:
-        """Of this length, of which a line is that of the shown party, or none is."""
+        """The histories have this length. One of their lines is that of the shown party, or none is."""
         first = self.library.judge(show_line(5), 1, self.library.begun(1, 5), b"", 5)
         lines = [hashlib.sha256(str(number).encode()).hexdigest() + "\n" for number in range(2_000)]
         for count in (0, 1, 2, 63, 64, 65, 66, 500, 2_000):
@@ -99,7 +99,7 @@ class Limits(OfLibrary):
             self.assertEqual(self.library.tag(show_line(5), 1, start, b"w" * size).decode(), tag_of(party, party, "w" * size))
 
     def test_each_epoch_up_to_a_million(self) -> None:
-        """Of a start that begins."""
+        """The start that begins has each of these epochs."""
         for epoch in range(1_000_001):
             if self.library.begun(7, epoch) != f'{{"7": {{"begun": {epoch}, "party": null}}}}\n'.encode():
                 self.fail(f"epoch {epoch}")
@@ -115,7 +115,7 @@ class Limits(OfLibrary):
             self.assertEqual((judged.due, judged.epoch), ("TALK", size))
 
     def test_a_full_world(self) -> None:
-        """Each member of 64 nodes with 128 links: the texts fit the room of the header."""
+        """For each member of 64 nodes with 128 links, the texts fit into the buffers of the header's sizes."""
         for epoch in (5, 2**40):
             for node in NODES:
                 judged = self.library.judge(show_line(epoch, 64), node, self.library.begun(node, epoch), b"", epoch)

@@ -1,4 +1,4 @@
-"""A server to which the system gives few descriptors, or few threads."""
+"""A server that gets only a few descriptors or threads from the system."""
 
 import errno
 import os
@@ -11,12 +11,12 @@ from support.program import TIMEOUT, PROGRAM, SHORT, SHORT_STEPS, Ended, faulted
 from support.serving import Connection, Serving
 from support.stores import topology
 
-THREADS = 10  # that a server starts: a flusher, eight workers and a printer
+THREADS = 10  # threads that a server starts: a flusher, eight workers and a printer
 
 
 class Descriptors(Case):
     def test_none_is_left_for_a_while(self) -> None:
-        """A client waits, and is served once there is one again; twice."""
+        """A client waits until a descriptor is free again, and is then served; twice."""
         with Serving(self.made(topology([(1, 1)]))) as server:
             usual = resource.prlimit(server.process.pid, resource.RLIMIT_NOFILE)
             used = max(map(int, os.listdir(f"/proc/{server.process.pid}/fd"))) + 1
@@ -29,7 +29,8 @@ class Descriptors(Case):
             self.assertEqual(server.close().status, 0)
 
     def waiting_client(self, server: Serving) -> Connection:
-        """A client that waits: the second one at the latest, since a call that waits for a client has its descriptor."""
+        """Returns a client that waits. It is the first or the second one, because a call that waits for a client already has
+        its descriptor."""
         for _ in range(2):
             connection = server.connect()
             connection.send({"op": "resend"})
@@ -42,7 +43,8 @@ class Descriptors(Case):
         self.fail("a client was served without a descriptor")
 
     def test_too_few_to_begin(self) -> None:
-        """The server has all that it needs before it says that it listens: it serves, or says why it does not, and ends."""
+        """The server has everything that it needs before it prints that it listens: it serves, or it reports the reason and
+        ends."""
         store, ends = self.made(topology([(1, 1)])), set[tuple[str, str, int]]()
         before = self.read("store")
         for most in range(4, 13):
@@ -58,14 +60,14 @@ class Descriptors(Case):
         self.assertEqual(ends, {("listening ", "", 0), ("", "resetd: Device\n", 3), ("", "resetd: Socket\n", 3)})
 
     def is_served(self, address: str) -> None:
-        """Each of two connections, one after the other; the second one closes the server."""
+        """Returns whether two connections are served, one after another; the second one closes the server."""
         for request, answer in (({"op": "resend"}, {"count": 0, "kind": "resent"}), ({"op": "close"}, {"kind": "closed"})):
             with Connection(address) as connection:
                 connection.send(request)
                 self.assertEqual(connection.reply(), answer)
 
     def test_an_address_that_can_not_be_listened_at(self) -> None:
-        """Whatever the reason is."""
+        """This holds for any reason."""
         self.needs("a C compiler", preloaded.has_compiler())
         store = self.made(topology([(1, 1)]))
         for error in (errno.EACCES, errno.EADDRINUSE, errno.ENOBUFS, errno.ENOMEM, errno.EINVAL):
@@ -86,14 +88,15 @@ class Threads(Case):
     programs = ("RESETD", "RESETD_SHORT")
 
     def test_it_serves_with_all_of_them_or_not_at_all(self) -> None:
-        """tools/few_threads, as root."""
+        """Runs tools/few_threads, as root."""
         self.needs("root", os.geteuid() == 0)
         done = subprocess.run([tool("few_threads"), PROGRAM], capture_output=True, text=True, timeout=self.most - 30)
         self.assertEqual((done.returncode, done.stderr), (0, ""), done.stdout)
 
 
     def test_one_that_is_refused(self) -> None:
-        """Any one of them, with all others present: it reports the fault, prints nothing and leaves the store unchanged."""
+        """Any single thread is refused, and all others start: the server reports the fault, prints nothing and leaves the store
+        unchanged."""
         self.needs("a C compiler", preloaded.has_compiler())
         store = self.made(topology([(1, 1)]))
         before = self.read("store")
@@ -108,7 +111,8 @@ class Threads(Case):
 
 
     def test_one_that_is_refused_to_a_later_instance(self) -> None:
-        """The flusher or a worker of the second instance, or of the third: it says so, and ends with all that was answered."""
+        """The flusher or a worker of the second or third instance is refused: the server reports that, and ends with everything
+        that was answered."""
         self.needs("a C compiler", preloaded.has_compiler())
         for instance in (2, 3):
             for number in range(1, THREADS):
@@ -132,7 +136,7 @@ class Reads(Case):
     takes = 30
 
     def test_an_end_that_does_not_come(self) -> None:
-        """A drill reads 1,048,576 times, and no more, however few lines that makes."""
+        """A drill reads at most 1,048,576 times, however few lines that gives."""
         self.needs("a C compiler", preloaded.has_compiler())
         environment = {**os.environ, **preloaded.environment(self.folder, PIECE=1)}
         comment = b"#" * 63 + b"\n"

@@ -1,4 +1,5 @@
-"""A listener that fails: what may pass is waited for, and what does not pass ends the server. One to which nobody comes."""
+"""A listener that fails: a temporary failure is waited for, and a permanent one ends the server. Also a listener without
+clients."""
 
 import errno
 import os
@@ -10,12 +11,12 @@ from support.case import Case, until
 from support.serving import Serving, processor_seconds
 from support.stores import topology
 
-# accept(2): an error of the network that is already pending on the new socket is passed on, and is to be tried again.
+# accept(2): a network error that is already pending on the new socket is reported by accept, which is then to be retried.
 PASSES = ["ECONNABORTED", "EINTR", "EPROTO", "ENETDOWN", "ENOPROTOOPT", "EHOSTDOWN", "ENONET", "EHOSTUNREACH",
           "ENETUNREACH", "EPERM", "EMFILE", "ENFILE", "ENOMEM", "ENOBUFS"]
 ENDS_IT = ["EBADF", "EINVAL", "ENOTSOCK", "EFAULT"]
 ALWAYS = 1_000_000_000
-TRIES, REST = 100, 0.1  # after a failure that may pass, and how many seconds apart
+TRIES, REST = 100, 0.1  # number of attempts after a temporary failure, and the seconds between them
 
 
 class Failing(Case):
@@ -33,7 +34,7 @@ class Failing(Case):
         return Serving(store, env=preloaded.environment(self.folder, **settings))
 
     def rests(self) -> list[int]:
-        """For how many microseconds it has rested each time, before it took the last client that was served."""
+        """Returns the microseconds of each pause that the server made before the last client that it served."""
         before = self.read("calls").rpartition(b"at-once ")[0].splitlines()
         return [int(line.split()[2]) for line in before if line.startswith(b"rest ")]
 
@@ -48,7 +49,7 @@ class Listener(Failing):
                 self.assertEqual(server.close().status, 0)
 
     def test_what_does_not_pass(self) -> None:
-        """At once, or after the first clients."""
+        """The listener fails at once, or after the first clients."""
         for name in ENDS_IT:
             for after in (0, 2):
                 with self.serving(name, ALWAYS, after) as server:
@@ -60,8 +61,8 @@ class Listener(Failing):
                     self.assertEqual(ended.printed, f"listening {server.address}\n{signals}")
 
     def test_what_lasts(self) -> None:
-        """The listener fails 60 times in a row, and as often again before the next client: more than it may in a row. The server
-        pauses before each further try; after a client that has left it does not."""
+        """The listener fails 60 times in a row, and again before the next client: more in all than it may in a row. The server
+        pauses before each further attempt, but not after a client that has left."""
         for name, rests in (("ENFILE", 60), ("EPROTO", 0)):
             with self.subTest(error=name), self.serving(name, 60) as server:
                 for clients in (1, 2):
@@ -69,13 +70,13 @@ class Listener(Failing):
                     self.assertEqual(Counter(self.rests()), Counter({REST * 1_000_000: rests * clients}))
 
     def test_a_rest_before_each_further_try(self) -> None:
-        """The rest takes as long as docs/OPERATING.md says."""
+        """The pause takes as long as docs/OPERATING.md says."""
         with self.serving("ENFILE", 3) as server:
             self.assertEqual(server.ask({"op": "resend"}), {"count": 0, "kind": "resent"})
             self.assertEqual(self.rests(), [REST * 1_000_000] * 3)
 
     def test_connections_that_can_not_be_made_ready(self) -> None:
-        """Each is ended, and keeps no descriptor. However many come, the next client is served."""
+        """Each of them is ended, and keeps no descriptor. However many there are, the next client is served."""
         store, count = self.made(topology([(1, 1)])), TRIES + 10
         with Serving(store, env=preloaded.environment(self.folder, UNREADY=count)) as server:
             descriptors = os.listdir(f"/proc/{server.process.pid}/fd")
@@ -88,14 +89,14 @@ class Listener(Failing):
 
 
     def test_a_client_whose_waits_can_not_be_bounded(self) -> None:
-        """A client that left is not waited for: its connection ends before a line, in a line, or before an answer."""
+        """The client's timeouts can't be set: its connection ends before a line, within a line, or before an answer."""
         resend = b'{"op":"resend"}\n'
         for call, number, said in (("READ_TIME_FAILS", 1, b""), ("READ_TIME_FAILS", 2, b'{"op":'), ("WRITE_TIME_FAILS", 1, resend)):
             store = self.made(topology([(1, 1)]), f"store-{call}-{number}")
             environment = preloaded.environment(self.folder, **{call: number})
             with self.subTest(call=call, number=number), Serving(store, env=environment) as server:
                 with server.connect() as connection:
-                    connection.socket.settimeout(12)  # less than a silence
+                    connection.socket.settimeout(12)  # less than the timeout of a silent client
                     connection.send(said)
                     self.assertEqual(connection.line(), b"")
                 self.assertEqual(server.ask({"op": "resend"}), {"count": 0, "kind": "resent"})
@@ -103,7 +104,7 @@ class Listener(Failing):
 
 
 class LastTry(Failing):
-    """A failure that may pass is tried again 100 times in turn, and no more."""
+    """A temporary failure is retried 100 times in a row, and not more."""
 
     def test_the_last_try(self) -> None:
         with self.serving("ENFILE", TRIES) as server:
@@ -125,8 +126,8 @@ class Idle(Case):
     takes = 3
 
     def test_a_server_that_nobody_asks(self) -> None:
-        """A server waits without using a processor: before the first client, after an order of one that stays, and after the
-        first part of a line."""
+        """A server waits without using the processor: before the first client, after an order of a client that stays, and after
+        the first part of a line."""
         with Serving(self.made(topology([(1, 1)]))) as server:
             self.expect_rest(server)
             with server.connect() as connection:
@@ -141,15 +142,15 @@ class Idle(Case):
         until("rest of all threads", lambda: self.rests(server))
 
     def rests(self, server: Serving) -> bool:
-        """Whether no thread of it has come back from a rest for a second, as one would that looks from time to time, nor
-        has been taken the processor, nor has used it, as one would that spins."""
+        """Returns whether, for a second, no thread has woken from a sleep, as one that polls would, and none has used or lost
+        the processor, as one that spins would."""
         before = self.turns(server), processor_seconds(server.process.pid)
         time.sleep(1)
         return (self.turns(server), processor_seconds(server.process.pid)) == before
 
     @staticmethod
     def turns(server: Serving) -> int:
-        """How often its threads have gone to rest, or were taken the processor."""
+        """Returns how often its threads have gone to sleep, or have lost the processor."""
         threads, count = f"/proc/{server.process.pid}/task", 0
         for thread in os.listdir(threads):
             with open(f"{threads}/{thread}/status", encoding="ascii") as rows:

@@ -1,5 +1,5 @@
-"""The library of the members' rule for C, beside the Python one; and members in other languages that call it. RESETD_MEMBER
-names a library that is tried; tests/run makes a trial build of it."""
+"""The library of the members' rule for C, compared with the Python library; and members in other languages that call it.
+RESETD_MEMBER names the library; tests/run makes a trial build of it."""
 
 import contextlib
 import itertools
@@ -30,7 +30,7 @@ from resetd_client.starts import Shelf, Starts  # noqa: E402
 from served import faults, services  # noqa: E402
 from served.services import Trial, Words  # noqa: E402
 
-STATES = 25_000  # at random, of each of four seeds
+STATES = 25_000  # random states for each of four seeds
 EXAMPLES = f"{ROOT}/examples/members"
 COMPILERS = {"cc": "a C compiler", "rustc": "Rust", "go": "Go"}
 HEADER = f"{ROOT}/crates/resetd_member/include"
@@ -39,33 +39,33 @@ State = tuple[View, int, Kept, list[str], int | None]
 
 
 def line_of(view: View) -> bytes:
-    """The line that shows a view."""
+    """Returns the line that shows a view."""
     return (json.dumps(view.members(), separators=(",", ":")) + "\n").encode()
 
 
 def row_of(view: View, node: int) -> Node:
-    """The row of a node that is there."""
+    """Returns the row of an existing node."""
     row = view.node(node)
     assert row is not None
     return row
 
 
 def start_text(node: int, kept: Kept, count: int | None = None) -> bytes:
-    """The file of a start that counts in any boot, as the Python library writes it. `count` is that of the settled steps in the
-    view that it first talked by."""
+    """Returns a start file that is valid in any boot, as the Python library writes it. `count` is the number of settled steps
+    in the view in which the start first talked."""
     party = None if kept.party is None else sorted(kept.party)
     counted = {} if count is None else {"count": count}
     return (json.dumps({str(node): {"begun": kept.begun, "party": party, **counted}}) + "\n").encode()
 
 
 def loaded_text(node: int, epoch: int, boot: str) -> bytes:
-    """The file of a start that has talked with nobody, as the Python library writes it."""
+    """Returns the start file of a start that has talked with nobody, as the Python library writes it."""
     row: dict[str, object] = {"begun": None, "party": None, "loaded": epoch, "foreseen": [], "boot": boot}
     return (json.dumps({str(node): row}) + "\n").encode()
 
 
 def kept_in(text: bytes, node: int) -> Kept:
-    """What a file of a start keeps, in the boot that it names."""
+    """Returns the values in a start file, in the boot that it names."""
     row = json.loads(text or b"{}").get(str(node), {"begun": None, "party": None})
     return Kept(row.get("loaded", row["begun"]), None if row["party"] is None else frozenset(row["party"]))
 
@@ -75,7 +75,7 @@ def history_text(digests: Iterable[str], torn: str = "") -> bytes:
 
 
 def small_views() -> Iterator[View]:
-    """Two nodes, each in each state of two epochs, and the link between them: none, the first or the second."""
+    """Yields views of two nodes, each in each state of two epochs, with no link, a first link or a second one between them."""
     rows = list(itertools.product(("ready", "abort", "converge"), (0, 1), (0, 1)))
     for (mode, epoch, confirmed), (other_mode, other_epoch, other_confirmed), link in itertools.product(rows, rows, (0, 1, 2)):
         nodes = Node(1, 1, mode, 0, epoch, confirmed), Node(2, 1, other_mode, 0, other_epoch, other_confirmed)
@@ -83,7 +83,7 @@ def small_views() -> Iterator[View]:
 
 
 def small_states() -> Iterator[State]:
-    """Each small view with each small state that may be kept, and work of that epoch or none."""
+    """Yields each small view with each small state that may be stored, and work of that epoch or none."""
     for view in small_views():
         party = view.party(1)
         parties: list[Party | None] = [None, party, party | {"3 0"}, party - {"2 0", "2 1"}]
@@ -93,7 +93,7 @@ def small_states() -> Iterator[State]:
 
 
 class Random:
-    """States of up to six nodes with any links, epochs and histories."""
+    """Random states of up to six nodes with any links, epochs and histories."""
 
     def __init__(self, seed: int) -> None:
         self.random = random.Random(seed)
@@ -109,7 +109,7 @@ class Random:
         return View(99, 99, rows, tuple(Link(a, b, draw.randrange(1, epochs + 99)) for a, b in chosen))
 
     def party(self, view: View, row: Node) -> Party | None:
-        """None, the shown parties, or some more or fewer."""
+        """Returns None, the shown party, or a larger or smaller one."""
         draw, shown = self.random, view.party(row.node)
         more = frozenset(f"{draw.randint(1, 64)} {draw.randrange(99)}" for _ in range(draw.randrange(3)))
         fewer = frozenset(line for line in shown if draw.random() < 0.8)
@@ -169,7 +169,7 @@ class Members(OfLibrary):
         self.library = Library()
 
     def judged_alike(self, state: State, torn: str = "") -> str:
-        """Both libraries, for one state: the due action, the stored values, the line of the history, and the tag."""
+        """Compares the two libraries for one state: the due action, the values to store, the line for the history, and the tag."""
         view, node, kept, history, work = state
         row = row_of(view, node)
         begun = kept.begun if kept.begun == work else None
@@ -189,7 +189,7 @@ class Members(OfLibrary):
         return told.due
 
     def test_small_states(self) -> None:
-        """All of them."""
+        """Tries all of them."""
         dues = [self.judged_alike(state) for state in small_states()]
         self.assertGreater(len(dues), 15_000)
         self.assertEqual(set(dues), {due.name for due in Due})
@@ -214,8 +214,8 @@ class Members(OfLibrary):
         self.random_states(4)
 
     def alike_in(self, state: State, due: Due, after: Kept, history: bytes) -> None:
-        """A member of another kind was shown a state: what was due to it, and what its files keep now, are as the proved
-        library says. (One that begins has gone on.)"""
+        """Checks that a member of another kind, after it was shown a state, has taken the action and has the files that the
+        proved library determines. (One that begins has already continued.)"""
         view, node, kept, digests, work = state
         told = self.library.judge(line_of(view), node, start_text(node, kept), history_text(digests), work)
         self.assertEqual(due.name, told.due, state)
@@ -224,7 +224,7 @@ class Members(OfLibrary):
             self.assertEqual(history, history_text(digests) + told.line, state)
 
     def test_the_files_of_the_python_library(self) -> None:
-        """The starts of a member, over files: they hold the same bytes."""
+        """The starts of a member, over files: both libraries write the same bytes."""
         states = Random(5)
         for turn in range(1_000):
             view, node, kept, digests, work = state = states.state()
@@ -242,7 +242,7 @@ class Members(OfLibrary):
                 self.assertEqual(json.dumps(json.loads(text)).encode() + b"\n", start_text(node, kept_in(text, node), count), state)
 
     def test_a_gateway(self) -> None:
-        """Its members have begun its last instruction, or have lost it."""
+        """Its members have begun its last instruction, or have lost the work."""
         states = Random(6)
         for turn in range(300):
             view, node, kept, digests, work = state = states.state()
@@ -262,7 +262,7 @@ class Members(OfLibrary):
             self.alike_in(state, due, kept_in(self.read(f"{turn}/starts.json"), node), self.read(f"{turn}/starts.history"))
 
     def test_a_member_in_bash(self) -> None:
-        """examples/plain_member, over its own files."""
+        """Tries examples/plain_member, over its own files."""
         states = Random(7)
         for turn in range(60):
             view, node, kept, digests, work = state = states.state()
@@ -294,7 +294,7 @@ class Members(OfLibrary):
             self.assertEqual(self.library.loaded(node, epoch, b"boot-1"), loaded_text(node, epoch, "boot-1"))
 
     def test_what_a_file_says_in_a_boot(self) -> None:
-        """A loaded start is valid only in its boot, files of earlier versions are carried over, and a torn one says nothing."""
+        """A loaded start is valid only in its boot, files of earlier versions are converted, and a torn one counts as empty."""
         party = frozenset({"1 2", "2 2", "1 2 3"})
         loaded, nothing = loaded_text(2, 7, "boot-1"), start_text(2, Kept())
         for text, boot, wanted in (
@@ -314,7 +314,7 @@ class Members(OfLibrary):
             self.assertEqual(refused.exception.status, 5, text)
 
     def test_fences(self) -> None:
-        """Of a start that talked with another, of one that was alone, and of those that have none."""
+        """The start has talked with another one, or was alone; others have no fence."""
         both, alone = frozenset({"1 2", "2 2", "1 2 3"}), frozenset({"2 2"})
         for word, generation in itertools.product(("", "blue"), (0, 1, (1 << 23) - 1)):
             count = (generation << 40) + 9
@@ -356,7 +356,7 @@ class Members(OfLibrary):
         self.refuses(9, line, 1, b"\xff")
 
     def test_the_order_book(self) -> None:
-        """One order from its first line to its last answer, and the number of the next."""
+        """It has one order from its first line to its last answer, and the number of the next."""
         orders = Orders()
         self.assertEqual(self.library.order_line(orders, 3), b"")
         self.library.write_down(orders, Order(6, 5, 0, 9))
@@ -379,13 +379,13 @@ class Members(OfLibrary):
 
 class Searches(OfLibrary):
     def last_line(self, *words: str) -> str:
-        """What tools/member_search says last."""
+        """Returns the last line that tools/member_search prints."""
         done = subprocess.run([tool("member_search"), "--seconds", "500", *words], capture_output=True, text=True, check=False)
         self.assertEqual(done.stderr, "")
         return done.stdout.splitlines()[-1]
 
     def test_the_search_with_the_proved_judge(self) -> None:
-        """The search reaches as many states as the one with the Python judge, and finds the mix if a part is left out."""
+        """The search reaches as many states as with the Python judge, and finds the mix if a part is left out."""
         for about, depth in (("all", 5), ("lose", 5), ("restore", 6), ("readd", 8), ("links", 9)):
             words = ["--about", about, "--depth", str(depth)]
             self.assertEqual(self.last_line(*words, "--library", PATH), self.last_line(*words))
@@ -399,7 +399,7 @@ class Made(Case):
     programs = ("RESETD", "RESETD_MEMBER")
 
     def make(self, compiler: str, *words: str, env: dict[str, str] | None = None) -> str:
-        """Makes a member without a warning: its program."""
+        """Compiles a member without a warning, and returns its program."""
         self.needs(COMPILERS[compiler], shutil.which(compiler) is not None, is_optional=True)
         made = subprocess.run([compiler, *words], capture_output=True, text=True, cwd=EXAMPLES, env={**os.environ, **(env or {})}, timeout=600)
         self.assertEqual((made.returncode, made.stderr), (0, ""))
@@ -411,7 +411,7 @@ class Made(Case):
         return self.make("go", "build", "-o", self.path("member"), *files, env={**folders, **env})
 
     def library(self) -> str:
-        """The library that a member is linked with."""
+        """Returns the library with which the member is linked."""
         self.needs("a C compiler: for the members' library", os.path.exists(PATH))
         return PATH.replace(".so", ".a")
 
@@ -438,7 +438,7 @@ class InOtherLanguages(Made):
     takes = 100
 
     def keeps_the_rule(self, *command: str) -> None:
-        """tools/try_member finds nothing wrong with a member."""
+        """Checks that tools/try_member finds no violation by a member."""
         tried = subprocess.run([tool("try_member"), "--seconds", "180", *command], capture_output=True, text=True,
                                env={**os.environ, "RESETD": PROGRAM, "TMPDIR": self.folder})
         self.assertEqual(tried.returncode, 0, tried.stdout + tried.stderr)
@@ -466,7 +466,7 @@ class InOtherLanguages(Made):
 
 
 class OneProcess(Made):
-    """A second process of a member ends, and names the one that has its folder."""
+    """A second process of a member ends, and names the process that holds its folder."""
 
     takes = 20
 
@@ -516,8 +516,8 @@ class OneProcess(Made):
 
 
 class Durable(Made):
-    """The member in C, by its calls: the files that are on the disk before it drops its work, confirms and talks, so that no power cut
-    brings an earlier start back. Member 2 of the group is this test."""
+    """The member in C, by its system calls: which files are on the disk before it drops its work, confirms and talks, so that
+    no power cut restores an earlier start. This test is member 2 of the group."""
 
     takes = 20
 
@@ -529,7 +529,7 @@ class Durable(Made):
         self.addCleanup(self.trial.end)
 
     def run_until_it_talks(self, resets: int) -> list[traced.Call]:
-        """Runs the member until it talks, and through this number of resets. Its calls."""
+        """Runs the member until it talks, and through this number of resets. Returns its calls."""
         process = subprocess.Popen([*traced.words(self.path("trace")), self.member, "1", self.trial.address, self.path("files")],
                                    stdout=subprocess.DEVNULL, start_new_session=True)
         try:
@@ -578,7 +578,7 @@ class Durable(Made):
 
 class Vectors(OfLibrary):
     def test_vectors(self) -> None:
-        """docs/member-vectors.json is what the proved library says, and the Python library says the same."""
+        """Both the proved library and the Python library agree with docs/member-vectors.json."""
         checked = subprocess.run([tool("member_vectors")], capture_output=True, text=True)
         self.assertEqual((checked.returncode, checked.stderr), (0, ""))
 

@@ -1,5 +1,5 @@
-"""Each allocation of a command is refused in turn: it ends as with ample memory, or reports OutOfMemory and leaves everything
-unchanged."""
+"""Each allocation of a command is refused in turn. The command ends as it does with enough memory, or reports OutOfMemory and
+leaves everything unchanged."""
 
 import os
 import pathlib
@@ -23,17 +23,17 @@ ALL = 10**9
 PAIR = topology([(1, 1), (2, 1)], [(1, 2)])
 IN_A_RESET = world(4, [node(1, ABORT, awaits=[2]), node(2)], [link(1, 2, 3, (0, 0, [stores.abort()]))])
 CHECKED = [faulted(1, "NoMagic"), Ended(0, "legal 0\n", ""), Ended(0, "legal 3\n", "")]
-# How an answer of a drill reports that its ledger lacked memory, or its disk, which is in memory and fails for nothing else.
+# How an answer of a drill reports that memory ran out for its ledger, or for its disk, which is in memory and never fails for another reason.
 ENDS = [(0, ""), (4, "resetd: OutOfMemory\n"), (3, "resetd: Device\n")]
 LACKS = re.compile(r"^(no 2 OutOfMemory|commit 1 OutOfMemory|commit 2 Device)$", re.MULTILINE)
-# After the reset each of its three packets is taken and cleared.
+# After the reset, each of its three packets is taken and cleared.
 AFTER_A_WAVE = {"accepted": 10, "links": [[1, 2, 3]], "nodes": [[1, 1, "ready", 0, 1, 0], [2, 1, "ready", 0, 1, 0]],
                 "settled": 10}
 VIOLATED = world(4, [node(64, ABORT)])
 
 
 def unchanged(count: Callable[[], int]) -> int:
-    """A count once it has stayed the same for half a second."""
+    """Returns a count once it has stayed the same for half a second."""
     now, same = count(), 0
     while same < 10:
         time.sleep(0.05)
@@ -52,10 +52,12 @@ class Memory(Case):
 
     def each_refusal(self, words: list[str], prepare: Callable[[], object],
                      given: bytes = b"") -> Iterator[tuple[str, Ended, Ended]]:
-        """Runs a command with each of its allocations refused, alone or with all after it: where that was, how it ends
-        with ample memory, and how it ended.
+        """Runs a command with each of its allocations refused, alone or together with all later ones. Yields where that was,
+        how the command ends with enough memory, and how it ended.
 
-        The words take many, the same each time: of those that a command without a file takes too, only some are refused."""
+        Parsing the arguments allocates often, the same each time. Of the allocations that a command without a file makes
+        too, only some are refused.
+        """
         usual = self.refusing.ran("check", self.path("none/store"))[1]
         prepare()
         ample, count = self.refusing.ran(*words, given=given)
@@ -66,7 +68,7 @@ class Memory(Case):
                 yield f"{words[0]}, {many} from {first} of {count}", ample, ended
 
     def expect_unchanged(self, wanted: Ended, *words: str, content: bytes) -> None:
-        """The command ends as expected, or out of memory, and its file is unchanged."""
+        """Checks that the command ends as expected, or out of memory with its file unchanged."""
         path, told = self.path("store"), 0
         for where, ample, ended in self.each_refusal([words[0], path, *words[1:]], lambda: self.write("store", content)):
             self.assertEqual(ample, wanted)
@@ -90,7 +92,7 @@ class Memory(Case):
         self.expect_unchanged(faulted(1, "Violated"), "migrate", content=stores.store(VIOLATED))
 
     def test_a_migration(self) -> None:
-        """The store has version 1, and is unchanged, or version 2: then the line may be missing."""
+        """The store has version 1 and is unchanged, or has version 2; in the second case the line may be missing."""
         content, path = stores.store(bodies=[batch(1, stores.add(1))]), self.path("store")
         for where, ample, ended in self.each_refusal(["migrate", path], lambda: self.write("store", content)):
             self.assertEqual(ample, Ended(0, "migrated 1\n", ""))
@@ -101,7 +103,7 @@ class Memory(Case):
                 self.assertEqual(ran("check", path), Ended(0, "legal 1\n", ""), where)
 
     def test_a_store_that_is_made(self) -> None:
-        """None, an empty one, or a whole one, though its line may not be printed."""
+        """There is no store, an empty one, or a whole one, whose line may be missing."""
         store, words = self.path("store"), ["init", self.path("store"), self.write("topology", PAIR)]
         for where, ample, ended in self.each_refusal(words, lambda: pathlib.Path(store).unlink(missing_ok=True)):
             self.assertEqual(ample, Ended(0, "created 3\n", ""))
@@ -110,7 +112,8 @@ class Memory(Case):
                 self.assertIn(ran("check", store), CHECKED[2 * (ended == ample):], where)
 
     def expect_first_part(self, run: str) -> None:
-        """A drill prints a prefix of its output with ample memory, in whole answers; or an answer says that memory ran out."""
+        """Checks that a drill prints a prefix of its output with enough memory, in whole answers, or that an answer reports
+        that memory ran out."""
         given = worked_runs()[run].given
         for where, ample, ended in self.each_refusal(["drill"], lambda: None, given):
             self.assertEqual(ample.status, 0)
@@ -133,7 +136,8 @@ class Start(Case):
     takes = 20
 
     def test_each_allocation_of_a_start(self) -> None:
-        """Refused alone, or with all after it: the server listens, or it says so, prints nothing and leaves its store."""
+        """Each is refused alone, or with all later ones: the server listens, or it reports that, prints nothing and leaves its
+        store unchanged."""
         self.needs("a C compiler", preloaded.has_compiler())
         refusing, store = Refusing(PROGRAM, self.folder), self.made(PAIR)
         content, told, usual = self.read("store"), 0, refusing.ran("check", self.path("none/store"))[1]
@@ -148,8 +152,8 @@ class Start(Case):
         self.assertGreater(told, 10)
 
     def test_each_allocation_of_a_start_in_a_reset(self) -> None:
-        """What was on its way is sent again after the line `listening`, for which the first thread asks for memory: the server
-        says that it has none and ends, or it serves on, and what it has lost is sent once a client asks for that."""
+        """Packets are sent again after the line `listening`, for which the first thread allocates memory. If it runs out, the
+        server reports that and ends; or it continues, and sends the lost packets once a client asks for that."""
         self.needs("a C compiler", preloaded.has_compiler())
         refusing, content = Refusing(PROGRAM, self.folder), stores.store(IN_A_RESET)
         with Serving(self.write("store", content), env=refusing.environment(threads=FIRST_THREAD)):
@@ -161,7 +165,7 @@ class Start(Case):
         self.assertGreater(told, 4)
 
     def lacks_memory(self, content: bytes, environment: dict[str, str]) -> bool:
-        """Whether a server over a store in a reset ends with that."""
+        """Returns whether a server over a store in a reset ends out of memory."""
         try:
             with Serving(self.write("store", content), env=environment) as server:
                 try:
@@ -177,7 +181,7 @@ class Start(Case):
         return True
 
     def start(self, store: str, environment: dict[str, str]) -> Ended | None:
-        """How a server ends that does not listen; None of one that does."""
+        """Returns how a server that does not listen ends, or None for one that listens."""
         try:
             with Serving(store, env=environment, output=self.path("output")):
                 return None
@@ -193,7 +197,8 @@ class Later(Case):
     programs = ("RESETD_SHORT",)
 
     def test_each_allocation_of_its_start(self) -> None:
-        """Each one is refused in turn: the server goes on, or it says so and ends with all that was answered."""
+        """Each allocation is refused in turn: the server continues, or it reports that and ends with everything that was
+        answered."""
         self.needs("a C compiler", preloaded.has_compiler())
         refusing, told = Refusing(SHORT, self.folder), 0
         with self.serving(refusing, 0) as server:
@@ -215,7 +220,7 @@ class Later(Case):
         return Serving(store, program=SHORT, env=refusing.environment(threads=FIRST_THREAD))
 
     def live(self, server: Serving, refusing: Refusing, first: int) -> int:
-        """Makes an instance old, after which this allocation is refused. How many there were by then."""
+        """Makes an instance old, and then refuses this allocation. Returns how many allocations there were by then."""
         with server.connect() as connection:
             numbers = range(1, SHORT_STEPS + 1)
             connection.send(*({"op": "reset", "client": 1, "number": each, "node": 1} for each in numbers))
@@ -226,7 +231,7 @@ class Later(Case):
 
     @staticmethod
     def end(server: Serving) -> Ended:
-        """Closes it, unless it ends."""
+        """Closes the server, unless it ends by itself."""
         try:
             until("a close", lambda: server.ask({"op": "close"}) == {"kind": "closed"})
         except ConnectionError:
@@ -235,8 +240,8 @@ class Later(Case):
 
 
 class Wave(Case):
-    """Each allocation that a thread asks for is refused in turn. A packet that finds no room is kept and taken a little later:
-    the wave comes to its end in as many steps, and nobody has anything sent again."""
+    """Each allocation of one thread is refused in turn. A packet that finds no room is kept and submitted a little later: the
+    wave ends after the same number of steps, and no packet has to be sent again."""
 
     takes = 10
 
@@ -244,7 +249,7 @@ class Wave(Case):
         self.expect_end(FLUSHER, self.read(self.made(PAIR)), is_begun=False, least=20)
 
     def test_one_whose_workers_lack_memory(self) -> None:
-        """They receive the packets that are resent at the start: the packet that the node in a reset has sent."""
+        """The workers receive the packet that the node in a reset has sent, which the start sends again."""
         self.expect_end(WORKERS, stores.store(IN_A_RESET), is_begun=True, least=1)
 
     def expect_end(self, threads: range, content: bytes, *, is_begun: bool, least: int) -> None:
@@ -269,7 +274,7 @@ class Wave(Case):
 
 
 class SentAgain(Case):
-    """A start sends again, once, the packets that may be lost. If memory was refused to it, a client's `resend` sends them."""
+    """A start sends the packets again that may be lost, once. If it runs out of memory, a client's `resend` sends them."""
 
     takes = 20
 
@@ -279,8 +284,8 @@ class SentAgain(Case):
         self.refusing = Refusing(PROGRAM, self.folder)
 
     def first_of_sending(self, content: bytes) -> int:
-        """The number of the first allocation of the first thread after the line `listening`. If it and all later ones are refused, the
-        server has printed that line, and ends as it sends again."""
+        """Returns the number of the first thread's first allocation after the line `listening`. If it and all later ones are
+        refused, the server has printed that line, and ends when it sends packets again."""
         with Serving(self.write("store", content), env=self.refusing.environment(threads=FIRST_THREAD)) as server:
             server.await_rest()
             listens, fails = self.refusing.count() + 1, 0
@@ -293,7 +298,7 @@ class SentAgain(Case):
         return listens
 
     def listens_without(self, content: bytes, first: int) -> bool:
-        """Whether a server listens to which all allocations from this one on are refused."""
+        """Returns whether a server listens if all allocations from this one on are refused."""
         environment = self.refusing.environment(first, ALL, threads=FIRST_THREAD)
         try:
             with Serving(self.write("store", content), env=environment):
@@ -303,8 +308,8 @@ class SentAgain(Case):
             return False
 
     def test_once_at_a_start(self) -> None:
-        """A start makes about as many allocations as a client's `resend`. The world takes no further step, so each sends the same
-        packets."""
+        """A start makes about as many allocations as a client's `resend`. The world takes no further step, so both send the
+        same packets."""
         content = stores.store(stores.longest_world(), version=2)
         first = self.first_of_sending(content)
         with Serving(self.write("store", content), env=self.refusing.environment(threads=FIRST_THREAD)) as server:
@@ -321,7 +326,7 @@ class SentAgain(Case):
         self.assertLess(abs(at_start - by_client), by_client // 3, (at_start, by_client))
 
     def lost_at_a_start(self, content: bytes, wanted: int) -> Serving:
-        """A server whose start has lost all packets, since memory was refused. Its workers and its flusher sleep."""
+        """Returns a server whose start has lost all packets because memory was refused. Its workers and its flusher sleep."""
         first = self.first_of_sending(content)
         for refused in range(first, first + 60):
             server = Serving(self.write("store", content), env=self.refusing.environment(refused, ALL, threads=FIRST_THREAD))
@@ -335,14 +340,15 @@ class SentAgain(Case):
         self.fail("no start has lost its packets")
 
     def test_a_wave_by_a_client(self) -> None:
-        """The flusher sleeps. Nobody asks for anything after the `resend`, and the wave comes to its end all the same."""
+        """The flusher sleeps. Nobody asks for anything after the `resend`, and still the wave ends."""
         server = self.lost_at_a_start(stores.store(IN_A_RESET), 10)
         self.assertEqual(server.ask({"op": "resend"}), {"count": 1, "kind": "resent"})
         self.assertEqual(sorted(server.await_signals(2)), [(1, 1), (2, 1)])
         self.assertEqual(server.close().status, 0)
 
     def test_many_packets_for_one_worker_by_a_client(self) -> None:
-        """Each of the 128 links has an end whose number is divisible by 8, so its data and its receipt go to one worker: 256 packets. None is lost."""
+        """Each of the 128 links has an end whose number is divisible by 8, so one worker gets its data and its receipt: 256
+        packets. None is lost."""
         others = [node for node in range(1, 65) if node % 8]
         pairs = sorted(tuple(sorted((8 * hub, others[(7 * hub + near) % 56]))) for hub in range(1, 9) for near in range(16))
         sent, taken = (0, 0, [stores.IS_READY]), (0, 1, [stores.IS_READY])
@@ -362,8 +368,8 @@ class Waves(Case):
     star = topology([(node, 1) for node in (1, *range(8, 65, 8))], [(1, node) for node in range(8, 65, 8)])
 
     def test_a_flusher_that_lacks_memory_for_a_while(self) -> None:
-        """It comes to its end, and nobody has anything sent again. The refusals fall mostly on flights: that several packets
-        wait together is tried by a full engine (tests_engine, alone.rt)."""
+        """The wave ends, and nobody sends anything again. The refusals mostly hit flights. Packets that wait together are tried
+        with a full engine (tests_engine, alone.rt)."""
         self.needs("a C compiler", preloaded.has_compiler())
         refusing, store = Refusing(PROGRAM, self.folder), self.made(self.star)
         with Serving(store, env=refusing.environment(threads=FLUSHER)) as server:
@@ -376,19 +382,19 @@ class Waves(Case):
 
     @staticmethod
     def has_ended(shown: Answer, epoch: int) -> bool:
-        """Each packet was taken and cleared, of which each link has three in a wave."""
+        """Returns whether each packet was taken and cleared; each link has three in a wave."""
         return all(row[2] == "ready" and row[4] == epoch for row in shown["nodes"]) and \
             shown["settled"] == shown["accepted"] == 17 + epoch * (1 + 2 * 3 * 8)
 
 
 class Kept(Case):
-    """What a server takes of memory it gives back, however long it runs: counted in allocations."""
+    """A server frees the memory that it has used, however long it runs, counted in allocations."""
 
     takes = 5
     programs = ("RESETD", "RESETD_SHORT")
 
     def expect_no_more(self, program: str, store: str, work: Callable[[Serving, int], None], times: int = 16) -> None:
-        """Doing something so often, once it was done a little, keeps fewer allocations than one each time."""
+        """Checks that repeating some work keeps fewer allocations than one for each repetition."""
         self.needs("a C compiler", preloaded.has_compiler())
         refusing = Refusing(program, self.folder)
         with Serving(store, program=program, env=self.environment(refusing)) as server:
@@ -400,17 +406,17 @@ class Kept(Case):
             self.assertEqual(server.close().status, 0)
 
     def environment(self, refusing: Refusing) -> dict[str, str]:
-        """Counts, and waits for no device."""
+        """Returns an environment in which allocations are counted and the device is not waited for."""
         return preloaded.both(preloaded.environment(self.folder, SYNCS_LEFT_OUT=1), refusing.environment())
 
     @staticmethod
     def count_kept(server: Serving, count: Callable[[], int]) -> int:
-        """The memory in use once a server waits for the next client."""
+        """Returns the number of allocations in use once the server waits for the next client."""
         server.ask({"op": "resend"})
         return unchanged(count)
 
     def test_of_a_command(self) -> None:
-        """All of it is given back at the end, however many lines a drill had."""
+        """All memory is freed at the end, however many lines a drill had."""
         self.needs("a C compiler", preloaded.has_compiler())
         refusing, path = Refusing(PROGRAM, self.folder), self.write("store", stores.store(bodies=[batch(1, stores.add(1))]))
         lines = b"add 1 1\nadd 2 1\njoin 1 2\nreset 1\n" + b"show\nresend\ncheck\nfly\nadd 1 1\n#\ncrash\n" * 20
@@ -434,7 +440,8 @@ class Kept(Case):
         self.expect_no_more(PROGRAM, self.made(PAIR), ask)
 
     def test_of_views_of_64_nodes(self) -> None:
-        """More than a thousand of them, of as many nodes and links as there may be, over connections that each ask for several."""
+        """The server shows more than a thousand views of the maximum numbers of nodes and links, over connections that each ask
+        for several."""
         def show(server: Serving, _: int) -> None:
             with server.connect() as connection:
                 connection.send(*[{"op": "show"}] * 16)
@@ -442,7 +449,7 @@ class Kept(Case):
         self.expect_no_more(PROGRAM, self.write("store", stores.store(stores.longest_world(), version=2)), show)
 
     def test_of_a_connection_that_was_torn_off(self) -> None:
-        """By its client: in a line, before a reply, or before it was served."""
+        """Its client resets it: in a line, before a reply, or before it was served."""
         lines = (b'{"op":', b'{"op":"show"}\n' * 20, b'{"op":"reset","client":1,"number":9,"node":1}\n' * 20)
 
         def leave(server: Serving, number: int) -> None:
@@ -455,7 +462,7 @@ class Kept(Case):
         self.expect_no_more(PROGRAM, self.made(PAIR), leave, times=18)
 
     def test_of_signals_that_nobody_reads(self) -> None:
-        """Once a line can't be printed, those after it are not kept: counted in bytes, each time as an instance begins."""
+        """Once a line can't be printed, the later ones are not kept: the bytes are counted at the beginning of each instance."""
         self.needs("a C compiler", preloaded.has_compiler())
         refusing, store = Refusing(SHORT, self.folder), self.made(topology([(1, 1)]))
         kept = []
@@ -469,7 +476,7 @@ class Kept(Case):
                 if first // SHORT_STEPS in (7, 39):
                     kept.append(self.count_kept(server, refusing.kept_bytes))
             self.assertEqual(server.close().status, 3)
-        # the signals between the two are some 16 bytes each
+        # the signals between the two moments take about 16 bytes each
         self.assertLess(kept[1] - kept[0], 32 * SHORT_STEPS * 8, kept)
 
     def test_of_orders_and_waves(self) -> None:
@@ -480,7 +487,7 @@ class Kept(Case):
         self.expect_no_more(PROGRAM, self.made(PAIR), reset)
 
     def test_of_connections_that_are_cut(self) -> None:
-        """Each has more lines than an instance takes. Its descriptor is given back too."""
+        """Each has more lines than an instance takes. Its descriptor is closed too."""
         orders, descriptors = 1, []
 
         def fill(server: Serving, _: int) -> None:
@@ -496,7 +503,7 @@ class Kept(Case):
         self.assertLessEqual(descriptors[-1], descriptors[0] + 2, descriptors)
 
     def test_of_instances(self) -> None:
-        """Each connection has its own."""
+        """Each connection has its own instance."""
         def reset(server: Serving, number: int) -> None:
             with server.connect() as connection:
                 numbers = range(number * SHORT_STEPS + 1, (number + 1) * SHORT_STEPS + 1)

@@ -1,4 +1,4 @@
-"""In which function of a source file a mutant stands, and how the environment chooses one of many."""
+"""Finds the function of a source file that a mutant changes; and how the environment chooses one of many mutants."""
 
 import glob
 import importlib.machinery
@@ -22,7 +22,7 @@ loader.exec_module(plants)
 
 
 class Heads(Case):
-    """In which block of methods a place of a source file stands."""
+    """The block of methods that contains a position of a source file."""
 
     TEXT = """impl Kept {
     fn end(&self) {}
@@ -69,7 +69,7 @@ impl<'a, S: Read> Source for Counted<'a, S> {
 """
 
     def plant(self, *exchanges: tuple[str, str]) -> str:
-        """The source file with a mutant for each of these exchanges."""
+        """Returns the source file with a mutant for each of these exchanges."""
         os.makedirs(f"{self.folder}/crates/low/src")
         for name, text in (("lib.rt", "pub mod counts;\n"), ("counts.rt", self.SOURCE)):
             with open(f"{self.folder}/crates/low/src/{name}", "w", encoding="utf-8") as file:
@@ -124,7 +124,7 @@ fn next_right(count: u64, of: &[(u64, u64)]) -> Option<u64>
 
 
 class Planted(Case):
-    """What `rt plant` lets through, beside the reviewed list."""
+    """The mutants that `rt plant` lets through, compared with the reviewed list."""
 
     TEXT = """proves      src/book.rt:41 OrderBook::hear: { None }
 proves      src/book.rt:60 OrderBook::line: { first(book, 0) }  (and in 2 more impls)

@@ -1,4 +1,4 @@
-"""Orders and other lines: each kind's reply, its repeat and its refusals, and what a start finds in a store."""
+"""Orders and other lines: the reply, the repeat and the refusals of each kind, and what a start finds in a store."""
 
 import itertools
 
@@ -11,7 +11,7 @@ from support.stores import ring, topology
 
 
 class Orders(Served):
-    """Each kind of order, sent, sent again, and refused."""
+    """Each kind of order is sent, sent again, and refused."""
 
     def test_an_order_of_each_kind_is_repeated(self) -> None:
         orders = [("add", {"node": 1, "group": 1}, DONE), ("add", {"node": 2, "group": 1}, DONE),
@@ -22,7 +22,7 @@ class Orders(Served):
                 for _ in range(3):
                     self.assertEqual(server.order(step, op, **members), answered(kind, step))
                 self.assertEqual(server.show()["accepted"], step)
-                # the number was used for another order, and the one before it is gone
+                # the number was used for another order, and the one before it is no longer kept
                 self.assertEqual(server.order(step, "add", node=64, group=1), refused(5, "NumberReused"))
                 self.assertEqual(server.order(step - 1, op, **members), refused(4, "OutOfTurn"))
                 self.assertEqual(server.order(step + 2, op, **members), refused(4, "OutOfTurn"))
@@ -31,7 +31,7 @@ class Orders(Served):
             self.assertEqual(server.signals(), [(1, 1)])
 
     def test_each_kind_by_each_client(self) -> None:
-        """All in one packet; each client has its own nodes, up to the greatest, and its own numbers."""
+        """All are sent in one packet. Each client has its own nodes, up to the greatest, and its own numbers."""
         with Serving(self.made("")) as server, server.connect() as connection:
             step = 0
             for client in range(1, 17):
@@ -52,7 +52,7 @@ class Orders(Served):
             self.assertEqual(server.signals(), [(65 - client, 1) for client in range(1, 17)])
 
     def test_one_link_of_several(self) -> None:
-        """A link goes alone, and is another one when it is joined again."""
+        """One link is dropped, and becomes another one when it is joined again."""
         with Serving(self.made(ring(5))) as server:
             before = server.show()["links"]
             for number, (a, b) in enumerate(((3, 4), (5, 1)), 1):
@@ -105,11 +105,11 @@ class Orders(Served):
         with Serving(self.made(topology(nodes, links))) as server:
             for op, members, answer in refusals:
                 self.assertEqual(server.order(1, op, **members), answer)
-            # a refused order's number stays free
+            # a refused order's number can be used again
             self.assertEqual(server.order(1, "remove", node=18), answered(DONE, len(nodes) + len(links) + 1))
 
     def test_as_many_links_as_there_may_be(self) -> None:
-        """One more is refused, and there is room for it once another one is dropped."""
+        """One more link is refused, and there is room for it once another one is dropped."""
         links = [(node, (node + far - 1) % 64 + 1) for far in (1, 2) for node in range(1, 65)]
         with Serving(self.made(topology([(node, 1) for node in range(1, 65)], links))) as server:
             self.assertEqual(server.order(1, "join", a=1, b=33), refused(14, "LinksFull"))
@@ -118,7 +118,7 @@ class Orders(Served):
             self.assertEqual(server.order(3, "join", a=64, b=2), refused(14, "LinksFull"))
 
     def test_lines_with_a_fault(self) -> None:
-        """Each has its reply, and the connection goes on."""
+        """Each line gets its reply, and the connection continues."""
         lines = {
             b"x" * 513 + b"\n": "TooLong", b"x" * 100_000 + b"\n": "TooLong", b"\xff\n": "BadText", b"{\n": "BadJson",
             b"\n": "BadJson", b"[]\n": "BadRequest", b"{}\n": "BadRequest",
@@ -137,7 +137,7 @@ class Orders(Served):
             b'{"op":"reset","client":1,"number":18446744073709551616,"node":1}\n': "BadRequest",
             b'{"op":"reset","client":1,"number":1,"node":1,"node":65}\n': "BadRequest",
             b'{"op":"drop","client":1,"number":1,"a":1,"b":0}\n': "BadRequest",
-            # of the bytes that are no letters, JSON has but four as spaces
+            # of the bytes that are no letters, JSON accepts only four as spaces
             **{b'{"op":"show"}%c\n' % byte: "BadText" if byte > 127 else "BadJson"
                for byte in (0, 1, 8, 11, 12, 27, 31, 127, 128, 160)},
             b'\0{"op":"show"}\n': "BadJson", b'{"op":\0"show"}\n': "BadJson", b'{"op":"sh\0ow"}\n': "BadJson",
@@ -154,7 +154,7 @@ class Orders(Served):
             self.assertEqual(connection.line(), b'{"count":0,"kind":"resent"}\n')
 
     def test_the_limit_of_a_line(self) -> None:
-        """A line of at most 512 bytes is read, whether it is an order, another request, or no JSON; a carriage return counts."""
+        """A line of at most 512 bytes is read, whether it is an order, another request, or no JSON. A carriage return counts."""
         order, unknown = b'{"op":"reset","client":1,"number":1,"node":1}', refused(6, "UnknownNode")
         with Serving(self.made("")) as server, server.connect() as connection:
             for behind in (b"\n", b"\r\n"):
@@ -182,7 +182,7 @@ class Orders(Served):
                 self.assertEqual((line, connection.line().decode()), (line, answer + "\n"))
 
     def test_the_text_of_every_answer(self) -> None:
-        """Compact, its members in the order of their names."""
+        """It is compact, with its members in the order of their names."""
         with Serving(self.made(topology([(1, 1), (2, 1)], [(1, 2)]))) as server, server.connect() as connection:
             texts: list[tuple[Answer, str]] = [
                 ({"op": "show"}, '{"accepted":3,"links":[[1,2,3]],'
@@ -198,7 +198,7 @@ class Orders(Served):
 
 class Stores(Served):
     def test_a_reset_that_was_begun_before_the_start_goes_on(self) -> None:
-        """What a crash may have lost is sent again, of stores of both versions."""
+        """The packets that a crash may have lost are sent again, for stores of both versions."""
         for version in (1, 2):
             rows = [stores.node(1, stores.ABORT, awaits=[2], version=version), stores.node(2, version=version)]
             lane = (0, 0, [stores.abort(1, version)])
@@ -210,8 +210,8 @@ class Stores(Served):
                 self.assertEqual(stores.version_of(server.store), version)
 
     def test_all_that_may_be_lost_is_sent_again(self) -> None:
-        """A front on each of 256 lanes. Those to the nodes with a number by 8, which one worker has, are to be taken; those
-        from them were taken, and the receipt may be lost."""
+        """There is a front on each of 256 lanes. Those to the nodes whose number is divisible by 8, which belong to one worker,
+        are still to be taken. Those from them were taken, and their receipts may be lost."""
         others = [node for node in range(1, 65) if node % 8]
         pairs = sorted(tuple(sorted((8 * hub, others[(7 * hub + near) % 56]))) for hub in range(1, 9) for near in range(16))
         sent, taken = (0, 0, [stores.IS_READY]), (0, 1, [stores.IS_READY])
@@ -221,13 +221,13 @@ class Stores(Served):
                      for place, (a, b) in enumerate(pairs)]
             content = stores.store(stores.world(1_000, rows, links), version)
             with self.subTest(version=version), Serving(self.write(f"store{version}", content)) as server:
-                # each is taken, unless it was before, and its receipt clears it; nobody asks for it again meanwhile
+                # each is taken, unless it was taken before, and its receipt clears it; nobody sends it again meanwhile
                 until("each packet", lambda: bool(server.show()["settled"] == 1_000 + 128 + 256))
                 self.assertEqual(server.ask({"op": "resend"}), {"count": 0, "kind": "resent"})
                 self.expect_closed(server, 0)
 
     def test_the_longest_texts(self) -> None:
-        """Of as many nodes and links as there may be, with numbers of 13 digits: by `show`, and over the port."""
+        """They have the maximum numbers of nodes and links, with numbers of 13 digits: by `show`, and over the port."""
         most, pairs = stores.MOST_STEPS, [(a, b) for a in range(1, 65) for b in range(a, 65) if b - a in (1, 2, 62, 63)]
         rows = [stores.node(at, epoch=most - at, confirmed=most - 64 - at, version=2) for at in range(1, 65)]
         links = [stores.link(a, b, most - place) for place, (a, b) in enumerate(pairs)]
@@ -241,10 +241,10 @@ class Stores(Served):
             self.expect_closed(server, 0)
 
     def test_packets_between_any_two_nodes(self) -> None:
-        """Each two of the 64 are linked once, as many at a time as there may be. Each lane's front is sent at the start, taken
-        and cleared."""
+        """Each two of the 64 nodes are linked once, as many at a time as possible. The front of each lane is sent at the start,
+        taken and cleared."""
         rows, lane = [stores.node(at, epoch=3, version=2) for at in range(1, 65)], (0, 0, [stores.IS_READY])
-        # those that are as far from each other on a ring stand together, so that no node has more than 16 links at a time
+        # nodes at the same distance on a ring are linked together, so that no node has more than 16 links at a time
         pairs = sorted(itertools.combinations(range(1, 65), 2), key=lambda ends: min(ends[1] - ends[0], 64 + ends[0] - ends[1]))
         for first in range(0, len(pairs), 128):
             some = sorted(pairs[first:first + 128])
@@ -254,11 +254,11 @@ class Stores(Served):
                 self.expect_closed(server, 0)
 
     def test_a_store_that_has_served_for_long(self) -> None:
-        """Great numbers of steps, epochs, packets and orders: a wave goes on from them."""
+        """The numbers of steps, epochs, packets and orders are great, and a wave continues from them."""
         first, second, number, count = 2**39, 2**39 + 7, 2**36, 2**40 - 1_000
         rows = [stores.node(1, epoch=first, confirmed=first - 1, version=2), stores.node(64, epoch=second, version=2)]
         links = [stores.link(1, 64, 2**37, (2**38, 2**38, []), (2**35, 2**35, []))]
-        # the last order of client 3, a reset of node 1, which finished
+        # the last order of client 3 was a reset of node 1, which finished
         session = b"\1\3" + stores.wide(number) + b"\4\1" + stores.wide(number + 9) + b"\2"
         content = stores.store(stores.world(count, rows, links)[:-1] + session, version=2)
         with Serving(self.write("store", content)) as server:
@@ -272,7 +272,8 @@ class Stores(Served):
             self.expect_closed(server, 2)
 
     def test_the_last_steps_of_a_store(self) -> None:
-        """As many resets as steps are left are carried out, though they come together with more; then each order is refused."""
+        """As many resets as there are steps left are carried out, although they arrive together with more. Then each order is
+        refused."""
         left, more = 256, 44
         content = stores.store(stores.world(2**40 - left, [stores.node(1, version=2)]), version=2)
         with Serving(self.write("store", content)) as server:
@@ -281,7 +282,7 @@ class Stores(Served):
                     connection.send(*({"op": "reset", "client": 1, "number": number, "node": 1}
                                       for number in range(1, left + more + 1)))
                     replies = [connection.reply() for _ in range(left + more)]
-                # the first order that is refused leaves its number free, and the others are out of turn
+                # the first order that is refused frees its number, so the others are out of turn
                 refusals = [refused(3, "Exhausted")] * more
                 self.assertEqual(replies[left:], refusals)
                 self.assertEqual(replies[left - 1], answered(FINISHED, 2**40))
@@ -304,7 +305,8 @@ class Stores(Served):
             self.expect_closed(server, 0)
 
     def test_numbers_of_every_size(self) -> None:
-        """Of steps, epochs, packets, links and orders: a wave over a link crosses each power of ten, and some of two."""
+        """The numbers of steps, epochs, packets, links and orders cross each power of ten and some of two in a wave over a
+        link."""
         sizes = [10**power for power in range(1, 13)] + [2**power for power in (8, 12, 15, 16, 20, 24, 28, 31, 32, 33, 36)]
         for size in sizes:
             rows = [stores.node(1, epoch=size - 1, confirmed=size - 2, version=2), stores.node(64, epoch=size, version=2)]

@@ -1,4 +1,4 @@
-"""Unwritable output: `resetd: Write`, and the work is done all the same."""
+"""Output that can't be written: `resetd: Write`, and the work is done nevertheless."""
 
 import contextlib
 import fcntl
@@ -16,7 +16,7 @@ LOST = (3, "resetd: Write\n")
 
 
 def by_shell(redirected: str, *words: str) -> tuple[int, str]:
-    """Runs the program by a shell's redirections: its status, and its fault."""
+    """Runs the program with a shell's redirections. Returns its status and its fault."""
     done = subprocess.run(["sh", "-c", f'exec "$0" "$@" {redirected}', PROGRAM, *words], stdin=subprocess.DEVNULL,
                           capture_output=True, timeout=TIMEOUT)
     return done.returncode, done.stderr.decode()
@@ -24,7 +24,7 @@ def by_shell(redirected: str, *words: str) -> tuple[int, str]:
 
 class Printed(Case):
     def test_a_text_goes_out_in_one_write(self) -> None:
-        """What a command prints, and each answer of a drill: so whoever reads it sees no part of a line."""
+        """This holds for the output of a command and for each answer of a drill, so a reader never sees part of a line."""
         self.needs("a C compiler", preloaded.has_compiler())
         store, network = self.path("store"), self.write("topology", stores.ring(64))
         for words in (["init", store, network], ["check", store], ["show", store], ["migrate", store]):
@@ -33,7 +33,7 @@ class Printed(Case):
         drill = b"add 1 1\nhold\n" + b"reset 1\n" * 50
         pending = "done 1\n" + "".join(f"pending {step}\n" for step in range(2, 52))
         settled = "".join(f"finished {step}\nsignal 1 {step - 1}\n" for step in range(2, 52))
-        # the second piece of the input, whose first one has 512 bytes
+        # the second piece of the input; the first one has 512 bytes
         self.expect_writes(["drill"], drill.ljust(511, b"#") + b"\nflush\n", [pending, f"{settled}settled 51\n"])
         environment = preloaded.environment(self.folder, CALLS=self.path("calls"))
         with Serving(store, env=environment) as server:
@@ -44,7 +44,7 @@ class Printed(Case):
         self.assertEqual(lines, printed.splitlines(keepends=True))
 
     def test_writes_that_are_interrupted_very_often(self) -> None:
-        """Of a command, of a drill, and of a server's first line."""
+        """They are writes of a command, of a drill, and of a server's first line."""
         self.needs("a C compiler", preloaded.has_compiler())
         environment = preloaded.environment(self.folder, WRITE_STORM=15_000)
         store = self.made(PAIR)
@@ -56,7 +56,7 @@ class Printed(Case):
             self.assertEqual(server.close().status, 0)
 
     def test_texts_that_go_out_byte_by_byte(self) -> None:
-        """However long they are: the view of the longest world, and a drill's answer to a flight."""
+        """The texts may be long: the view of the longest world, and a drill's answer to a flight."""
         self.needs("a C compiler", preloaded.has_compiler())
         environment = {**os.environ, **preloaded.environment(self.folder, PIECE=1)}
         store = self.write("store", stores.store(stores.longest_world(), version=2))
@@ -73,7 +73,7 @@ class Printed(Case):
         self.assertEqual(self.writes(), wanted)
 
     def writes(self) -> list[str]:
-        """What each write has printed."""
+        """Returns the text of each write."""
         rows = [line.split(" ") for line in self.read("calls").decode().splitlines()]
         os.remove(self.path("calls"))
         return [bytes.fromhex(text).decode() for name, _, _, text in rows if name == "out"]
@@ -81,7 +81,7 @@ class Printed(Case):
 
 class Unprinted(Case):
     def test_every_command_says_so(self) -> None:
-        """With an output that is full, or closed."""
+        """The output is full, or closed."""
         for redirected in (">/dev/full", ">&-"):
             topology_path, store = self.write("topology", PAIR), self.path("store" + redirected[1:3].replace("/", "f"))
             with self.subTest(output=redirected):
@@ -98,7 +98,7 @@ class Unprinted(Case):
         self.assertEqual(stores.version_of(path), 2)
 
     def test_a_store_is_let_go_before_its_line_is_taken(self) -> None:
-        """Whoever reads what `init` or `migrate` prints may take long: the store can be served meanwhile."""
+        """The reader of the output of `init` or `migrate` may be slow: the store can be served meanwhile."""
         old = stores.store(stores.world(3, [stores.node(1), stores.node(2)], [stores.link(1, 2, 3)]))
         made: list[tuple[str, bytes, list[str]]] = [("init", b"", [self.write("topology", PAIR)]), ("migrate", old, [])]
         for command, before, more in made:
@@ -116,7 +116,7 @@ class Unprinted(Case):
             self.assertEqual((waiting.wait(TIMEOUT), os.read(reader, 100)[-2:]), (0, b"3\n"))
 
     def is_free(self, name: str) -> bool:
-        """Whether the file is a store of version 2 that nobody has locked."""
+        """Returns whether the file is a store of version 2 that nobody has locked."""
         if ran("check", self.path(name)).printed != "legal 3\n" or stores.version_of(self.path(name)) != 2:
             return False
         with open(self.path(name), "rb") as file, contextlib.suppress(BlockingIOError):
@@ -133,7 +133,7 @@ class Unprinted(Case):
         self.assertEqual(by_shell(">/dev/full", "check", path), LOST)
 
     def test_a_store_does_not_take_the_place_of_a_stream(self) -> None:
-        """With some of them closed, output is discarded, and does not reach the file of the store."""
+        """If some streams are closed, their output is discarded, and never written into the store's file."""
         content, topology_path = stores.store(), self.write("topology", PAIR)
         words: dict[str, list[str]] = {"init": [topology_path], "check": [], "show": [], "serve": ["127.0.0.1:0"]}
         for closed in ("<&- >&- 2>&-", ">&- 2>&-", "<&- >&-"):

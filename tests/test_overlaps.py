@@ -1,4 +1,4 @@
-"""Resets that overlap: two or three members that ask at once, and what the server prints until all are ready again."""
+"""Resets that overlap: two or three members ask at the same time, and the server prints signals until all are ready again."""
 
 import collections
 import random
@@ -11,9 +11,9 @@ from support.served import FINISHED, JOINED, STARTED, Served
 from support.serving import Answer, Serving
 from support.stores import topology
 
-RESETS = 125  # of each graph
-ROUNDS = 60  # of resets while links come and go
-FEWEST_OVERLAPS = 10  # times that two resets or more were started before all nodes were ready again, of each graph
+RESETS = 125  # for each graph
+ROUNDS = 60  # with resets while links are dropped and added
+FEWEST_OVERLAPS = 10  # the least number of times that two or more resets were started before all nodes were ready again, for each graph
 
 
 class Asked(NamedTuple):
@@ -25,7 +25,7 @@ class Asked(NamedTuple):
 
 
 class Moment(NamedTuple):
-    """A moment at which all nodes of a group are ready: how many steps are settled, and the epoch of each node."""
+    """A moment at which all nodes of a group are ready: the number of settled steps, and the epoch of each node."""
 
     settled: int
     epochs: dict[int, int]
@@ -37,13 +37,13 @@ class Group:
     def __init__(self, nodes: Iterable[int]) -> None:
         self.nodes = tuple(nodes)
         self.last = Moment(0, dict.fromkeys(self.nodes, 0))
-        self.owed = dict[int, int]()  # nodes that asked and were shown in a reset after that, each with the epoch shown
+        self.owed = dict[int, int]()  # nodes that asked and were later shown in a reset, each with the shown epoch
 
     def rows(self, shown: Answer) -> list[list[Any]]:
         return [row for row in shown["nodes"] if row[0] in self.nodes]
 
     def moment(self, shown: Answer) -> Moment | None:
-        """Returns the moment that a view shows; None if a node of the group is in a reset."""
+        """Returns the moment that a view shows, or None if a node of the group is in a reset."""
         rows = self.rows(shown)
         is_ready = all(row[2] == "ready" for row in rows)
         return Moment(shown["settled"], {row[0]: row[4] for row in rows}) if is_ready else None
@@ -61,7 +61,8 @@ class Overlaps(Served):
     takes = 5
 
     def ask(self, server: Serving, packets: list[list[int]], numbers: collections.Counter[int]) -> list[Asked]:
-        """Asks for a reset of each of these nodes, the nodes of a packet at once, each as a client with the node's number."""
+        """Asks for a reset of each of these nodes; the nodes in one packet ask at the same time. Each is a client with the
+        node's number."""
         asked = []
         with server.connect() as connection:
             for nodes in packets:
@@ -73,7 +74,7 @@ class Overlaps(Served):
 
     def expect_signals(self, server: Serving, group: Group, now: Moment, asked: list[Asked]) -> bool:
         """Checks how many signals of each node of a group were printed between the last two moments at which all were ready.
-        Returns whether two resets or more were started meanwhile."""
+        Returns whether two or more resets were started meanwhile."""
         last, owed, group.last, group.owed = group.last, group.owed, now, {}
         since = [each for each in asked if each.node in group.nodes and last.settled < each.step <= now.settled]
         kinds = collections.Counter(each.kind for each in since)
@@ -91,14 +92,14 @@ class Overlaps(Served):
         return kinds[STARTED] > 1
 
     def printed_up_to(self, server: Serving, now: Moment) -> dict[int, list[int]] | None:
-        """Returns the epochs of each node's printed signals, in order; None if the signal of a present epoch is missing."""
+        """Returns the epochs of each node's printed signals, in order, or None if the signal of a present epoch is missing."""
         signals = server.signals()
         printed = {node: [epoch for signalled, epoch in signals if signalled == node] for node in now.epochs}
         return printed if all(epoch in [0, *printed[node]] for node, epoch in now.epochs.items()) else None
 
     def expect_overlaps(self, groups: list[Group], links: list[tuple[int, int]]) -> None:
-        """Two or three random nodes ask at once, one of them perhaps while the reset of the others runs; and now and then the
-        next ones ask before all are ready."""
+        """Two or three random nodes ask at the same time, and possibly one of them again while the reset of the others runs.
+        Sometimes the next ones ask before all are ready."""
         random.seed(len(links))
         nodes = [(node, group) for group, members in enumerate(groups, 1) for node in members.nodes]
         asked, numbers, overlaps, is_at_rest = list[Asked](), collections.Counter[int](), 0, True
@@ -136,12 +137,12 @@ class Overlaps(Served):
         self.expect_overlaps([Group(range(1, 6))], [(1, node) for node in range(2, 6)])
 
     def test_two_groups_and_a_node_alone(self) -> None:
-        """One group is ready at moments at which another one is in a reset."""
+        """One group is ready at moments at which the other one is in a reset."""
         self.expect_overlaps([Group((1, 2, 3)), Group((5, 6, 7)), Group([9])], [(1, 2), (2, 3), (5, 6), (6, 7), (5, 7)])
 
     def test_links_that_come_and_go(self) -> None:
-        """While links are dropped and added, no node is signalled more often than resets were started and links dropped, and its
-        own resets answered `finished`."""
+        """While links are dropped and added, each node gets at most as many signals as resets were started and links dropped,
+        plus its own resets that were answered `finished`."""
         random.seed(5)
         links = [(node, node % 5 + 1) for node in range(1, 6)]
         group, away, numbers = Group(range(1, 6)), set[tuple[int, int]](), collections.Counter[int]()
@@ -165,7 +166,8 @@ class Overlaps(Served):
             self.assertEqual(server.close().status, 0)
 
     def order_each(self, server: Serving, orders: list[dict[str, Any]], numbers: collections.Counter[int]) -> list[Answer]:
-        """Sends orders at once, each by a client of the number of its node, and returns their replies. A link's order is of client 6."""
+        """Sends orders at the same time, each by the client with its node's number, and returns their replies. An order about a
+        link is sent by client 6."""
         numbered = []
         for order in orders:
             client = order.get("node", 6)
@@ -178,7 +180,7 @@ class Overlaps(Served):
 
 
 class Searches(Case):
-    """All short runs, in models: of the reset rules, and of members while resets overlap."""
+    """All short runs of models: of the reset rules, and of members while resets overlap."""
 
     programs = ()
     takes = 5

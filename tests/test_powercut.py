@@ -1,4 +1,5 @@
-"""The parts of tools/powercut that need no machine: what a cut may leave of a list of writes, the disk, and what a store's bytes say."""
+"""The parts of tools/powercut that need no machine: what a cut may leave of a list of writes, the disk, and how a store's bytes
+are read."""
 
 import os
 import random
@@ -21,7 +22,7 @@ from cutting.verdicts import Looker, verdict_of  # noqa: E402
 
 A, B, C = (letter * 4_096 for letter in (b"a", b"b", b"c"))
 VOLATILE: Volatile = [(0, A), (8_192, A + B), (0, B), (4_096, C)]
-# Four calls in two processes, each of which starts another process, as a machine is, and ends it.
+# Four calls in two processes, each of which starts another process, like a machine, and ends it.
 CALLS = """
 import os, signal, subprocess, sys, time
 sys.path.insert(0, sys.argv[1])
@@ -48,7 +49,7 @@ class Cuts(Case):
         return Cut(random.Random(seed), unit).leave(way, VOLATILE)
 
     def test_each_way_leaves_what_was_written(self) -> None:
-        """Each sector that is left is that of a write, and a unit is of one moment."""
+        """Each sector that is left comes from a write, and a unit comes from one moment."""
         written = [sectors_of(*write) for write in VOLATILE]
         for way in Cut.WAYS:
             for unit in UNITS:
@@ -69,7 +70,7 @@ class Cuts(Case):
         self.assertIn(sectors_of(0, A)[0], [self.left("stale", 512, seed).get(0) for seed in range(20)])
 
     def test_moments(self) -> None:
-        """A flush makes earlier writes durable; markers record answers."""
+        """A flush makes earlier writes durable, and markers record answers."""
         log: list[Entry] = [("marker", "start"), ("write", 0, A), ("marker", "signal 3 7\nleast 12"), ("flush",), ("write", 0, B)]
         found = [(len(at.volatile), at.newly_durable, at.answered, dict(at.signalled), at.phase) for at in moments(log)]
         self.assertEqual(found[1:], [(1, {}, 0, {}, "start"), (1, {}, 12, {3: 7}, "start"), (0, sectors_of(0, A), 12, {3: 7}, "start"),
@@ -86,7 +87,7 @@ class Cuts(Case):
         self.assertEqual(Places(is_near_checkpoints=True).of(log, True), [])
 
     def test_ends_of_checkpoints(self) -> None:
-        """The writes that change the first byte of a store."""
+        """They are the writes that change the first byte of a store."""
         heads = [bytes([selector]) + stores.MAGIC + bytes(SECTOR - 9) for selector in (0, 1, 1, 2)]
         self.assertEqual(ends_of_checkpoints([("write", 8_192, head) for head in heads]), [1, 3])
 
@@ -95,7 +96,7 @@ class Disks(Case):
     programs = ()
 
     def test_what_is_shown(self) -> None:
-        """An image is the durable bytes with some sectors over them; the base is unchanged."""
+        """An image consists of the durable bytes with some sectors over them; the base is unchanged."""
         disk = Disk(self.write("base", bytes(3 * SECTOR)))
         disk.settle({1: b"d" * SECTOR})
         disk.show({2: b"v" * SECTOR})
@@ -106,7 +107,7 @@ class Disks(Case):
         self.assertEqual(self.read("base"), bytes(3 * SECTOR))
 
     def test_over_nbd(self) -> None:
-        """What a client writes, flushes and reads; of what waits together the flush comes first."""
+        """A client writes, flushes and reads. Of requests that wait together, flushes are carried out first."""
         disk = Disk(self.write("base", bytes(4_096)), is_recording=True)
         nbd.serve(disk, self.path("socket"))
         with socket.socket(socket.AF_UNIX) as client:
@@ -128,7 +129,7 @@ class Disks(Case):
 
 class Stores(Case):
     def test_what_a_store_says(self) -> None:
-        """One that was just made, and one of version 1: by their bytes, and by the program."""
+        """A store that was just created, and one of version 1, are read from their bytes, and by the program."""
         path, looker = self.made(stores.TOPOLOGY), Looker(PROGRAM)
         for data, version in ((self.read("store"), 2), (stores.store_of_version_1(), 1)):
             content = stores.read_store(data)
@@ -140,7 +141,7 @@ class Stores(Case):
         self.assertEqual(ran("check", path).printed, f"legal {stores.STEPS_MADE}\n")
 
     def test_nodes_that_are_apart(self) -> None:
-        """Each reset there is the only step that it makes, and no link can be made."""
+        """Each reset there makes only one step, and no link can be made."""
         with Serving(self.made(stores.TOPOLOGY_APART)) as server:
             self.assertEqual(server.order(1, "join", a=1, b=2), {"name": "OtherGroup", "refused": 10})
             for node in range(1, stores.NODES + 1):
@@ -160,7 +161,7 @@ class Workers(Case):
     programs = ()
 
     def test_they_end_with_what_they_have_started(self) -> None:
-        """When the process is stopped, interrupted or killed. No further call begins."""
+        """They end when the process is stopped, interrupted or killed. No further call begins."""
         for number in (signal.SIGTERM, signal.SIGINT, signal.SIGKILL):
             with self.subTest(number.name), subprocess.Popen([sys.executable, "-c", CALLS, tool("powercut")], stdout=subprocess.PIPE,
                                                              stderr=subprocess.DEVNULL, text=True) as process:
@@ -173,7 +174,7 @@ class Workers(Case):
 
 
 def is_alive(pid: int) -> bool:
-    """Whether there is such a process, and it has not ended."""
+    """Returns whether the process exists and has not ended."""
     try:
         with open(f"/proc/{pid}/stat", encoding="utf-8") as file:
             return file.read().rsplit(")", 1)[1].split()[0] != "Z"

@@ -1,4 +1,4 @@
-"""The list of promises, the mutants that break them, and the rule that one name means one thing."""
+"""The list of promises, the mutants that break them, and the rule that each name has one meaning."""
 
 import os
 import pathlib
@@ -19,7 +19,7 @@ class Copied(Case):
     takes = 40
 
     def copy(self) -> pathlib.Path:
-        """A copy of what the list is made of."""
+        """Copies everything from which the list is made."""
         copy = pathlib.Path(self.folder) / "repository"
         for part in ("crates.txt", "docs/PROMISES.md", "docs/names.txt", "docs/retired.txt", "docs/promises.lock", "tools/names", "tools/promises"):
             (copy / part).parent.mkdir(parents=True, exist_ok=True)
@@ -33,7 +33,7 @@ class Copied(Case):
         return copy
 
     def compare(self, copy: pathlib.Path, script: str = "promises") -> tuple[int, str]:
-        """The status and the lines of the comparison."""
+        """Returns the status and the lines of the comparison."""
         ran = subprocess.run([copy / "tools" / script], capture_output=True, text=True, check=False)
         return ran.returncode, ran.stdout + ran.stderr
 
@@ -99,8 +99,8 @@ class Promises(Copied):
 
 
 class Weakened(Copied):
-    """Statements that are weakened: each changes the digest of its file. A bound `Wait`, `Net` or `Threads` weakens most, since a call
-    that need not return meets every clause."""
+    """Weakened statements: each changes the digest of its file. The bounds `Wait`, `Net` and `Threads` weaken most, because a
+    call that need not return meets every clause."""
 
     CASES = (
         ("a command may wait", "coord_commands/src/running.rt", "pub fn run_in<'a, ", "pub fn run_in<'a, T: Wait, "),
@@ -122,7 +122,7 @@ class Weakened(Copied):
         ("a disk's model promises less", "coord_disk/src/disk.rt", "ghost laws: { IsModel model };", "ghost laws: { ⊤ };"),
         ("a field is given away", "coord_ledger/src/ticket.rt", "pub(crate) step: u64", "pub step: u64"),
     )
-    # what changes no statement
+    # changes that leave the statements as they are
     SAME = (
         ("layout", "coord_engine/src/closed.rt", "pub store:", "pub store :"),
         ("a body", "coord_ledger/src/releases.rt", "self.", "self . "),
@@ -130,7 +130,7 @@ class Weakened(Copied):
     )
 
     def stated(self, file: str, text: str) -> str:
-        """What a file of the crates states if this is its text."""
+        """Returns the statements of a file of the crates if this is its text."""
         crate, path = file.split("/")[0], pathlib.Path(self.folder) / "crates" / file
         path.parent.mkdir(parents=True, exist_ok=True)
         path.write_text(text)
@@ -186,7 +186,7 @@ class Broken(Copied):
         self.assertIn("no mutant of refusals/ breaks coord_orders book::OrderBook::hear, which a row cites", said)
 
     def test_a_function_that_is_listed_as_not_tried(self) -> None:
-        """The list has a function that was tried, and one that is in no row."""
+        """The list has a function that was tried, and one that no row cites."""
         copy = self.copy()
         with open(copy / "refusals/not-tried.txt", "a", encoding="utf-8") as file:
             file.write("coord_check search::check\ncoord_check search::nothing\n")
@@ -197,7 +197,7 @@ class Broken(Copied):
 
 
 class Names(Copied):
-    """One name means one thing."""
+    """Each name has one meaning."""
 
     DEFINED = "\nabbrev pub {0} : Type 0\n{0} = Unit {{0}}\n"
 
@@ -224,7 +224,7 @@ class Names(Copied):
         self.assertIn("next_size is defined in coord_commands.specs.Arguments and coord_ledger.specs.machine.Answers", said)
 
     def test_a_name_of_a_crate_aside(self) -> None:
-        """Two crates that don't depend on each other may each have it."""
+        """Two crates that don't depend on each other may have the same name."""
         copy = self.copy()
         self.define(copy, "crates/coord_member/specs/Rule.antt", "next_size")
         status, said = self.compare(copy, "names")
@@ -251,7 +251,7 @@ class Names(Copied):
         self.assertRegex(said, r"Connections\.antt:\d+: Thingummy: write the thing's name \(docs/retired\.txt\)")
 
     def test_a_retired_term_may_be_a_name_of_code(self) -> None:
-        """After `prose of` it is refused in comments and strings alone, in each language."""
+        """After `prose of`, the term is refused only in comments and strings, in each language."""
         copy = self.copy()
         with open(copy / "docs/retired.txt", "a", encoding="utf-8") as retired:
             retired.write("prose of crates,refusals\t\\bxyzzy\\b\tnothing\n")

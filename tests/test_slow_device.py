@@ -1,4 +1,4 @@
-"""A device whose syncs take long: steps that are accepted but not settled show only in a count."""
+"""A device with slow syncs: steps that are accepted but not settled are visible only as a count."""
 
 import sys
 import time
@@ -8,9 +8,9 @@ from support.case import Case, until
 from support.serving import Answer, Connection, Serving, processor_seconds
 from support.stores import ring, topology
 
-SECONDS = 0.4  # of each sync, of which a flight has two
+SECONDS = 0.4  # seconds of each sync; a flight has two
 LONGER = (3.0, 10.0)  # on a busy machine
-WAITED = 2  # seconds for callers, at most
+WAITED = 2  # seconds that a flight waits for callers, at most
 
 
 class Rests(Case):
@@ -47,12 +47,12 @@ class SlowDevice(Case):
         with self.serving(topology([(1, 1)]), LONGER[0]) as server:
             before = processor_seconds(server.process.pid)
             self.assertEqual(server.order(1, "reset", node=1), {"kind": "finished", "step": 2})
-            # an order takes some milliseconds of it, and who spins meanwhile takes 2 * LONGER[0]
+            # an order uses some milliseconds of the processor; a thread that spins meanwhile uses 2 * LONGER[0]
             self.assertLess(processor_seconds(server.process.pid) - before, LONGER[0])
             self.assertEqual(server.close().status, 0)
 
     def test_what_is_shown_and_sent_again_while_a_step_waits(self) -> None:
-        """The packet of a reset is taken at once, and that step waits: the settled world still has the packet on its way."""
+        """The packet of a reset is taken at once, and that step waits: in the settled world the packet is still in transit."""
         tries = (self.in_a_flight(seconds) for seconds in (SECONDS, *LONGER))
         seen = next(filter(None, tries), None)
         if seen is None:
@@ -62,7 +62,7 @@ class SlowDevice(Case):
         self.assertEqual(resent, {"count": 1, "kind": "resent"})
 
     def in_a_flight(self, seconds: float) -> tuple[Answer, Answer] | None:
-        """The views and the resent packets while the second step of a reset waits: None if the machine was too busy."""
+        """Returns the views and the resent packets while the second step of a reset waits, or None if the machine was too busy."""
         with self.serving(topology([(1, 1), (2, 1)], [(1, 2)]), seconds) as server:
             self.assertEqual(server.order(1, "reset", node=1), {"kind": "started", "step": 4})
             with server.connect() as connection:
@@ -80,7 +80,7 @@ class SlowDevice(Case):
         return accepted
 
     def test_no_signal_before_it_is_settled(self) -> None:
-        """Each node of which one is printed is shown in its new epoch."""
+        """Each node with a printed signal is shown in its new epoch."""
         with self.serving(ring(4)) as server:
             self.assertEqual(server.order(1, "reset", node=1)["kind"], "started")
             while len(server.signals()) < 4:
@@ -90,7 +90,7 @@ class SlowDevice(Case):
             self.assertEqual(server.close().status, 0)
 
     def test_callers_that_do_not_come_again(self) -> None:
-        """Callers are waited for as long as a sixteenth of their flight took, by a clock that is advanced during it."""
+        """They are waited for during a sixteenth of their flight's time, by a clock that is advanced during the flight."""
         self.needs("a C compiler", preloaded.has_compiler())
         calls, clock = self.path("calls"), self.write("clock", bytes(8))
         settings = preloaded.environment(self.folder, SYNC_MILLIS=500, CALLS=calls, CLOCK=clock)
@@ -105,7 +105,7 @@ class SlowDevice(Case):
             self.assertEqual(connection.reply()["step"], 4)
 
     def test_a_close_settles_what_was_accepted(self) -> None:
-        """The close of one client does not wait for a wave, and no step of it that was accepted is lost."""
+        """A client's close does not wait for a wave, and no accepted step of the wave is lost."""
         tries = (self.closed_in_a_wave(seconds) for seconds in (1.0, *LONGER))
         closed = next((tried for tried in tries if len(tried[2]) < 4), None)
         if closed is None:
@@ -118,8 +118,9 @@ class SlowDevice(Case):
             self.assertEqual(sorted(signals + rest), [(node, 1) for node in range(1, 5)])
 
     def closed_in_a_wave(self, seconds: float) -> tuple[str, int, list[tuple[int, int]]]:
-        """A close after the order that begins a wave: the store, the count of accepted steps shown before it, and the signals. A
-        wave takes more flights than the one or two that a close settles; on a machine that is too busy it may be over before."""
+        """Closes the server after the order that begins a wave. Returns the store, the number of accepted steps shown before,
+        and the signals. A wave takes more flights than the one or two that a close settles; if the machine is too busy, it
+        may be over before."""
         with self.serving(ring(4), seconds) as server:
             self.assertEqual(server.order(1, "reset", node=1)["kind"], "started")
             accepted = server.show()["accepted"]

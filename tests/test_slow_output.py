@@ -1,4 +1,4 @@
-"""An output that is slow, that is abandoned, and that fills up during the run: the server continues."""
+"""An output that is slow, that loses its reader, or that fills up during the run: the server continues."""
 
 import os
 import subprocess
@@ -18,7 +18,7 @@ class SlowOutput(Case):
     takes = 20
 
     def reset(self, server: Serving, numbers: range) -> None:
-        """Orders over one connection, each of which is answered though nothing is printed."""
+        """Sends orders over one connection. Each is answered although nothing is printed."""
         with server.connect() as connection:
             connection.socket.settimeout(TIMEOUT)
             for first in range(numbers.start, numbers.stop, 250):
@@ -28,7 +28,7 @@ class SlowOutput(Case):
                     self.assertEqual(connection.reply(), {"kind": "finished", "step": number + 1})
 
     def test_an_output_that_is_not_read(self) -> None:
-        """A slow output holds up no answer. After the close the server ends only once all is printed."""
+        """A slow output delays no answer. After a close, the server ends only once everything is printed."""
         with Piped(self.made(topology([(1, 1)], half=stores.HALF))) as server:
             self.reset(server, range(1, MANY_SIGNALS + 1))
             self.assertEqual(server.ask({"op": "close"}), {"kind": "closed"})
@@ -39,7 +39,7 @@ class SlowOutput(Case):
             self.assertEqual(server.ended(), Ended(0, wanted, ""))
 
     def test_a_reader_that_leaves(self) -> None:
-        """No more is printed, and the close ends with Write."""
+        """Nothing more is printed, and a close ends the server with Write."""
         with Piped(self.made(topology([(1, 1)]))) as server:
             self.reset(server, range(1, 4))
             server.leave()
@@ -49,7 +49,7 @@ class SlowOutput(Case):
             self.assertEqual((ended.status, ended.told), (3, "resetd: Write\n"))
 
     def test_a_last_line_that_no_one_takes(self) -> None:
-        """One signal alone is not printed, and no other comes after it."""
+        """Only one signal is not printed, and no other follows it."""
         with Piped(self.made(topology([(1, 1)]))) as server:
             server.leave()
             self.reset(server, range(1, 2))
@@ -64,7 +64,7 @@ class SlowOutput(Case):
             self.assertEqual((server.ended().status, server.ended().told), (3, "resetd: Write\n"))
 
     def test_an_output_that_is_full_in_the_midst(self) -> None:
-        """A line is torn, no more are printed, and the close ends with Write; the next start prints again."""
+        """A line is torn, no more lines are printed, and a close ends the server with Write. The next start prints again."""
         store = self.made(topology([(1, 1)]))
         first = len("listening 127.0.0.1:12345\n")
         most = 1_000_000

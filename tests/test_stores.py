@@ -34,7 +34,7 @@ UNAWAITED = world(3, PAIR, [link(1, 2, 3, back=(0, 0, [ACK]))])
 
 
 def world_of_two(low: bytes, high: bytes, there: stores.Lane = stores.NO_LANE, back: stores.Lane = stores.NO_LANE) -> bytes:
-    """A world of version 1 with the nodes 2 and 64, after 4 steps."""
+    """Returns a world of version 1 with the nodes 2 and 64, after 4 steps."""
     return world(4, [low, high], [link(2, 64, 3, there, back)])
 
 
@@ -55,47 +55,47 @@ VIOLATED = [
     ("2 64 F", world_of_two(node(2, CONVERGE, 64), node(64, CONVERGE, 2))),
     ("2 64 G", world_of_two(WAITS_2, QUIET_64, (0, 0, [IS_READY]), (0, 0, [ACK]))),
 ]
-# The same of worlds of version 1, beside each the legal one that is nearest to it.
+# The same for worlds of version 1, each next to the legal world that is closest to it.
 TOLD = [
-    # node 2 is Abort and awaits nobody; of two such nodes the one with the lesser number
+    # node 2 is Abort and awaits nobody; of two such nodes the one with the smaller number is reported
     ("violated 2 2 N", world(3, [node(1), node(2, ABORT)], [link(1, 2, 3)])),
     ("violated 1 1 N", world(3, [node(1, ABORT), node(2, ABORT)], [link(1, 2, 3)])),
     # a message was taken on an empty lane
     ("violated 2 1 A", world(3, PAIR, [link(1, 2, 3, back=(0, 1, []))])),
-    # an Ack that nobody awaits: it is a fault as the node sees it to which it goes
+    # an Ack that nobody awaits: a fault of the node that will receive it
     ("violated 1 2 B", world(3, PAIR, [link(1, 2, 3, back=(0, 0, [ACK]))])),
-    # two Readies; of two such links the one with the lesser ends
+    # two Readies; of two such links the one with the smaller ends is reported
     ("violated 1 2 C", world(3, PAIR, [link(1, 2, 3, (0, 0, [IS_READY, IS_READY]))])),
     ("violated 1 2 C", world(5, [node(1), node(2), node(3)],
                              [link(1, 2, 4, (0, 0, [IS_READY, IS_READY])), link(2, 3, 5, (0, 0, [IS_READY, IS_READY]))])),
-    # a Ready after the Abort that node 1 sent; before it, it is right
+    # a Ready after the Abort that node 1 sent; before it, it would be right
     ("violated 1 2 D", world(3, [node(1, ABORT, awaits=[2]), node(2)], [link(1, 2, 3, (0, 0, [abort(), IS_READY]))])),
     ("legal 3", world(3, [node(1, ABORT, awaits=[2]), node(2, CONVERGE, 1)], [link(1, 2, 3, (0, 0, [IS_READY, abort()]))])),
     # node 2 is Converge with parent 1, which is Ready and has no Ready on the way
     ("violated 1 2 E", world(3, [node(1), node(2, CONVERGE, 1)], [link(1, 2, 3)])),
     # mutual parents
     ("violated 1 2 F", world(3, [node(1, CONVERGE, 2), node(2, CONVERGE, 1)], [link(1, 2, 3)])),
-    # node 1 is in a reset, with parent 3, and has a Ready on the way to node 2
+    # node 1 is in a reset, with parent 3, and has a Ready in transit to node 2
     ("violated 1 2 G", world(5, [node(1, CONVERGE, 3), node(2), node(3, ABORT, awaits=[1])],
                              [link(1, 2, 4, (0, 0, [IS_READY])), link(1, 3, 5, (0, 0, [ACK]))])),
-    # three nodes, each the parent of the next, round in a circle: each awaits the next one for ever
+    # three nodes, each the parent of the next, in a circle: each awaits the next one forever
     ("legal 6", world(6, [node(1, ABORT, 3, awaits=[2]), node(2, ABORT, 1, awaits=[3]), node(3, ABORT, 2, awaits=[1])],
                       [link(1, 2, 4), link(1, 3, 5), link(2, 3, 6)])),
 ]
 ASKED = [node(1, ABORT, awaits=[2], version=2), node(2, version=2)]
 # Worlds of version 2, and what `check` says of them.
 TOLD_OF_DISTANCES = [
-    # a miscount comes before an Abort that carries 2 from distance 0, though it is of the other lane
+    # a miscount is reported before an Abort that carries 2 from distance 0, although it is on the other lane
     ("violated 2 1 A", world(4, ASKED, [link(1, 2, 3, (0, 0, [abort(2, 2)]), (0, 1, []))])),
-    # without it that Abort is reported; 1 is right
+    # without the miscount, that Abort is reported; 1 would be right
     ("violated 1 2 H", world(4, ASKED, [link(1, 2, 3, (0, 0, [abort(2, 2)]))])),
     ("legal 4", world(4, ASKED, [link(1, 2, 3, (0, 0, [abort(1, 2)]))])),
     # a child of node 1 at distance 2, which has acknowledged
     ("violated 1 2 H", world(4, [ASKED[0], node(2, CONVERGE, 1, distance=2, version=2)], [link(1, 2, 3, back=(0, 0, [ACK]))])),
-    # a Ready to it is on the way, and it may be anywhere
+    # a Ready to it is in transit, and it may be anywhere
     ("legal 4", world(4, [node(1, epoch=1, version=2), node(2, CONVERGE, 1, distance=2, version=2)],
                       [link(1, 2, 3, (0, 0, [IS_READY]))])),
-    # a node in a reset at the distance of the count
+    # a node in a reset, at a distance equal to the count
     ("violated 2 2 N", world(4, [ASKED[0], node(2, CONVERGE, 1, distance=4, version=2)], [link(1, 2, 3, back=(0, 0, [ACK]))])),
     # the circle of three nodes: the distance rises from 1 to 2 and from 2 to 3, and not from 3 to 1
     ("violated 3 1 H", world(6, [node(1, ABORT, 3, awaits=[2], version=2), node(2, ABORT, 1, awaits=[3], distance=1, version=2),
@@ -105,7 +105,7 @@ TOLD_OF_DISTANCES = [
 
 
 def in_reset(at: int, other: int, version: int = 1) -> bytes:
-    """A legal world of two nodes, one of which has just begun a reset."""
+    """Returns a legal world of two nodes, one of which has just begun a reset."""
     lane = (0, 0, [abort(1, version)])
     rows = {at: node(at, ABORT, awaits=[other], version=version), other: node(other, version=version)}
     lanes = (lane, stores.NO_LANE) if at < other else (stores.NO_LANE, lane)
@@ -123,7 +123,7 @@ class Refused(Case):
                     self.assertEqual(self.read("store"), content)
 
     def test_a_file_that_is_not_there(self) -> None:
-        """The file is made, and is no store."""
+        """The file is created, and is no store."""
         for command, more in COMMANDS.items():
             with self.subTest(command=command):
                 self.assertEqual(ran(command, self.path(command), *more), faulted(1, "NoMagic"))
@@ -137,7 +137,7 @@ class Refused(Case):
         self.assertEqual(os.listdir(self.folder), [])
 
     def test_what_is_no_file(self) -> None:
-        """The program says so before it opens it: to open a pipe would wait for somebody at its other end."""
+        """The program reports that before it opens the file: opening a pipe would wait for its other end."""
         pipe, ring = self.path("pipe"), self.write("ring.toml", stores.ring(3))
         os.mkfifo(pipe)
         os.symlink(pipe, self.path("name"))
@@ -150,7 +150,7 @@ class Refused(Case):
         self.assertTrue(stat.S_ISFIFO(os.stat(pipe).st_mode))
 
     def test_a_link_to_a_store_is_that_store(self) -> None:
-        """One that leads nowhere is no file, and none is made."""
+        """A link that leads nowhere is reported as missing, and no file is created."""
         os.symlink("store", self.path("name"))
         for command, more in {**COMMANDS, "init": [self.write("ring.toml", stores.ring(3))]}.items():
             self.assertEqual(ran(command, self.path("name"), *more), faulted(3, "Device"))
@@ -165,7 +165,7 @@ class Refused(Case):
         self.assertTrue(os.path.islink(self.path("name")))
 
     def test_names_of_all_kinds(self) -> None:
-        """Long ones, and such as have spaces and other letters, below a folder or the folder that the program is in."""
+        """The names are long, or have spaces and other characters, in a folder or in the present one."""
         ring = self.write("ring.toml", stores.ring(3))
         folder = self.path("/".join(["l" * 200] * 12))
         os.makedirs(folder)
@@ -188,7 +188,7 @@ class Refused(Case):
                     self.assertEqual(server.close().status, 0)
 
     def test_names_that_begin_or_end_in_a_blank(self) -> None:
-        """Each names its own file: another one, whose name has no blank, lies beside it."""
+        """Each of them names its own file: another file, whose name has no blank, is next to it."""
         self.made(stores.ring(3))
         for number, name in enumerate(("store ", " store", "store  ", "\tstore", "store\t", "store\n"), 4):
             content = self.read("store")
@@ -203,7 +203,7 @@ class Refused(Case):
                 self.assertEqual(self.read("store"), content)
 
     def test_a_world_that_is_not_legal(self) -> None:
-        """`check` alone says where, and nothing is written."""
+        """Only `check` says where the violation is, and nothing is written."""
         path = self.write("store", stores.store(UNAWAITED))
         self.assertEqual(ran("check", path), Ended(1, "violated 1 2 B\n", ""))
         for command in ("show", "migrate", "serve"):
@@ -228,7 +228,7 @@ class Checked(Case):
                     self.assertEqual(self.check(snapshot, version), Ended(int(line[0] == "v"), f"{line}\n", ""))
 
     def test_a_distance_that_differs(self) -> None:
-        """A distance is reported after a fault of an earlier letter, even at the other end."""
+        """A wrong distance is reported after a fault of an earlier predicate, even one at the other end."""
         rows = [node(2, ABORT, awaits=[64], version=2), node(64, version=2)]
         queue = (0, 0, [abort(3, 2)])
         self.assertEqual(self.check(world(4, rows, [link(2, 64, 3, queue)]), 2), Ended(1, "violated 2 64 H\n", ""))
@@ -278,7 +278,7 @@ class Migrated(Case):
                 self.assertEqual(ran("check", path), Ended(0, f"legal {count}\n", ""))
 
     def test_halves_of_every_size(self) -> None:
-        """The world is written into the second half, wherever that begins, and is there at the next start."""
+        """The world is written into the second half, wherever that begins, and is read at the next start."""
         for half in (32_768, 100_003, 16_777_216):
             path = self.write("store", stores.store(bodies=[batch(1, add(64))], half=half))
             with self.subTest(half=half):
@@ -287,7 +287,7 @@ class Migrated(Case):
                 self.assertEqual(ran("show", path), Ended(0, "view 1 1\nnode 64 1 ready 0 0 0\n", ""))
 
     def test_one_in_which_a_reset_came_to_its_end(self) -> None:
-        """The store has one batch a step: two nodes, their link, the reset, and the steps of its wave."""
+        """The store has one batch for each step: two nodes, their link, the reset, and the steps of its wave."""
         started = [add(1), add(2, number=2), order(3, 2, 1, 2), order(4, 4, 1)]
         ended = [take(1, 2, 3, 1, abort()), take(2, 1, 3, 1, ACK), clear(1, 2, 3, 1), take(1, 2, 3, 2, IS_READY)]
         self.assertEqual(ran("migrate", self.store_of(started)), faulted(1, "NotQuiet 1"))
@@ -300,12 +300,12 @@ class Migrated(Case):
         self.assertEqual((ran("migrate", path), self.read("store")), (Ended(0, "migrated 8\n", ""), raised))
 
     def store_of(self, steps: Sequence[bytes], snapshot: bytes = stores.EMPTY_WORLD, count: int = 0) -> str:
-        """A store of version 1 whose snapshot, after this many steps, is followed by these."""
+        """Returns a store of version 1 whose snapshot, after this many steps, is followed by these."""
         bodies = [batch(number, step) for number, step in enumerate(steps, count + 1)]
         return self.write("store", stores.store(snapshot, bodies=bodies))
 
     def test_a_circle_of_parents_is_opened_first(self) -> None:
-        """Three nodes are each the parent of the next, and each await the next one: no wave ends there but by a drop."""
+        """Three nodes are each the parent of the next, and each awaits the next: a wave ends there only by a drop."""
         rows = [node(1, ABORT, 3, awaits=[2]), node(2, ABORT, 1, awaits=[3]), node(3, ABORT, 2, awaits=[1])]
         circle = world(6, rows, [link(1, 2, 4), link(1, 3, 5), link(2, 3, 6)])
         path = self.store_of([], circle, 6)
@@ -325,7 +325,7 @@ class Migrated(Case):
             self.assertEqual(self.read("store"), content)
 
     def test_a_node_in_a_reset(self) -> None:
-        """The lowest one is reported, and nothing is written."""
+        """The node with the lowest number is reported, and nothing is written."""
         for at, other in ((1, 2), (2, 1), (1, 64), (64, 1), (63, 64), (64, 63)):
             content = stores.store(in_reset(at, other))
             path = self.write("store", content)
@@ -343,7 +343,7 @@ class Migrated(Case):
 
 class Limits(Case):
     def test_the_longest_legal_world(self) -> None:
-        """All nodes are in a reset, and on each lane are an Abort that was taken, a Ready and an Abort."""
+        """All nodes are in a reset, and each lane has an Abort that was taken, a Ready and an Abort."""
         longest = stores.longest_world()
         self.assertEqual(len(longest), 13_259)
         content = stores.store(longest, version=2)
@@ -355,7 +355,7 @@ class Limits(Case):
         self.assertEqual((lines[:65], len(lines)), ([f"view {stores.MOST_STEPS} {stores.MOST_STEPS}", *rows], 1 + 64 + 128))
 
     def test_a_world_at_the_limits_is_raised(self) -> None:
-        """All nodes are Ready, and on each lane are a message that was taken and a Ready."""
+        """All nodes are Ready, and each lane has a message that was taken and a Ready."""
         def ready(version: int) -> bytes:
             rows = [node(number, epoch=512 + number, confirmed=256 + number, version=version) for number in range(1, 65)]
             front = (abort(0, version), ACK, IS_READY)

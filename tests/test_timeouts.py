@@ -1,4 +1,4 @@
-"""For how long the server waits for a client: each time of docs/OPERATING.md, against a client that provokes it."""
+"""How long the server waits for a client: each timeout of docs/OPERATING.md, with a client that provokes it."""
 
 import contextlib
 import os
@@ -21,7 +21,7 @@ RESENT = b'{"count":0,"kind":"resent"}\n'
 
 
 def await_end(connection: Connection) -> bytes:
-    """Waits until the server has ended a connection: its output meanwhile."""
+    """Waits until the server has ended a connection. Returns its output meanwhile."""
     connection.socket.settimeout(SILENCE + LATE + 2)
     said = b""
     with contextlib.suppress(ConnectionResetError):
@@ -31,13 +31,13 @@ def await_end(connection: Connection) -> bytes:
 
 
 def ends_of(connection: Connection) -> tuple[int, int]:
-    """The ports of a connection, the client's and the server's."""
+    """Returns the ports of a connection, the client's and the server's."""
     return connection.socket.getsockname()[1], connection.socket.getpeername()[1]
 
 
 def kept(client: int, server: int) -> tuple[int, int] | None:
-    """How many bytes the system keeps for a connection, by its ports: those that the server has sent to a client that does not
-    read, and those that the client has sent and the server has not read. None if the connection is over."""
+    """Returns how many bytes the system buffers for a connection, by its ports: those that the client has not read yet, and
+    those that the server has not read yet. None if the connection is over."""
     with open("/proc/net/tcp", encoding="ascii") as rows:
         for row in rows:
             words = row.split()
@@ -48,13 +48,13 @@ def kept(client: int, server: int) -> tuple[int, int] | None:
 
 
 def backlog(client: int, server: int) -> int | None:
-    """The bytes that a client does not read; None if the connection is over."""
+    """Returns the number of bytes that a client has not read, or None if the connection is over."""
     sizes = kept(client, server)
     return sizes[0] if sizes else None
 
 
 def waits(server: Serving, connection: Connection) -> bool:
-    """Whether the server has read all that the client has sent, and each of its threads waits."""
+    """Returns whether the server has read everything that the client has sent, and each of its threads waits."""
     sizes = kept(*ends_of(connection))
     if sizes is None or sizes[1]:
         return False
@@ -74,7 +74,8 @@ class Timeouts(Case):
         return Serving(self.made(ring(nodes) if nodes > 2 else topology([(1, 1)])), env=env)
 
     def expect_within(self, seconds: float, begun: float, server: Serving, early: float = 0) -> None:
-        """The wait took as long as that since before the client did its part, and the server serves the next client."""
+        """Checks that the wait took as long as this timeout since before the client acted, and that the server serves the next
+        client."""
         took = time.monotonic() - begun
         self.assertGreaterEqual(took, seconds - early)
         self.assertLess(took, seconds + LATE)
@@ -98,7 +99,7 @@ class Timeouts(Case):
             self.expect_within(SILENCE, begun, server)
 
     def test_a_second_client_that_says_nothing(self) -> None:
-        """One that waits meanwhile has its turn then, and its own time."""
+        """A client that waits meanwhile is served then, with its own timeout."""
         with self.serving() as server, server.connect() as first, server.connect() as second:
             first.send(SHOW)
             first.line()
@@ -110,7 +111,7 @@ class Timeouts(Case):
             self.expect_within(SILENCE, begun, server)
 
     def test_a_line_that_trickles(self) -> None:
-        """A byte each half second: the line's time begins with its first byte."""
+        """The client sends a byte each half second: the line's timeout begins with its first byte."""
         for first in (list[Answer](), [SHOW]):
             with self.subTest(behind=first), Serving(self.made(topology([(1, 1)]), f"store{len(first)}")) as server, \
                     server.connect() as connection:
@@ -119,7 +120,7 @@ class Timeouts(Case):
                 self.expect_within(LINE, begun, server)
 
     def trickle(self, connection: Connection) -> float:
-        """Sends a byte each half second until the server ends the connection: since when."""
+        """Sends a byte each half second until the server ends the connection. Returns when it began."""
         connection.socket.settimeout(0.5)
         begun = time.monotonic()
         while time.monotonic() < begun + LINE + LATE + 2:
@@ -135,7 +136,7 @@ class Timeouts(Case):
         return begun
 
     def test_the_rest_of_a_line(self) -> None:
-        """A first part, and then nothing. It is not answered as the last line of a client that sends no more is."""
+        """The client sends a first part and then nothing. It is not answered like the last line of a client that sends no more."""
         with self.serving() as server, server.connect() as connection:
             begun = time.monotonic()
             connection.send(b'{"op":"sh')
@@ -143,8 +144,8 @@ class Timeouts(Case):
             self.expect_within(LINE, begun, server)
 
     def test_each_part_of_a_reply_has_what_is_left(self) -> None:
-        """Before each write the system's timeout is set again, so output that goes byte by byte has as much time as
-        output that goes at once."""
+        """Before each write the system's timeout is set again, so a reply that is sent byte by byte has as much time as one
+        that is sent at once."""
         self.needs("a C compiler", preloaded.has_compiler())
         log = self.path("calls")
         environment = preloaded.environment(self.folder, CALLS=log, WAITS=1, PIECE=1)
@@ -159,8 +160,8 @@ class Timeouts(Case):
         self.assertEqual(told, ["write-within", "out"] * written)
 
     def test_the_times_that_the_system_is_told(self) -> None:
-        """If a read or a write has another timeout than the last one: the rest of the time of a line that has begun, not that of
-        a silence. The clock stands still, and is advanced by a second between two parts of the input."""
+        """A timeout is set if a read or a write has another one than the last: the rest of the time of a line that has begun,
+        not that of a silence. The clock stands still, and is advanced by a second between two parts of the input."""
         self.needs("a C compiler", preloaded.has_compiler())
         log = self.path("calls")
         environment = preloaded.environment(self.folder, CALLS=log, WAITS=1, STILL=1, CLOCK=self.clock(0))
@@ -180,7 +181,7 @@ class Timeouts(Case):
             self.assertEqual(server.ended().status, 0)
 
     def expect_times(self, log: str, wanted: list[int]) -> None:
-        """Exactly these are set next, in seconds, a write's as a negative number."""
+        """Checks that exactly these timeouts are set next, in seconds, those of writes as negative numbers."""
         def find_times() -> tuple[list[tuple[str, float]], int] | None:
             with open(log, encoding="ascii") as calls:
                 rows = [line.split(" ") for line in calls.readlines()[self.told:]]
@@ -191,7 +192,7 @@ class Timeouts(Case):
         self.assertEqual(times, [("read-within" if each > 0 else "write-within", abs(each)) for each in wanted])
 
     def test_lines_that_are_slow_but_in_time(self) -> None:
-        """Each takes some seconds, and all more than any one time."""
+        """Each takes some seconds, and all together more than any single timeout."""
         with self.serving() as server, server.connect() as connection:
             for _ in range(4):
                 for part in (b'{"op"', b':"resend', b'"}\n'):
@@ -200,7 +201,7 @@ class Timeouts(Case):
                 self.assertEqual(connection.line(), b'{"count":0,"kind":"resent"}\n')
 
     def test_a_client_that_talks(self) -> None:
-        """A line each second, for longer than a silence may last."""
+        """It sends a line each second, for longer than a silence may last."""
         with self.serving() as server, server.connect() as connection:
             for _ in range(SILENCE + 5):
                 connection.send({"op": "resend"})
@@ -208,7 +209,7 @@ class Timeouts(Case):
                 time.sleep(1)
 
     def test_replies_that_are_not_taken(self) -> None:
-        """Views of a large ring fill what the system keeps for a client; ten seconds later the next one has its turn."""
+        """Views of a large ring fill the system's buffers for a client. Ten seconds later the next client is served."""
         self.needs("a C compiler", preloaded.has_compiler())
         with self.serving(64, env=preloaded.environment(self.folder, SEND_BUFFER=4_096)) as server, \
                 server.connect(buffer=4_096) as connection, server.connect() as second:
@@ -229,7 +230,7 @@ class Timeouts(Case):
                 except TimeoutError:
                     continue
             self.assertGreater(size, 0)
-            # what the system has taken since of a reply that waits makes its time no longer
+            # what the system has accepted since then of a waiting reply does not extend its time
             self.expect_within(REPLY, moved, server, early=4)
             sender.join()
 
@@ -241,8 +242,8 @@ class Timeouts(Case):
             pass
 
     def test_a_connection_that_lasts(self) -> None:
-        """By a clock that is put forward. It is looked at before a line is waited for, so one more line may be answered.
-        The second client has as long as the first one, and so has one that comes after years, and the next one."""
+        """The clock is advanced. The limit is checked before the server waits for a line, so one more line may be answered. The
+        second client has as long as the first one, and so has a client that connects years later, and the next one."""
         self.needs("a C compiler", preloaded.has_compiler())
         with self.serving(env=preloaded.environment(self.folder, CLOCK=self.clock(0))) as server:
             for begun in (0, 10_000, 300_000_000, 300_010_000):
@@ -257,7 +258,7 @@ class Timeouts(Case):
                     self.assertLessEqual(self.served_to_the_end(connection), 1)
 
     def test_a_connection_that_lasts_with_half_a_line(self) -> None:
-        """The same of a client that has begun a line whenever it is waited for."""
+        """The same for a client that has always begun a line when the server waits for it."""
         self.needs("a C compiler", preloaded.has_compiler())
         environment = preloaded.environment(self.folder, CLOCK=self.clock(0))
         with self.serving(env=environment) as server, server.connect() as connection:
@@ -273,7 +274,8 @@ class Timeouts(Case):
             self.assertLessEqual(self.served_to_the_end(connection, HALVES[1] + HALVES[0]), 1)
 
     def test_a_line_that_begins_behind_a_slow_one(self) -> None:
-        """The next line has its own time, which begins with its own first byte, though that came with the end of the other."""
+        """The next line has its own time, which begins with its own first byte, although that arrived with the end of the
+        previous line."""
         self.needs("a C compiler", preloaded.has_compiler())
         environment = preloaded.environment(self.folder, CLOCK=self.clock(0), STILL=1)
         with self.serving(env=environment) as server, server.connect() as connection:
@@ -286,8 +288,9 @@ class Timeouts(Case):
                 self.assertEqual(connection.line(), RESENT)
 
     def test_a_line_that_begins_before_the_reply_to_another(self) -> None:
-        """The server's work between two lines is not the client's time: a line whose beginning it read before it replied to the
-        one ahead has its time from that reply on. Each read takes six seconds here: one after the reply leaves it time."""
+        """The server's work between two lines does not count as the client's time: a line whose beginning it read before it
+        replied to the previous one has its time from that reply on. Each read takes six seconds here, which leaves time for
+        one after the reply."""
         self.needs("a C compiler", preloaded.has_compiler())
         order, half = b'{"op":"reset","client":1,"number":1,"node":1}\n', b'{"op":'
         with self.serving(env=preloaded.environment(self.folder, STILL=1, READ_SECONDS=6)) as server, \
@@ -301,8 +304,8 @@ class Timeouts(Case):
             self.assertEqual(connection.line(), RESENT)
 
     def test_lines_that_are_read_slowly(self) -> None:
-        """Each line has its own time, even if the server reads for long before it replies: 250 orders, sent at once, are answered
-        by one whose reads take a second each."""
+        """Each line has its own time, even if the server reads for long before it replies: 250 orders, sent at once, are
+        answered by a server whose reads take a second each."""
         self.needs("a C compiler", preloaded.has_compiler())
         orders: list[Answer] = [{"op": "reset", "client": 1, "number": number, "node": 1} for number in range(1, 251)]
         with self.serving(env=preloaded.environment(self.folder, STILL=1, READ_SECONDS=1)) as server, \
@@ -313,8 +316,8 @@ class Timeouts(Case):
                 self.assertEqual(connection.line(), b'{"kind":"finished","step":%d}\n' % (number + 1))
 
     def test_waits_that_are_interrupted(self) -> None:
-        """Again and again, as by stops of the process. Each goes on, and by a clock that is only put forward as long as it may. A
-        connection that is given up keeps no descriptor."""
+        """They are interrupted repeatedly, as by stops of the process. Each wait continues, and lasts as long as it may by a
+        clock that is only advanced. A connection that is given up keeps no descriptor."""
         self.needs("a C compiler", preloaded.has_compiler())
         with self.serving(env=preloaded.environment(self.folder, CLOCK=self.clock(0), STILL=1, STOPS=1)) as server:
             descriptors = os.listdir(f"/proc/{server.process.pid}/fd")
@@ -331,7 +334,7 @@ class Timeouts(Case):
             self.assertLessEqual(len(os.listdir(f"/proc/{server.process.pid}/fd")), len(descriptors) + 1)
 
     def expect_nothing(self, connection: Connection) -> None:
-        """For some time the server prints nothing and keeps the connection."""
+        """Checks that for some time the server prints nothing and keeps the connection."""
         connection.socket.settimeout(0.5)
         with self.assertRaises(TimeoutError):
             connection.socket.recv(1)
@@ -344,7 +347,7 @@ class Timeouts(Case):
 
     @staticmethod
     def served_to_the_end(connection: Connection, text: bytes = b'{"op":"resend"}\n') -> int:
-        """How many lines are answered before the connection is ended, three at most."""
+        """Returns how many lines are answered before the connection is ended, at most three."""
         with contextlib.suppress(ConnectionError):
             for served in range(3):
                 connection.send(text)

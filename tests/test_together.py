@@ -1,4 +1,4 @@
-"""Orders that are sent together share flights, counted by the syncs of the file, of which a flight has two."""
+"""Orders that are sent together share flights. The flights are counted by the syncs of the file: each has two."""
 
 import contextlib
 import functools
@@ -20,10 +20,10 @@ sys.path.insert(0, f"{ROOT}/client")
 from resetd_client import Gateway, Orders, Port  # noqa: E402
 from resetd_client import Served as Seat  # noqa: E402
 
-HALF = 1 << 20  # so large that nothing is moved to the other half meanwhile
+HALF = 1 << 20  # so large that no checkpoint is made meanwhile
 NODES = range(1, 65)
-AT_A_START, AT_A_FLIGHT = 2, 2  # how many syncs there are
-AT_ONCE = 12  # seconds for which threads may have waited in vain, or rested, where each reply comes with its flight
+AT_A_START, AT_A_FLIGHT = 2, 2  # the number of syncs
+AT_ONCE = 12  # seconds that threads may have waited in vain or paused, if each reply is sent with its flight
 NOT_CARRIED_OUT = [{"fault": "OutOfMemory"}, refused(4, "OutOfTurn"), refused(1, "Stopped")]
 ALONE = topology([(node, 1) for node in range(1, 17)], half=HALF)
 
@@ -38,13 +38,13 @@ class Together(Served):
         return Serving(self.made(topology), env=preloaded.environment(self.folder, CALLS=self.calls, WAITS=1))
 
     def expect_at_once(self) -> None:
-        """Nothing has waited for a time to pass, however long the machine took: by the times that threads asked for. (A flusher
-        waits for callers that it answered before, for a part of their flight's duration.)"""
+        """Checks that nothing has waited for a time to pass, however long the machine took, by the times that threads asked
+        for. (A flusher waits for callers that it answered before, for a part of their flight's duration.)"""
         waits = [line.split() for line in self.read("calls").splitlines() if line.startswith((b"rest ", b"waited "))]
         self.assertLess(sum(int(micros) for _, _, micros, *_ in waits) / 1e6, AT_ONCE, waits[:20])
 
     def flights(self, server: Serving, work: Callable[[], object]) -> float:
-        """Does something with a server that is quiet: how many flights that took."""
+        """Does something with a quiet server. Returns the number of flights that it took."""
         server.await_quiet()
         before = self.syncs()
         work()
@@ -55,15 +55,15 @@ class Together(Served):
         return sum(line.startswith(b"sync ") for line in self.read("calls").splitlines())
 
     def resets(self, server: Serving, numbers: range) -> None:
-        """Resets a node without links, so often, all in one packet."""
+        """Resets a node without links this many times, all in one packet."""
         with server.connect() as connection:
             connection.send(*({"op": "reset", "client": 1, "number": number, "node": 1} for number in numbers))
             for number in numbers:
                 self.assertEqual(connection.reply(), answered(FINISHED, 16 + number))
 
     def test_ten_orders_in_one_packet(self) -> None:
-        """They share a flight. A flusher that has not come to rest may commit the first ones alone: on a busy machine that
-        happens, but not with each of three packets."""
+        """They share a flight. A flusher that has not gone to sleep may commit the first ones alone: that happens on a busy
+        machine, but not with each of three packets."""
         with self.serving(ALONE) as server:
             self.resets(server, range(1, 2))
             packets = [range(first, first + 10) for first in (2, 12, 22)]
@@ -73,14 +73,15 @@ class Together(Served):
             self.expect_closed(server, 31)
 
     def test_as_many_as_a_flight_takes(self) -> None:
-        """The packets come in several reads. One packet may be taken up while it still comes in, so two more are let pass."""
+        """The packet arrives in several reads. A flight may begin while the packet still arrives, so two more flights are
+        allowed."""
         with self.serving(ALONE) as server:
             self.resets(server, range(1, 2))
             self.assertLessEqual(self.flights(server, lambda: self.resets(server, range(2, 258))), 3)
             self.expect_closed(server, 257)
 
     def test_fewer_than_the_last_flight_had(self) -> None:
-        """Orders that come together wake the flusher, be they more or fewer than it answered before."""
+        """Orders that arrive together wake the flusher, whether they are more or fewer than it answered before."""
         with self.serving(ALONE) as server, server.connect() as connection:
             numbers = iter(range(1, 1_000))
             for count in (20, 10, 30, 2, 1, 32, 3, 40, 33, 9):
@@ -92,7 +93,7 @@ class Together(Served):
         self.expect_at_once()
 
     def test_refusals_of_a_whole_flight(self) -> None:
-        """The text of all replies to orders that came together is written whole, however long it is."""
+        """The replies to orders that arrived together are written as a whole, however long they are."""
         with self.serving(ALONE) as server, server.connect() as connection:
             for _ in range(4):
                 connection.send(*[b'{"op":"reset","client":1,"number":1,"node":64}\n'] * 512)
@@ -111,7 +112,8 @@ class Together(Served):
         self.expect_at_once()
 
     def test_a_stop_between_orders_that_came_together(self) -> None:
-        """The sync after their first flight fails: those that were settled have their replies, and each other one is Stopped."""
+        """The sync after their first flight fails: the settled orders get their replies, and each other one is answered
+        Stopped."""
         settings = preloaded.environment(self.folder, SYNC_FAILS=AT_A_START + AT_A_FLIGHT + 1, STILL=1)
         with Serving(self.made(ALONE), env=settings) as server, server.connect() as connection:
             numbers = range(1, 301)
@@ -125,7 +127,7 @@ class Together(Served):
             self.assertEqual(server.ended().status, 3)
 
     def test_a_client_that_leaves_before_its_replies(self) -> None:
-        """All that it has sent is carried out."""
+        """Everything that it has sent is carried out."""
         with self.serving(ALONE) as server:
             with server.connect() as connection:
                 connection.send(*({"op": "reset", "client": 1, "number": number, "node": 1} for number in range(1, 11)))
@@ -172,31 +174,31 @@ class Refused(Served):
 
     @contextlib.contextmanager
     def started(self, store: str, environment: dict[str, str]) -> Iterator[Serving]:
-        """A server that has allocated all that its start takes: it goes on with that after the line that it listens."""
+        """Returns a server that has made all allocations of its start, which continue after it prints that it listens."""
         with Serving(store, env=environment) as server:
             server.show()
             yield server
 
     def orders(self, store: str, refusing: Refusing, threads: range, first: int = 0) -> tuple[list[Answer], int, int]:
-        """Three orders in one packet, after which nothing comes: their replies, and how many allocations were asked for
-        before them and with them."""
+        """Sends three orders in one packet, and nothing after it. Returns their replies, and the number of allocations before
+        them and with them."""
         with self.started(store, refusing.environment(first, threads=threads)) as server, server.connect() as connection:
             before = refusing.count()
             connection.socket.settimeout(TIMEOUT)
-            # a connection without memory may be over already
+            # a connection that lacks memory may already be over
             with contextlib.suppress(OSError):
                 connection.send(*({"op": "reset", "client": 1, "number": number, "node": 1} for number in range(1, 4)))
                 connection.socket.shutdown(socket.SHUT_WR)
             replies, behind = self.replies(connection), refusing.count()
-            # how many came before differs a little: where this one has not come yet, it is none of the close
+            # the number of earlier allocations varies a little; if this one has not happened yet, it does not belong to the close
             refusing.refuse(0, 0)
-            # whatever that client had, the next one is served
+            # whatever that client received, the next one is served
             self.assertEqual(self.close(server).status, 0)
             return replies, before, behind
 
     def close(self, server: Serving) -> Ended:
-        """Closes the server. How many allocations come before differs a little, so the refused one may be of the first close,
-        which may have been carried out all the same."""
+        """Closes the server. The number of earlier allocations varies a little, so the refused one may belong to the first
+        close, which may have been carried out nevertheless."""
         with contextlib.suppress(AssertionError, OSError, ValueError):
             return server.close()
         try:
@@ -205,7 +207,7 @@ class Refused(Served):
             return server.ended()
 
     def replies(self, connection: Connection) -> list[Answer]:
-        """All that come. A connection that lacked memory to begin is reset, since it was not read."""
+        """Returns all replies. A connection for which memory ran out at its beginning is reset, because it was not read."""
         try:
             return [json.loads(line) for line in connection.rest()]
         except ConnectionResetError:
@@ -215,11 +217,11 @@ class Refused(Served):
         self.expect_answers(ALL_THREADS)
 
     def test_each_allocation_of_the_thread_that_answers(self) -> None:
-        """The allocations come in the same order each time, so that none is left out."""
+        """The allocations are made in the same order each time, so none is left out."""
         self.expect_answers(FIRST_THREAD)
 
     def expect_answers(self, threads: range) -> None:
-        """Each order has a reply in its place, or the answer that memory lacked; or nothing was begun."""
+        """Checks that each order has a reply in its place, or the answer that memory ran out; or that nothing was begun."""
         self.needs("a C compiler", preloaded.has_compiler())
         refusing, store = Refusing(PROGRAM, self.folder), self.made(topology([(1, 1)]))
         content, lacked = self.read("store"), 0
@@ -238,8 +240,8 @@ class Refused(Served):
         self.assertGreater(lacked, 10)
 
     def test_each_allocation_of_a_view(self) -> None:
-        """A client that asks for what may be lost, for a view and for what there is not has an answer to each, of which one may
-        say that memory lacked; or nothing was begun."""
+        """A client that sends `resend`, `show` and an unknown request has an answer to each, one of which may report that
+        memory ran out; or nothing was begun."""
         self.needs("a C compiler", preloaded.has_compiler())
         refusing, store, lacked = Refusing(PROGRAM, self.folder), self.made(ring(3)), 0
         asked: list[Answer] = [{"op": "resend"}, {"op": "show"}, {"op": "reset", "client": 1, "number": 1, "node": 64}, {"op": "resend"}]
@@ -256,7 +258,7 @@ class Refused(Served):
         self.assertGreater(lacked, 10)
 
     def answers(self, store: str, refusing: Refusing, asked: list[Answer], first: int) -> tuple[list[Answer], int, int]:
-        """The answers over one connection, whose server's first thread is refused one allocation."""
+        """Returns the answers over one connection, while the server's first thread is refused one allocation."""
         with self.started(store, refusing.environment(first, threads=FIRST_THREAD)) as server, server.connect() as connection:
             before = refusing.count()
             with contextlib.suppress(OSError):
@@ -268,8 +270,8 @@ class Refused(Served):
             return answers, before, behind
 
     def rests(self, store: str, refusing: Refusing, first: int) -> list[int] | None:
-        """Three orders, with 300 allocations refused from this one on: for how many microseconds each rest was to last until all
-        of them were carried out. None if they were not, or before that many allocations were asked for."""
+        """Sends three orders, with 300 allocations refused from this one on. Returns the requested microseconds of each pause
+        until all orders were carried out, or None if they were not, or before that many allocations were made."""
         calls = self.write("calls", "")
         environment = preloaded.both(preloaded.environment(self.folder, CALLS=calls, WAITS=1), refusing.environment(first, 300))
         with Serving(store, env=environment) as server, server.connect() as connection:
@@ -282,9 +284,9 @@ class Refused(Served):
             return rested if is_done else None
 
     def test_a_flusher_that_finds_no_memory_rests(self) -> None:
-        """From one allocation on it is the flusher that is refused, before a flight or as one comes back. Each time it tries
-        again 300 times, and rests for a millisecond before each, so that it does not take the processor from those who have
-        the memory."""
+        """From one allocation on, the flusher is the thread that is refused, before a flight or when one returns. It tries
+        again 300 times, and pauses for a millisecond before each attempt, so that it does not take the processor from the
+        threads that hold the memory."""
         self.needs("a C compiler", preloaded.has_compiler())
         refusing, store = Refusing(PROGRAM, self.folder), self.made(topology([(1, 1)]))
         content = self.read("store")

@@ -1,4 +1,4 @@
-"""The trials of tools/, the client library's tests, the demo and the documents, each as a person runs it."""
+"""The trials of tools/, the client library's tests, the demo and the documents, each run as a person would run it."""
 
 import contextlib
 import json
@@ -26,7 +26,7 @@ FIRST_FAILURE = f"\n{'=' * 70}\n"  # in the output of unittest
 
 
 def failures_in(printed: str) -> str:
-    """The failed tests in the output of unittest, with their tracebacks; the end of any other output."""
+    """Returns the failed tests in the output of unittest, with their tracebacks; for any other output, its end."""
     begin = printed.find(FIRST_FAILURE)
     return printed[begin:begin + 8_000] if begin >= 0 else printed[-3_000:]
 
@@ -34,10 +34,10 @@ def failures_in(printed: str) -> str:
 class Run(Case):
     takes = 60
     most = 3_600
-    environment: dict[str, str] = {}  # of its commands, beside that of the tests
+    environment: dict[str, str] = {}  # for the commands in it, besides the time of the test
 
     def expect(self, *words: str, ends_with: str = "") -> str:
-        """The command ends well in time, and its last line begins so."""
+        """Checks that the command succeeds in time, and that its last line begins like this."""
         run = subprocess.Popen(words, stdin=subprocess.DEVNULL, stdout=subprocess.PIPE, stderr=subprocess.STDOUT, text=True,
                                cwd=ROOT, env={**os.environ, "RESETD": PROGRAM, "TMPDIR": self.folder, **self.environment},
                                start_new_session=True)
@@ -47,7 +47,7 @@ class Run(Case):
         except subprocess.TimeoutExpired as late:
             is_late, printed = True, (late.stdout or b"").decode(errors="replace")
         finally:
-            # with all that it has started
+            # with everything that it has started
             with contextlib.suppress(ProcessLookupError):
                 os.killpg(run.pid, signal.SIGKILL)
             run.wait()
@@ -63,7 +63,7 @@ class Door(Run):
     programs = ("RESETD", "RESETD_MEMBER")
 
     def test_a_short_soak(self) -> None:
-        """Some rounds with all 64 members. How long they may be stuck is no matter of this test."""
+        """It runs some rounds with all 64 members. How long they may be stuck is not tested here."""
         self.needs("a C compiler", bool(shutil.which("cc")))
         self.needs("Go", bool(shutil.which("go")), is_optional=True)
         printed = self.expect(tool("soak_door"), "--library", os.path.dirname(os.environ["RESETD_MEMBER"]), "--minutes", "0.5", "--stuck", "1500")
@@ -81,8 +81,8 @@ class Nightly(Case):
                               capture_output=True, text=True, check=False)
 
     def test_what_is_missing_is_named(self) -> None:
-        """A line for each part, with its commit, kit, seed and duration, and the command that repeats it, which does. A line of another
-        part stays."""
+        """Each part has a line with its commit, kit, seed and duration, and the command that repeats it, which does. The line
+        of another part stays."""
         os.mkdir(self.path("bin"))
         for command in ("env", "python3", "git"):
             os.symlink(shutil.which(command) or command, self.path(f"bin/{command}"))
@@ -157,11 +157,11 @@ class Tools(Run):
         self.expect(tool("links"))
 
     def test_mutants_fit_the_sources(self) -> None:
-        """Each text that a mutant replaces is in the sources, and each killing test is a test."""
+        """Each text that a mutant replaces is in the sources, and each killing test exists."""
         self.expect(os.path.join(ROOT, "refusals", "gather"), "--check")
 
     def test_types_of_all_programs(self) -> None:
-        """By mypy --strict, in each folder."""
+        """They are checked by mypy --strict, in each folder."""
         self.needs("mypy", shutil.which("mypy") is not None, is_optional=True)
         printed = self.expect(tool("check_types"), ends_with="bench: Success: ")
         self.assertEqual(printed.count(": Success: no issues found in "), 6)
@@ -171,7 +171,7 @@ class Tools(Run):
                     ends_with="the programs print what the documents show")
 
     def test_the_digest_that_a_page_shows(self) -> None:
-        """The worked answer of docs/SERVICES.md has the party, the digest and the tag that the library makes of it."""
+        """The worked answer of docs/SERVICES.md has the party, the digest and the tag that the library computes from it."""
         with open(f"{ROOT}/docs/SERVICES.md", encoding="utf-8") as file:
             page = file.read()
         answer = re.search(r'^ *(\{"accepted":.*\})$', page, re.MULTILINE)
@@ -188,7 +188,7 @@ class ShortInstances(Run):
     programs = ("RESETD_SHORT",)
 
     def test_what_an_instance_leaves_unanswered_is_asked_again(self) -> None:
-        """An instance that ends may end a connection without an answer: the tools and the tests then ask again."""
+        """An instance that ends may end a connection without an answer: the tools and the tests then send the request again."""
         process = subprocess.Popen(["sleep", "600"])
         self.addCleanup(process.wait)
         self.addCleanup(process.kill)
@@ -214,7 +214,7 @@ class ShortInstances(Run):
 
 
 class Services(Run):
-    """The trials of tools/test_services, some beside others."""
+    """The trials of tools/test_services, some in parallel."""
 
     def trials(self, *names: str) -> None:
         self.expect(tool("test_services"), *names, ends_with="services lose no reset")
@@ -229,7 +229,7 @@ class Services(Run):
         self.trials("torn", "lost", "unread", "doubled")
 
     def test_lines_that_do_not_come_at_the_port(self) -> None:
-        """Services that read the lines themselves, without a front."""
+        """Services read the lines themselves, without a front."""
         self.trials("--at-port", "torn", "lost", "unread", "doubled")
 
     def test_services_at_the_port(self) -> None:

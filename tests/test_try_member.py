@@ -15,7 +15,7 @@ from resetd_client import Due, View  # noqa: E402
 from served.foreign import NODE, Between, Rule  # noqa: E402
 from served.services import Trial, Words  # noqa: E402
 
-QUIET_SECONDS = 1.0  # in which a member would be shown a change, or the same again
+QUIET_SECONDS = 1.0  # in which a member would be shown a change, or the same view again
 SECONDS = 120.0  # for one line, on a busy machine
 
 
@@ -62,13 +62,13 @@ class Member:
         return not select.select([self._connection], [], [], QUIET_SECONDS)[0]
 
     def order(self, op: str, epoch: int) -> None:
-        """Orders, and reads up to the answer."""
+        """Sends an order, and reads up to its answer."""
         self.send(op=op, node=NODE, epoch=epoch)
         while b'"nodes"' in self.line():
             pass
 
     def due(self) -> tuple[Due | None, int]:
-        """Reads the next view. The member's action and the epoch, by the judge."""
+        """Reads the next view. Returns the member's action by the judge, and the epoch."""
         self.view()
         with self._lock:
             row = self._rule.view and self._rule.view.node(NODE)
@@ -102,7 +102,7 @@ class Watching(Case):
         self.addCleanup(self.between.is_let_go.set)
 
     def test_an_answer_that_comes_late(self) -> None:
-        """While its order has no answer the member is shown no view that it has to judge; each `show` after that is answered."""
+        """While its order has no answer, the member is shown no view that it has to judge. Each `show` after that is answered."""
         self.member.send(op="watch")
         first = self.member.view()
         self.member.send(op="reset", node=NODE, epoch=0)
@@ -116,7 +116,8 @@ class Watching(Case):
         self.assertIsNone(self.rule.wrong)
 
     def test_a_refusal_that_is_noted_before_the_look(self) -> None:
-        """It takes the file `refused` away, judges a view that was pushed by then as ever, and asks for a look and for the reset."""
+        """It takes the file `refused` away, judges a view that was pushed before that as usual, and asks for a look and for the
+        reset."""
         self.between.is_let_go.set()
         talking = threading.Thread(target=self.member.talk)
         talking.start()

@@ -1,4 +1,4 @@
-"""The tests of tests/units, each in its own process; they are one program, which is built without any proof."""
+"""The tests of tests/units, each in its own process. They are one program, which is built without any proof."""
 
 import os
 import re
@@ -16,7 +16,7 @@ TEST = re.compile(r"^#\[test\]\nfn (\w+)", re.MULTILINE)
 
 
 def names() -> list[str]:
-    """The tests by module and function, as `engine::closing::the_last_share_alone_is_refused`."""
+    """Returns the tests by module and function, like `engine::closing::the_last_share_alone_is_refused`."""
     found = []
     for at, _, files in sorted(os.walk(FOLDER)):
         for file in sorted(files):

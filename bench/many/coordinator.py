@@ -52,6 +52,24 @@ def counting_library(folder: str) -> str:
     return library
 
 
+class Counts:
+    """The file in which the counting library counts the syncs of a process."""
+
+    def __init__(self, path: str) -> None:
+        self.path = path
+        pathlib.Path(path).write_bytes(bytes(24))
+
+    def read(self) -> tuple[int, int, float]:
+        """All syncs, those of the part that is counted apart, and the milliseconds of the longest."""
+        of_all, of_part, longest = struct.unpack("QQQ", pathlib.Path(self.path).read_bytes())
+        return of_all, of_part, longest / 1e6
+
+    def forget_longest(self) -> None:
+        with open(self.path, "r+b") as file:
+            file.seek(16)
+            file.write(bytes(8))
+
+
 class Server:
     """`resetd serve`, and the front or proxy started before it."""
 
@@ -64,11 +82,11 @@ class Server:
         text = "".join([*(f"[[node]]\nid = {n}\ngroup = 1\n" for n in range(1, nodes + 1)), *(f"[[link]]\na = {a}\nb = {b}\n" for a, b in links)])
         pathlib.Path(f"{self.folder}/topology").write_text(text, encoding="ascii")
         subprocess.run([program, "init", f"{self.folder}/store", f"{self.folder}/topology"], check=True, capture_output=True)
-        pathlib.Path(f"{self.folder}/count").write_bytes(bytes(8))
+        self.counts = Counts(f"{self.folder}/count")
         with open(self.signals, "wb") as signals:
             self.process = subprocess.Popen(
                 [program, "serve", f"{self.folder}/store", "127.0.0.1:0"], stdin=subprocess.DEVNULL, stdout=signals,
-                env={**os.environ, "LD_PRELOAD": library, "SYNC_COUNT": f"{self.folder}/count", "SYNC_WAITS": str(micros)})
+                env={**os.environ, "LD_PRELOAD": library, "SYNC_COUNT": self.counts.path, "SYNC_WAITS": str(micros)})
         while not (lines := pathlib.Path(self.signals).read_text(encoding="ascii").splitlines()):
             time.sleep(0.01)
         self.address = lines[0].split()[1]
@@ -88,7 +106,7 @@ class Server:
             time.sleep(0.01)
 
     def syncs(self) -> int:
-        return int(struct.unpack("Q", pathlib.Path(f"{self.folder}/count").read_bytes())[0])
+        return self.counts.read()[0]
 
     def resident(self) -> int:
         """The memory of the front or proxy before it, in bytes."""

@@ -1,5 +1,6 @@
 """Some members in one process, each with a thread of its own: a line for each time that one may talk, with its node, the moment and
-the run. usage: hosted.py front ADDRESS FOLDER WORK NODE..      through a front, each over a connection of its own
+the run. The work of a member is in a folder of its own, `own-work`, so that its syncs can be counted apart from the library's.
+usage: hosted.py front ADDRESS FOLDER WORK NODE..      through a front, each over a connection of its own
        hosted.py gateway FOLDER WORK NODE..            behind a gateway"""
 
 import os
@@ -18,10 +19,11 @@ def say(node: int, tag: str) -> None:
 
 def at_front(address: str, folder: str, work: Work, node: int) -> None:
     own = f"{folder}/{node}"
+    os.makedirs(f"{own}/own-work")
 
     def begin(epoch: int) -> None:
         if work is not Work.MEMORY:
-            keep(f"{own}/work", f"epoch {epoch}\n")
+            keep(f"{own}/own-work/epoch", f"{epoch}\n")
 
     def on_run(run: Run | None) -> None:
         if run:

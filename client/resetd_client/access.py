@@ -1,4 +1,5 @@
-"""A trial of a user's access to a store's file, by a process of that user, with the calls of a server's start in their order."""
+"""Tries a user's access to a store's file in a process of that user, with the calls that a server makes at its start, in the
+same order."""
 
 from __future__ import annotations
 
@@ -11,7 +12,7 @@ import time
 from collections.abc import Callable
 from dataclasses import dataclass
 
-SYNC_SECONDS = 5.0  # a start waits for a sync without a bound
+SYNC_SECONDS = 5.0  # a start waits for a sync for any time
 
 
 @dataclass(frozen=True)
@@ -50,21 +51,21 @@ def owner_of(folder: str) -> Account:
 
 @dataclass(frozen=True)
 class Trial:
-    """The result: which call failed and why, empty if none did; the seconds that the syncs took, None if not all calls came back
-    in time."""
+    """The result of a trial: the call that failed, and why (empty if none did); and the number of seconds that the syncs took
+    (None if not all calls returned in time)."""
 
     failed: str = ""
     synced: float | None = 0.0
 
 
 def may_try_as(account: Account) -> bool:
-    """Whether this process can act as the user: its own, or it is root."""
+    """Returns whether this process can act as the user: it already runs as that user, or as root."""
     return os.geteuid() in (0, account.uid)
 
 
 def tried_as(account: Account, path: str, seconds: float = SYNC_SECONDS) -> Trial:
-    """Opens a file for reading and writing, opens its folder, and syncs both, as this user. It takes no lock and writes nothing.
-    It runs in a separate process, so that a disk that hangs blocks nothing here."""
+    """Opens a file for reading and writing, opens its folder, and syncs both, as this user. Takes no lock and writes nothing.
+    The calls run in a separate process, so a disk that hangs does not block this one."""
     reader, writer = os.pipe()
     child = os.fork()
     if child == 0:
@@ -78,15 +79,15 @@ def tried_as(account: Account, path: str, seconds: float = SYNC_SECONDS) -> Tria
         told = lines_of(reader, seconds)
     finally:
         os.close(reader)
-    os.kill(child, signal.SIGKILL)  # one that waits for a disk ends once the disk comes back
+    os.kill(child, signal.SIGKILL)  # a process that waits for a disk ends once the disk responds
     os.waitpid(child, 0 if told else os.WNOHANG)
     last = told[-1] if told else ["begun"]
     return Trial(last[1]) if last[0] == "failed" else Trial("", float(last[1]) if last[0] == "synced" else None)
 
 
 def let_go(writer: int) -> None:
-    """Closes everything open in this process except one descriptor, so that a process that waits for a disk keeps nobody's pipe
-    open."""
+    """Closes every descriptor of this process except one, so that a process that waits for a disk does not keep another
+    process's pipe open."""
     os.closerange(0, writer)
     os.closerange(writer + 1, os.sysconf("SC_OPEN_MAX"))
 
@@ -100,7 +101,7 @@ def become(account: Account) -> None:
 
 
 def attempt(account: Account, path: str, tell: Callable[[list[object]], object]) -> None:
-    """Makes the calls and reports them."""
+    """Makes the calls, and reports each result."""
     call = "be acted as"
     try:
         become(account)

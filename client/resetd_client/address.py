@@ -1,6 +1,6 @@
-"""The addresses of a coordinator, or of the proxy or front before it, and the connections to it.
+"""The addresses of a coordinator, or of the proxy or front before it, and the connections to them.
 
-| Written | Is |
+| Written | Means |
 |---|---|
 | `HOST:PORT` | the server's port |
 | `unix:PATH` | a socket of the proxy, or of a front, on this host; PATH is absolute |
@@ -22,7 +22,7 @@ from typing import Protocol
 from .answers import Away
 from .errors import BadWords, Unreadable, Untrusted
 
-CONNECT_SECONDS = 5.0  # at most, until a connection stands
+CONNECT_SECONDS = 5.0  # at most, until a connection is made
 SERVER = "127.0.0.1:4170"
 PROXY_SOCKETS = "/run/resetd-proxy"  # the folder of the proxy's sockets, each named after its principal
 FRONT_SOCKET = "/run/resetd-front/socket"
@@ -31,15 +31,15 @@ CREDENTIALS: Mapping[str, str] = {
 
 
 class Address(Protocol):
-    """One address. Its string form is the one that was given."""
+    """One address. Its string form is the text that was parsed."""
 
     is_front: bool  # whether it is a front, which also reports changes
 
     def connect(self, seconds: float) -> socket.socket:
-        """Opens a connection whose answers may take this many seconds each. Raises Away and Untrusted."""
+        """Opens a connection on which each answer may take this many seconds. Raises Away and Untrusted."""
 
     def refusal(self) -> Untrusted | None:
-        """Returns why a front ends each connection without an answer, if the reason is this client's certificate."""
+        """Returns the reason why a front ends each connection without an answer, if the reason is this client's certificate."""
 
 
 @dataclass(frozen=True)
@@ -113,9 +113,9 @@ class Tls:
             raise untrusted(self, fault) or away(self, fault) from fault
 
     def refusal(self) -> Untrusted | None:
-        """In TLS 1.3 a front checks the client's certificate after the client considers the handshake complete, and anything that
-        the client then sends may hide the alert: so this connection sends nothing. A front that has accepted a certificate sends
-        a ticket; one that ends a connection without a ticket and without an alert has not."""
+        """In TLS 1.3 a front checks the client's certificate after the client considers the handshake complete, and data that
+        the client sends after that may hide the alert. So this connection sends nothing. A front that accepts a certificate
+        sends a ticket; if it ends the connection without a ticket and without an alert, it has not accepted the certificate."""
         try:
             with self.connect(CONNECT_SECONDS) as connection:
                 try:
@@ -143,8 +143,8 @@ class Credentials:
 
     @staticmethod
     def found(environment: Mapping[str, str] = os.environ) -> Credentials:
-        """Returns the files named by RESETD_CERTIFICATE, RESETD_KEY and RESETD_AUTHORITY; for missing ones, those named by the keys
-        `certificate`, `key` and `authority` of the TOML file RESETD_TLS. Raises Unreadable."""
+        """Returns the files named by RESETD_CERTIFICATE, RESETD_KEY and RESETD_AUTHORITY; if one of these is not set, the file
+        named by `certificate`, `key` or `authority` in the TOML file RESETD_TLS. Raises Unreadable."""
         path = environment.get("RESETD_TLS", "")
         in_file = read_credentials(path) if path else {}
         return Credentials(**{
@@ -155,12 +155,12 @@ class Credentials:
         return replace(self, **{name: path for name, path in given.items() if path})
 
     def context(self) -> ssl.SSLContext:
-        """The TLS context. Raises Untrusted if a file is missing or invalid."""
+        """Returns the TLS context. Raises Untrusted if a file is missing or invalid."""
         missing = [name for name in CREDENTIALS if not getattr(self, name)]
         if missing:
             raise Untrusted(f"no {' and no '.join(missing)} given: tls: needs the PEM files of all three "
                             "(RESETD_CERTIFICATE, RESETD_KEY, RESETD_AUTHORITY)")
-        context = ssl.SSLContext(ssl.PROTOCOL_TLS_CLIENT)  # it checks the certificate, and the name in it
+        context = ssl.SSLContext(ssl.PROTOCOL_TLS_CLIENT)  # it checks the certificate, and the host's name in it
         context.minimum_version = ssl.TLSVersion.TLSv1_3
         paths = self.authority
         try:
@@ -173,12 +173,12 @@ class Credentials:
 
 
 def refuse_password() -> str:
-    """Raises ValueError: a key with a password would make OpenSSL ask for it at the terminal."""
+    """Raises ValueError. Without this, a key with a password would make OpenSSL ask for it at the terminal."""
     raise ValueError("the key has a password")
 
 
 def read_credentials(path: str) -> dict[str, str]:
-    """Reads a credentials file; its relative paths start at its folder. Raises Unreadable."""
+    """Reads a credentials file. Paths in it are relative to its folder. Raises Unreadable."""
     try:
         with open(path, "rb") as file:
             found = tomllib.load(file)
@@ -193,13 +193,13 @@ def read_credentials(path: str) -> dict[str, str]:
 
 
 def addresses_of(text: str, credentials: Credentials | None = None) -> tuple[Address, ...]:
-    """Parses a comma-separated list of addresses. `credentials` are by default those of the environment. Raises BadWords, and
-    Unreadable for a credentials file."""
+    """Parses a comma-separated list of addresses. `credentials` defaults to those named in the environment. Raises BadWords for
+    an invalid address, and Unreadable for a credentials file that can't be read."""
     return tuple(address_of(each, credentials) for each in text.split(","))
 
 
 def address_of(text: str, credentials: Credentials | None = None) -> Address:
-    """Parses one address. Raises BadWords, and Unreadable for a credentials file."""
+    """Parses one address. Raises BadWords for an invalid address, and Unreadable for a credentials file that can't be read."""
     text = text.strip()
     kind, colon, rest = text.partition(":")
     if kind == "unix" and not rest.isdigit():

@@ -42,7 +42,7 @@ MOST_AT_NODE, MOST_LINKS = 16, 128
 
 
 def explained(fault: NotTaken | NotNow, order: Mapping[str, Any], view: View | None = None) -> str:
-    """Describes a refusal or a fault: what the present view says about it, or else what to do."""
+    """Explains a refusal or a fault: the cause that the present view shows, or else what to do."""
     text = ""
     if isinstance(fault, Refused) and fault.refusal is not None:
         text = (found(fault.refusal, order, view) if view else "") or WHAT_TO_DO.get(fault.refusal, "")
@@ -55,8 +55,8 @@ def explained(fault: NotTaken | NotNow, order: Mapping[str, Any], view: View | N
 
 
 def found(refusal: Refusal, order: Mapping[str, Any], view: View) -> str:
-    """Describes what the view says about a refused order; empty if the view has changed since, so that the order would now be
-    accepted."""
+    """Explains a refused order by the present view. Returns an empty text if the view has changed since, so that the order
+    would now be accepted."""
     names = [int(order[name]) for name in ("node", "a", "b") if name in order]
     rows = {row.node: row for row in view.nodes}
     absent = [node for node in names if node not in rows]
@@ -68,7 +68,7 @@ def found(refusal: Refusal, order: Mapping[str, Any], view: View) -> str:
 
 
 def of_node(refusal: Refusal, row: Node, view: View) -> str:
-    """The same for an order that names one node."""
+    """Like `found`, for an order that names one node."""
     if refusal is Refusal.NODE_EXISTS:
         return f"node {row.node} is there, in group {row.group}"
     if refusal is Refusal.HAS_LINKS and (near := linked_with(row.node, view)):
@@ -79,7 +79,7 @@ def of_node(refusal: Refusal, row: Node, view: View) -> str:
 
 
 def of_ends(refusal: Refusal, a: Node, b: Node, view: View) -> str:
-    """The same for an order that names the ends of a link."""
+    """Like `found`, for an order that names the two ends of a link."""
     near = {row.node: linked_with(row.node, view) for row in (a, b)}
     if refusal is Refusal.SAME_NODE:
         return "a link has two ends"

@@ -33,34 +33,34 @@ class Member:
 
     def __init__(self, port: Port, orders: Orders | AtFront, node: int, begun: int | None, begin: Callable[[int], Awaitable[None]], *,
                  word: str = "", told: Callable[[str], None] = warn, work: Work = Work.PARTS, generation: int = 0) -> None:
-        """As for a Member. `begin` is a coroutine: it must not use `in_run`, which waits for it. Raises Unreadable and BadWords,
-        and RuntimeError if no loop runs."""
+        """The arguments are those of a Member, but `begin` is a coroutine. It must not use `in_run`, because `in_run` waits for
+        it. Raises Unreadable and BadWords, and RuntimeError if no event loop runs."""
         self._loop = asyncio.get_running_loop()
         self._begin = begin
         self._member = Blocking(port, orders, node, begun, self._begin_in_loop, word=word, told=told, work=work, generation=generation)
 
     @property
     def begun(self) -> int | None:
-        """The epoch of the work in hand, None for no work."""
+        """The epoch of the present work, None if there is no work."""
         return self._member.begun
 
     @property
     def run(self) -> Run | None:
-        """The run that the group is in, None while somebody is not through. It may be over as soon as you have read it."""
+        """The run that the group is in, None while a member is not through. It may have ended by the time you have read it."""
         return self._member.run
 
     @property
     def fence(self) -> Fence | None:
-        """The fence of the run (`Member.fence`)."""
+        """The fence of the run (see `Member.fence`)."""
         return self._member.fence
 
     def note_overtaken(self, nodes: Iterable[int], count: int) -> None:
-        """As `Member.note_overtaken`."""
+        """Like `Member.note_overtaken`."""
         self._member.note_overtaken(nodes, count)
 
     async def follow(self, wakes: Wakes, every: float = LOOK_SECONDS) -> None:
-        """Follows as a Member does, until nothing more will come, `stop` is called or its task is cancelled; then it ends
-        within a moment, or after the answer that it waits for. Raises as `Member.follow` does."""
+        """Follows like a Member, until no more wake-ups will come, `stop` is called or its task is cancelled. After that it
+        ends within a moment, or after the answer that it is waiting for. Raises like `Member.follow`."""
         following = asyncio.ensure_future(asyncio.to_thread(self._member.follow, wakes, every))
         try:
             await asyncio.shield(following)
@@ -75,8 +75,8 @@ class Member:
 
     @asynccontextmanager
     async def in_run(self, tag: str | None = None, wait: float = 0.0) -> AsyncIterator[Run]:
-        """While the body works, no begin and no other `in_run` comes in between, be it of this loop or not. Raises OutOfRun
-        as `Member.in_run` does. Keep the body short."""
+        """While the body runs, no begin and no other `in_run`, of this loop or another, runs in between. Raises OutOfRun like
+        `Member.in_run`. Keep the body short."""
         entered: asyncio.Future[Run] = self._loop.create_future()
         leave = threading.Event()
         threading.Thread(target=self._hold, args=(tag, wait, entered, leave), daemon=True).start()
@@ -86,8 +86,8 @@ class Member:
             leave.set()
 
     def _hold(self, tag: str | None, wait: float, entered: asyncio.Future[Run], leave: threading.Event) -> None:
-        """Runs in a thread: waits for a run, reports that it has one, and keeps all others out until the body ends. If its
-        coroutine was cancelled meanwhile, or its loop is closed, it enters and leaves at once."""
+        """Runs in a thread: waits for a run, reports it, and excludes all others until the body ends. If the coroutine was
+        cancelled meanwhile, or its loop is closed, it enters and leaves immediately."""
         with suppress(RuntimeError):  # the loop is closed
             try:
                 with self._member.in_run(tag, wait) as run:
@@ -97,7 +97,7 @@ class Member:
                 self._loop.call_soon_threadsafe(set_fault, entered, fault)
 
     def _begin_in_loop(self, epoch: int) -> None:
-        """Runs in the following thread: has the loop begin, and waits until it has."""
+        """Runs in the following thread: makes the loop begin, and waits until it has begun."""
         async def begin() -> None:
             await self._begin(epoch)
         asyncio.run_coroutine_threadsafe(begin(), self._loop).result()

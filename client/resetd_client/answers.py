@@ -1,4 +1,4 @@
-"""The answers of a coordinator to a line: a reply, a refusal or a fault, each a value with its name."""
+"""The answers of a coordinator to a line. Each is a reply, a refusal or a fault, as a named value."""
 
 from __future__ import annotations
 
@@ -11,7 +11,7 @@ from .errors import ResetdError
 
 
 class Refusal(enum.IntEnum):
-    """The refusals of orders, by number. A refusal changes nothing, and the order's number stays free."""
+    """The refusals of orders, by number. A refusal changes nothing, and the order's number can be used again."""
 
     STOPPED = 1
     OUT_OF_MEMORY = 2
@@ -38,7 +38,7 @@ class Refusal(enum.IntEnum):
 
 
 class Fault(enum.Enum):
-    """The faults of lines that are not requests or not allowed, and of lack of memory."""
+    """The faults of a line: it is no request, it is not allowed, or memory ran out."""
 
     UNFINISHED = "Unfinished"
     TOO_LONG = "TooLong"
@@ -47,23 +47,23 @@ class Fault(enum.Enum):
     BAD_REQUEST = "BadRequest"
     UNKNOWN_OP = "UnknownOp"
     OUT_OF_MEMORY = "OutOfMemory"
-    NOT_ALLOWED = "NotAllowed"  # by a front, whose policy does not let this client do it
+    NOT_ALLOWED = "NotAllowed"  # from a front whose policy does not allow it to this client
 
 
-MOST_SHOWN = 60  # characters of a line that no coordinator said
+MOST_SHOWN = 60  # characters shown of a line that is no coordinator's answer
 PASSING_REFUSALS = frozenset({Refusal.STOPPED, Refusal.OUT_OF_MEMORY, Refusal.PENDING_FULL})
 
 
 class Away(ResetdError):
-    """No answer came, or one that says "not now": send the same line again. The order may have been carried out; sent again with
-    the same number it is carried out only once. Needs no person, unless it lasts."""
+    """No answer came, or the answer was "not now": send the same line again. The order may have been carried out; sent again
+    with the same number, it is carried out only once. A program can retry by itself: this needs no person, unless it lasts."""
 
     needs_person = False
 
 
 class NotNow(Away):
-    """The coordinator answered Stopped, PendingFull or OutOfMemory; `name` says which. Needs no person, unless it
-    lasts: docs/PROTOCOL.md says what ends it."""
+    """The coordinator answered Stopped, PendingFull or OutOfMemory, which `name` has. This needs no person, unless it lasts:
+    docs/PROTOCOL.md describes what ends it."""
 
     def __init__(self, name: str) -> None:
         super().__init__(name)
@@ -71,14 +71,14 @@ class NotNow(Away):
 
 
 class NotTaken(ResetdError):
-    """The coordinator refused an order, or does not know the line. The same line would get the same answer: needs a
-    person, unless the program looks at `show` and orders something else."""
+    """The coordinator refused an order, or does not know the line. The same line would get the same answer, so this needs a
+    person, unless the program looks at `show` and sends another order."""
 
     name: str
 
 
 class Refused(NotTaken):
-    """A refusal. `refusal` is None if this library does not know the number. Needs a person, as NotTaken does."""
+    """A refusal. `refusal` is None if this library does not know its number. Needs a person, like NotTaken."""
 
     def __init__(self, number: int, name: str) -> None:
         super().__init__(f"{number} {name}")
@@ -88,8 +88,8 @@ class Refused(NotTaken):
 
 
 class Faulted(NotTaken):
-    """The line was not a request, or is not allowed, and nothing was carried out. `fault` is None if this library does not know
-    the name; then something may have been carried out. Needs a person."""
+    """The line was no request, or is not allowed, and nothing was carried out. `fault` is None if this library does not know
+    its name; then the request may have been carried out. Needs a person."""
 
     def __init__(self, name: str) -> None:
         super().__init__(name)
@@ -98,7 +98,7 @@ class Faulted(NotTaken):
 
 
 class Garbled(NotTaken):
-    """The answer is not one of a coordinator: something else listens at the address. Needs a person."""
+    """The answer is not a coordinator's: another program listens at the address. Needs a person."""
 
     name = "Garbled"
 
@@ -109,7 +109,7 @@ class Garbled(NotTaken):
 
 @dataclass(frozen=True)
 class Reply:
-    """An order that was carried out: `done`, `started`, `finished` or `joined`, and the number of its step."""
+    """The reply to an order that was carried out: `done`, `started`, `finished` or `joined`, and the number of its step."""
 
     kind: str
     step: int

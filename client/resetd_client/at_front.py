@@ -1,8 +1,8 @@
 """A member's orders at a front, and its wake-ups, over one connection.
 
-The front numbers what a member orders (`confirm` and `reset` without a client and a number), so a member needs no client and
-no order book: nothing goes to the disk for an order. Both do no harm when they are sent twice: a confirm names its epoch, and
-so does a reset, which the front passes on only while the node has the epoch that its asker saw.
+The front numbers a member's orders (`confirm` and `reset` without a client and a number). So the member needs no client and
+no order book, and writes nothing to the disk for an order. Both orders may be sent twice without harm: a confirm names its
+epoch, and so does a reset, which the front passes on only while the node still has the epoch that the sender saw.
 """
 
 from __future__ import annotations
@@ -20,12 +20,12 @@ from .view import View
 from .watching import Watched
 
 FIRST_VIEW_SECONDS = 1.0
-LOST_COUNT = frozenset({Refusal.OUT_OF_TURN, Refusal.NUMBER_REUSED})  # the front's own, which it finds again on its own
+LOST_COUNT = frozenset({Refusal.OUT_OF_TURN, Refusal.NUMBER_REUSED})  # the front's own, which the front finds again by itself
 
 
 class EarlierFront(NotTaken):
-    """The front does not know orders without a number, or resets that name an epoch: it is older than this library. Needs a
-    person: upgrade the front first."""
+    """The front does not know orders without a number, or resets that name an epoch, because it is older than this library.
+    Needs a person: upgrade the front first."""
 
     name = "EarlierFront"
 
@@ -34,12 +34,12 @@ class EarlierFront(NotTaken):
 
 
 class AtFront:
-    """Replaces Orders for a Member or a Gateway, and also brings its wake-ups. Only the following thread uses it. Its folder has
-    the member's own files, and one process at a time holds it."""
+    """Replaces Orders for a Member or a Gateway, and also delivers its wake-ups. Only the following thread may use it. Its
+    folder has the member's files, and only one process at a time can hold it."""
 
     def __init__(self, port: Port, folder: str, *, held_seconds: float = 0.0) -> None:
-        """Waits at most `held_seconds` for another process to release the folder. Raises BadWords if an address is not a front's,
-        and Held."""
+        """Waits at most `held_seconds` for another process to release the folder. Raises BadWords if an address is not a
+        front's, and Held if the folder is still held."""
         if not all(address.is_front for address in port.addresses):
             raise BadWords("orders without a number need the address of a front (unix:PATH, tls:HOST:PORT)")
         self.port, self.folder = port, folder
@@ -47,7 +47,7 @@ class AtFront:
         self._watched = Watched(port)
 
     def close(self) -> None:
-        """Releases the folder, and ends the connection."""
+        """Ends the connection, and releases the folder."""
         self._watched.close()
         self._lock.close()
 
@@ -59,9 +59,9 @@ class AtFront:
 
     def order_all(self, orders: Sequence[Order], *, on_view: Callable[[View], None] = lambda view: None,
                   view: View | None = None) -> list[Outcome]:
-        """Sends orders together and returns the outcome of each; a refused order does not stop those after it. Until the answers
-        come it calls `on_view`, with `view` and with each view that the front pushes. After Away call it
-        again with the same orders. Raises Away, BadWords at a number out of its range (before it sends anything),
+        """Sends orders together, and returns the outcome of each; a refused order does not stop those after it. Until the
+        answers arrive it calls `on_view` with `view`, and then with each view that the front pushes. After Away, call it
+        again with the same orders. Raises Away, BadWords for a number out of its range (before anything is sent),
         EarlierFront, Garbled and Untrusted."""
         for order in orders:
             check_order(order)
@@ -86,18 +86,18 @@ class AtFront:
     # as wake-ups
 
     def wait(self, seconds: float) -> Wake:
-        """Waits until a view is pushed that is not the last one (`Watched.wait`)."""
+        """Waits until a view is pushed that differs from the last one (see `Watched.wait`)."""
         return self._watched.wait(seconds)
 
     def descriptors(self) -> list[int] | None:
-        """Returns the descriptors to wait for (`Watched.descriptors`)."""
+        """Returns the descriptors to wait for (see `Watched.descriptors`)."""
         return self._watched.descriptors()
 
     # as a look
 
     def take(self) -> View | None:
-        """Returns the newest pushed view once, if it is newer than this member's last order. Without a connection it connects,
-        and waits briefly for the first view."""
+        """Returns the newest pushed view once, if it is newer than this member's last order. Without a connection, connects and
+        waits briefly for the first view."""
         if self._watched.descriptors() is None:
             self._watched.wait(FIRST_VIEW_SECONDS)
         return self._watched.take()
@@ -109,8 +109,8 @@ class AtFront:
 
 def orders_of(port: Port, client: int | None, folder: str, *, held_seconds: float = 0.0,
               told: Callable[[str], None] = warn) -> Orders | AtFront:
-    """Returns an AtFront if every address is a front's, else the numbered Orders of a client (1 to 16), for a Member or a Gateway.
-    Raises BadWords if a client is needed and is None, and whatever both raise."""
+    """Returns an AtFront if every address is a front's, and otherwise the numbered Orders of a client (1 to 16), for a Member
+    or a Gateway. Raises BadWords if a client is needed and is None, and whatever the two classes raise."""
     if all(address.is_front for address in port.addresses):
         return AtFront(port, folder, held_seconds=held_seconds)
     if client is None:
@@ -119,8 +119,8 @@ def orders_of(port: Port, client: int | None, folder: str, *, held_seconds: floa
 
 
 def wakes_of(port: Port, signals: str | None = None, orders: Orders | AtFront | None = None) -> Wakes:
-    """Returns the wake-ups for a member: its own connection if it orders at a front, else a Follower of the named file of signals,
-    else a Watched at a front, else a Clock."""
+    """Returns the wake-ups for a member: the connection of `orders` if it orders at a front; else a Follower of the file
+    `signals`, if given; else a Watched if the port is a front's; else a Clock."""
     if isinstance(orders, AtFront):
         return orders
     if signals is not None:

@@ -1,4 +1,4 @@
-"""A bell: wakes a thread that waits with `select`, from another thread or from a signal's handler."""
+"""A bell: lets another thread, or a signal handler, wake a thread that waits with `select`."""
 
 from __future__ import annotations
 
@@ -20,7 +20,7 @@ class Bell:
         return self._reader
 
     def ring(self) -> None:
-        with suppress(BlockingIOError):  # it rings loud enough
+        with suppress(BlockingIOError):  # it is already ringing
             os.write(self._writer, b"x")
 
     def hush(self) -> None:

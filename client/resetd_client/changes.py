@@ -1,4 +1,4 @@
-"""Waits for changes of files that others create, change, replace and remove."""
+"""Waits for changes of files that other programs create, change, replace and remove."""
 
 from __future__ import annotations
 
@@ -16,8 +16,9 @@ State = tuple[int, int, int] | None  # inode, size and time of the last change; 
 
 
 class Changes:
-    """Some files, which need not exist yet. On a local file system the system reports changes (inotify), and only the files of
-    the changed folder are checked; without inotify, or if a folder is missing, all are checked a hundred times a second."""
+    """A set of files, which need not exist yet. On a local file system the system reports changes (inotify), and only the files
+    in the changed folder are checked. Without inotify, or if a folder is missing, all files are checked a hundred times a
+    second."""
 
     def __init__(self, paths: Iterable[str]) -> None:
         self._states: dict[str, State] = {path: None for path in paths}
@@ -30,8 +31,7 @@ class Changes:
         self._is_told = False  # whether the system reports each change from now on
 
     def descriptors(self) -> list[int] | None:
-        """Returns the descriptors to wait for after the last `take`; None if `take` has to be called every
-        POLL_SECONDS."""
+        """Returns the descriptors to wait for after the last `take`, or None if `take` has to be called every POLL_SECONDS."""
         return [self._inotify.fileno()] if self._inotify and self._is_told else None
 
     def take(self) -> list[str]:
@@ -42,11 +42,11 @@ class Changes:
             return self._changed(self._states)
         paths = dict.fromkeys(path for watch in changed for path in self._watched.get(watch, []))
         if any(map(os.path.islink, paths)):
-            self._watch_all()  # it may lead somewhere else now
+            self._watch_all()  # it may lead to another file now
         return self._changed(paths)
 
     def _watch_all(self) -> None:
-        """Watches each folder that has one of the files, or to which a link leads, from before the files are looked at."""
+        """Watches each folder that contains one of the files, or into which a link leads, before the files are checked."""
         if self._inotify is None:
             return
         self._watched, self._is_told = {}, True
@@ -69,7 +69,7 @@ class Changes:
         return changed
 
     def wait(self, seconds: float) -> list[str]:
-        """Returns the files that have changed since the last call, as soon as one has, or after this many seconds."""
+        """Returns the files that have changed since the last call. Waits at most this many seconds for the first change."""
         until = time.monotonic() + seconds
         while not (changed := self.take()):
             left = until - time.monotonic()
@@ -97,8 +97,8 @@ def state_of(path: str) -> State:
 
 
 def wait_for(sources: Iterable[list[int] | None], seconds: float) -> bool:
-    """Waits until one of the descriptors can be read, at most this many seconds; if a source is None and has to be polled, only a
-    moment. Returns whether one can be read."""
+    """Waits until one of the descriptors can be read, at most this many seconds. If a source is None, and so has to be polled,
+    waits only for a moment. Returns whether a descriptor can be read."""
     poller, polls = select.poll(), False
     for source in sources:
         polls = polls or source is None

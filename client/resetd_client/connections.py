@@ -1,4 +1,4 @@
-"""The connections to a server on this machine, as the system lists them: which client is served, and which ones wait."""
+"""The connections to a server on this machine, as the system lists them: the client that is served, and the clients that wait."""
 
 from __future__ import annotations
 
@@ -9,13 +9,13 @@ from dataclasses import dataclass
 from .processes import links_of, processes
 
 TABLES = ("/proc/net/tcp", "/proc/net/tcp6")
-OPEN = frozenset({"01", "08"})  # ESTABLISHED, CLOSE_WAIT: this side has not closed it
-MAPPED = "0000000000000000FFFF0000"  # an address of version 4 in the table of version 6
+OPEN = frozenset({"01", "08"})  # ESTABLISHED, CLOSE_WAIT: this end has not closed it
+MAPPED = "0000000000000000FFFF0000"  # an IPv4 address in the table of IPv6
 
 
 @dataclass(frozen=True)
 class Row:
-    """A socket: its own address and the other end's, both as the system writes them, its state, user and inode."""
+    """A socket: its own address and the other end's, both in the system's notation, its state, user and inode."""
 
     local: str
     remote: str
@@ -27,7 +27,8 @@ class Row:
 @dataclass(frozen=True)
 class Peer:
     """A client with a connection: its address, its user and its processes, as far as this user may see them. The server has
-    accepted the connection, or the client waits for that. `user` is None if no process of this network namespace has it."""
+    accepted the connection, or the client is waiting for that. `user` is None if no process in this network namespace has
+    the connection."""
 
     address: str
     user: int | None
@@ -52,19 +53,19 @@ def row_of(words: list[str]) -> Row:
 
 
 def written(host: str, port: int) -> str:
-    """Returns an address as the system writes it."""
+    """Returns an address in the system's notation."""
     return f"{int.from_bytes(socket.inet_aton(host), 'little'):08X}:{port:04X}"
 
 
 def read_address(text: str) -> str:
-    """Returns an IPv4 address in its usual form, and an IPv6 address unchanged."""
+    """Converts an address from the system's notation: an IPv4 address to its usual form; an IPv6 address stays unchanged."""
     host, port = text.split(":")
     return f"{socket.inet_ntoa(int(host, 16).to_bytes(4, 'little'))}:{int(port, 16)}" if len(host) == 8 else text
 
 
 def peers(host: str, port: int) -> list[Peer]:
-    """Returns who has a connection to a server at this address, the served one first. A socket that the server has not accepted
-    yet has no inode."""
+    """Returns the clients that have a connection to a server at this address, first the one that is served. A socket that the
+    server has not accepted yet has no inode."""
     table, here = rows(), written(host, port)
     clients = {(row.remote, row.local): row for row in table}
     found = []

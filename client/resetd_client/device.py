@@ -6,11 +6,11 @@ import os
 import re
 import subprocess
 
-LONGEST = 20.0  # seconds of a command
+LONGEST = 20.0  # seconds for a command
 
 
 def said(*words: str) -> str:
-    """Returns what a command prints, or why it prints nothing."""
+    """Returns the output of a command, or the reason why there is none."""
     try:
         done = subprocess.run(words, stdin=subprocess.DEVNULL, capture_output=True, encoding="utf-8", errors="replace",
                               timeout=LONGEST, check=False)
@@ -30,7 +30,7 @@ def mount_of(path: str) -> str:
 
 
 def devices_of(path: str) -> list[str]:
-    """Returns the names of a file's device and of the disks below it; none if it is not on a block device."""
+    """Returns the names of a file's device and of the disks under it; none if the file is not on a block device."""
     number = os.stat(path).st_dev
     link = f"/sys/dev/block/{os.major(number)}:{os.minor(number)}"
     if not os.path.exists(link):
@@ -42,7 +42,7 @@ def devices_of(path: str) -> list[str]:
 
 
 def file_system(path: str) -> str:
-    """Describes the mount, the space and the devices, and whether each device has a volatile write cache."""
+    """Describes the mount, the free space and the devices, and whether each device has a volatile write cache."""
     space = os.statvfs(path)
     lines = [mount_of(path), f"blocks of {space.f_frsize} bytes: {space.f_blocks}, {space.f_bavail} free; "
              f"inodes: {space.f_files}, {space.f_favail} free"]
@@ -56,13 +56,13 @@ def file_system(path: str) -> str:
 
 
 def kernel_lines(path: str) -> str:
-    """Returns the kernel's messages about a file's device since the machine started, and no others."""
+    """Returns the kernel's messages about a file's device since the machine started."""
     names = devices_of(path)
     if not names:
         return "the file is not on a block device of this machine\n"
     wanted = re.compile(r"\b(?:" + "|".join(map(re.escape, names)) + r")\b")
     told = said("journalctl", "--dmesg", "--no-pager", "--quiet", "--output", "short-iso").splitlines()
-    if len(told) < 2:  # no journal, or none that this user may read
+    if len(told) < 2:  # there is no journal, or this user may not read it
         told = said("dmesg", "--time-format", "iso").splitlines()
     lines = "".join(f"{line}\n" for line in told if wanted.search(line))
     return lines or f"none of the {len(told):,} lines is about {', '.join(names)}\n"

@@ -1,4 +1,4 @@
-"""Files that survive a power cut, and folders that one process holds."""
+"""Files that survive a power cut, and folders that one process at a time holds."""
 
 from __future__ import annotations
 
@@ -18,8 +18,8 @@ class Held(ResetdError):
 
 
 def keep(path: str, text: str) -> None:
-    """Replaces a file's content by a text, as a whole; when it returns, the text is on the disk. If several callers do this at
-    the same time, one of the texts is left in the end."""
+    """Replaces the content of a file with a string. When it returns, the string is on disk. If several callers do this at
+    the same time, the file has the string of one of them."""
     with open(alone(path + ".new"), "w", encoding="utf-8") as file:
         file.write(text)
         file.flush()
@@ -29,8 +29,8 @@ def keep(path: str, text: str) -> None:
 
 
 def alone(path: str) -> int:
-    """Returns a descriptor of an empty file at this path, which nobody else writes until it is closed. The file may be left over
-    from a killed process."""
+    """Returns a descriptor of an empty file at this path, to which nobody else writes until it is closed. A killed process may
+    have left a file there."""
     while True:
         descriptor = os.open(path, os.O_WRONLY | os.O_CREAT | os.O_CLOEXEC | os.O_NOFOLLOW, 0o666)
         try:
@@ -39,7 +39,7 @@ def alone(path: str) -> int:
                 os.truncate(descriptor, 0)
                 return descriptor
         except FileNotFoundError:
-            pass  # who had it has put it in place
+            pass  # whoever held it has renamed it to its final place
         except BaseException:
             os.close(descriptor)
             raise
@@ -56,8 +56,8 @@ def sync_folder(path: str) -> None:
 
 
 def empty(path: str) -> None:
-    """Empties a file, if it exists; when it returns, that is on the disk. A power cut before leaves the earlier text, or nothing:
-    so it takes one sync, and none of the folder."""
+    """Empties a file, if it exists. When it returns, that is on the disk; a power cut before may leave the earlier text or
+    nothing. So it needs only one sync, and none of the folder."""
     try:
         descriptor = os.open(path, os.O_WRONLY | os.O_CLOEXEC | os.O_NOFOLLOW)
     except FileNotFoundError:
@@ -70,8 +70,8 @@ def empty(path: str) -> None:
 
 
 def sync(path: str) -> None:
-    """Syncs a file unchanged, and its folder, even if the file is missing: so its present state lasts, although the process that
-    wrote, renamed or removed it may not have synced."""
+    """Syncs a file without changing it, and its folder, even if the file is missing. So its present state is durable, although
+    the process that wrote, renamed or removed it may not have synced it."""
     try:
         descriptor = os.open(path, os.O_RDONLY | os.O_CLOEXEC)
         try:
@@ -84,8 +84,8 @@ def sync(path: str) -> None:
 
 
 def put(path: str, text: str) -> None:
-    """Replaces a file's content by a text, as a whole for whoever reads it, and syncs nothing: after a power cut the file
-    has an earlier text, or this one, or a part of it, or none."""
+    """Replaces the whole content of a file by a text, so that readers see the old or the new text, and syncs nothing. After a
+    power cut the file has an earlier text, this one, a part of this one, or none."""
     with open(alone(path + ".new"), "w", encoding="utf-8") as file:
         file.write(text)
         file.flush()
@@ -93,8 +93,9 @@ def put(path: str, text: str) -> None:
 
 
 def overwrite(path: str, text: str) -> None:
-    """Like `put`, for a file that nobody else reads: a short text overwrites the old one, padded with blanks before its last line
-    feed if it is shorter, in one call, which no kill interrupts. A longer one is put. Nothing waits for the disk."""
+    """Like `put`, for a file that nobody else reads. A short text overwrites the old one in a single call, which a kill can't
+    interrupt; it is padded with blanks before its last line feed. A longer text is written by `put`. The call never waits
+    for the disk."""
     try:
         descriptor = os.open(path, os.O_WRONLY | os.O_CLOEXEC | os.O_NOFOLLOW)
     except FileNotFoundError:
@@ -113,7 +114,7 @@ def overwrite(path: str, text: str) -> None:
 
 
 def append(path: str, size: int, text: bytes) -> None:
-    """Replaces everything after the first `size` bytes of a file by a text, and creates the file if it does not exist. When it
+    """Replaces everything after the first `size` bytes of a file by a text, and creates the file if it is missing. When it
     returns, the text is on the disk."""
     is_new = not os.path.exists(path)
     descriptor = os.open(path, os.O_WRONLY | os.O_CREAT | os.O_CLOEXEC | os.O_NOFOLLOW, 0o666)
@@ -129,7 +130,7 @@ def append(path: str, size: int, text: bytes) -> None:
 
 
 def read(path: str) -> str | None:
-    """Returns the text of a file, None if there is none. Raises Unreadable if its bytes are not UTF-8."""
+    """Returns the text of a file, or None if there is no file. Raises Unreadable if its bytes are not UTF-8."""
     try:
         with open(path, encoding="utf-8") as file:
             return file.read()
@@ -140,7 +141,7 @@ def read(path: str) -> str | None:
 
 
 def read_bytes(path: str) -> bytes | None:
-    """Returns the bytes of a file, None if there is none."""
+    """Returns the bytes of a file, or None if there is no file."""
     try:
         with open(path, "rb") as file:
             return file.read()
@@ -149,8 +150,9 @@ def read_bytes(path: str) -> bytes | None:
 
 
 def hold(folder: str, seconds: float = 0.0) -> IO[str]:
-    """Creates a folder, and holds it until the result is closed or the process ends. Raises Held, with the process that
-    holds it, if that does not release it within this time. (The lock is of one host: a folder on a network file system may be held on two.)"""
+    """Creates a folder, and holds it until the result is closed or the process ends. Raises Held, with the process that holds
+    the folder, if that process does not release it within this many seconds. The lock is valid on one host: a folder on a
+    network file system may be held on two hosts."""
     os.makedirs(folder, exist_ok=True)
     path = os.path.join(folder, "lock")
     lock = open(path, "a", encoding="utf-8")

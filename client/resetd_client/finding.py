@@ -1,4 +1,4 @@
-"""A finding of an inspection from outside, as a line for a person."""
+"""A finding of an inspection from outside the server, printed as one line."""
 
 from __future__ import annotations
 
@@ -8,8 +8,8 @@ from dataclasses import dataclass
 
 @dataclass(frozen=True)
 class Finding:
-    """`fault` names the fault with which a start of the server would end because of it, `later` the fault that a running server
-    meets or will meet, `left_out` what could not be inspected; each may be empty."""
+    """A finding, with three texts that may be empty: `fault` names the fault with which a start of the server would end because
+    of it, `later` the fault that a running server meets or will meet, and `left_out` what could not be inspected."""
 
     about: str
     text: str

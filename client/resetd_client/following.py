@@ -1,4 +1,4 @@
-"""The base of objects that look at a coordinator repeatedly, until they are stopped."""
+"""The base class of objects that look at a coordinator repeatedly, until they are stopped."""
 
 from __future__ import annotations
 
@@ -20,13 +20,13 @@ from .signals import Clock, Wake, Wakes
 from .view import View
 
 LOOK_SECONDS = 30.0  # between two looks, if nothing wakes it
-STOP_SECONDS = 0.1  # of a wait for wake-ups without a descriptor, which is looked into for a `stop`
-FIRST_WAIT = 0.01  # seconds between looks while others are not through: nothing wakes it when another one confirms
-MOST_WAITS = 20  # after which that wait, longer by 1.3 each time, is no longer extended: some 2 seconds
-PUSH_SECONDS = 1.0  # for which a view is awaited that a front pushes after an order
-TOLD_SECONDS = 2.0  # between looks while others are not through, and a front reports each change
-PAST_SECONDS = 30.0  # for which every address that answers may show the past, until one reset is asked for to find out
-DOUBT_SECONDS = 0.1  # until it looks after a message of another run: more of them bring no more looks
+STOP_SECONDS = 0.1  # between two checks for a `stop`, while it waits for wake-ups that have no descriptor
+FIRST_WAIT = 0.01  # seconds between looks while others are not through: nothing wakes a member when another one confirms
+MOST_WAITS = 20  # at which that wait, longer by 1.3 each time, stops growing: about 2 seconds
+PUSH_SECONDS = 1.0  # to wait for a view that a front pushes after an order
+TOLD_SECONDS = 2.0  # between looks while others are not through, if a front reports each change
+PAST_SECONDS = 30.0  # for which all answering addresses may show the past, until one reset is asked for to find out
+DOUBT_SECONDS = 0.1  # between a message of another run and the look for it: more such messages cause no more looks
 
 
 class Stopped(Exception):
@@ -34,13 +34,13 @@ class Stopped(Exception):
 
 
 def check_every(seconds: float) -> None:
-    """Raises BadWords unless the time between two looks is a positive number."""
+    """Raises BadWords unless this time between two looks is a positive number."""
     if not seconds > 0:
         raise BadWords(f"{seconds} seconds between two looks: it must be more than 0")
 
 
 class Following:
-    """Looks, waits for a wake-up, and looks again. A subclass defines how to look, and how long to wait."""
+    """Looks, waits for a wake-up, and looks again. A subclass defines how to look and how long to wait."""
 
     port: Port
 
@@ -48,23 +48,24 @@ class Following:
         self.orders, self._told = orders, told
         self._front = orders if isinstance(orders, AtFront) else None
         self.past_seconds = PAST_SECONDS
-        self._settled = 0  # how many steps the last view had
+        self._settled = 0  # the number of steps in the last view
         self._bell = Bell()
-        self._is_stopping = False  # no lock, since a signal's handler may set it
-        self._waits = 0  # looks in a row that did not find the group through
-        self._asked: set[int] = set()  # nodes for which resets were asked, and none of which has talked since
+        self._is_stopping = False  # no lock, because a signal handler may set it
+        self._waits = 0  # consecutive looks in which the group was not through
+        self._asked: set[int] = set()  # nodes for which a reset was asked for, and none of which has talked since
 
     def look(self) -> View:
         """Queries `show`, and does everything that is due."""
         raise NotImplementedError
 
     def stop(self) -> None:
-        """Ends `follow`, from any thread or a signal's handler, at once or after the answer that it waits for."""
+        """Ends `follow`, immediately or after the answer that it is waiting for. May be called from any thread and from a
+        signal handler."""
         self._is_stopping = True
         self._bell.ring()
 
     def _look_patiently(self) -> View | None:
-        """Looks, repeatedly while the coordinator is away. Returns None once `stop` was called."""
+        """Looks, and repeats that while the coordinator is away. Returns None once `stop` was called."""
         wait, is_told, past = 0.1, False, time.monotonic() + self.past_seconds
         while not self._is_stopping:
             try:
@@ -85,8 +86,8 @@ class Following:
         return None
 
     def _find_out(self) -> None:
-        """Asks for one reset of a node that it serves: an address that carries that out does not show the past. An old
-        coordinator carries out nothing, and then the answer is awaited only as long as the port waits."""
+        """Asks for one reset of a node that it serves: an address that carries the order out does not show the past. An old
+        coordinator carries out nothing; then the answer is awaited only as long as the port waits."""
         node = self._served_node()
         self._told(f"node {node}: every address that answers shows fewer steps than were seen: a reset is asked for, to find out "
                    "which of them serves the store")
@@ -94,13 +95,13 @@ class Following:
             raise_unless(self.orders.order_all([{"op": "reset", "node": node}]), {Refusal.UNKNOWN_NODE})
 
     def _served_node(self) -> int:
-        """Returns a node that it orders for."""
+        """Returns a node for which it gives orders."""
         raise NotImplementedError
 
     def _wait(self, wakes: Wakes, seconds: float, sooner: Callable[[float], float] = lambda began: math.inf,
               changes: Changes | None = None) -> Wake:
-        """Waits for a wake-up, at most this many seconds, or until `stop` is called. `sooner` may shorten that when the bell
-        rings, or when files change: it gets the time at which the wait began, and returns that at which it ends."""
+        """Waits for a wake-up, at most this many seconds, or until `stop` is called. When the bell rings or files change,
+        `sooner` may shorten the wait: it gets the time at which the wait began, and returns the time at which it ends."""
         began = time.monotonic()
         while True:
             self._bell.hush()
@@ -115,15 +116,15 @@ class Following:
                 wait_for([[self._bell.fileno()], descriptors(), changes.descriptors() if changes else []], left)
 
     def _next_wait(self, is_through: bool, every: float) -> float:
-        """Returns how long to wait for a wake-up: less while the group is not through, since nothing wakes a member when another
-        one confirms; longer each time, since a member that is down holds the others."""
+        """Returns how long to wait for a wake-up. The wait is shorter while the group is not through, because nothing wakes a
+        member when another one confirms; it grows each time, because a member that is down delays the others."""
         self._waits = 0 if is_through else min(self._waits + 1, MOST_WAITS)
         if not is_through and self._front and self._front.descriptors():
             return min(every, TOLD_SECONDS)
         return every if is_through else min(every, FIRST_WAIT * 1.3 ** self._waits)
 
     def _view(self) -> View:
-        """Returns the view that a front has pushed after the last order, if it has not been used yet, else queries one."""
+        """Returns the view that a front has pushed after the last order, unless it was used already; otherwise queries one."""
         view = self._front.take() if self._front else None
         if view is None or view.settled < self._settled:
             view = self.port.show()
@@ -136,10 +137,10 @@ class Following:
             self._front.await_view(PUSH_SECONDS)
 
     def _confirm(self, epochs: Mapping[int, int], foresee: Callable[[View], None], view: View) -> None:
-        """Confirms epochs of nodes, however long the coordinator is away. While the confirms are on their way it calls `foresee`
-        with the view that led to them, and with each view that a front pushes meanwhile. It is not a fault if an epoch was
-        confirmed before, or if a node has gone or went back meanwhile: the next look sees it. Raises Refused for all else, and
-        Stopped."""
+        """Confirms epochs of nodes, however long the coordinator is away. While the confirms are on their way, it calls
+        `foresee` with the view that led to them, and with each view that a front pushes. It is not an error if an epoch was
+        already confirmed, or if a node was removed or went back meanwhile: the next look finds that. Raises Refused for any
+        other refusal, and Stopped."""
         orders: list[Order] = [{"op": "confirm", "node": node, "epoch": epoch} for node, epoch in epochs.items()]
         if not orders:
             return
@@ -151,8 +152,8 @@ class Following:
             foresee(view)
 
     def _ask_reset(self, node: int, why: str, epoch: int | None = None) -> None:
-        """Asks for a reset, and logs the first in a row. It is not a fault if the node has gone meanwhile. Raises as `_confirm`
-        does."""
+        """Asks for a reset, and logs only the first in a row. It is not an error if the node was removed meanwhile. Raises like
+        `_confirm`."""
         if node not in self._asked:
             self._told(f"node {node}: {why}: a reset is asked for")
         self._asked.add(node)
@@ -164,7 +165,7 @@ class Following:
             self._order(self.orders, [{"op": "reset", "node": node}], passed)
 
     def _order(self, book: Orders, orders: list[Order], passed: set[Refusal]) -> None:
-        """Carries out numbered orders of one client; continues after these refusals."""
+        """Carries out numbered orders of one client. The refusals in `passed` do not stop it."""
         while orders:
             outcomes = patiently(lambda: self._unless_stopped(book.order_all, orders))
             raise_unless(outcomes, passed)
@@ -172,7 +173,7 @@ class Following:
 
     def _order_at_front(self, front: AtFront, orders: list[Order], passed: set[Refusal],
                         on_view: Callable[[View], None] = lambda view: None, view: View | None = None) -> None:
-        """Carries out orders without numbers; continues after these refusals."""
+        """Carries out orders without numbers. The refusals in `passed` do not stop it."""
         outcomes = patiently(lambda: self._unless_stopped(lambda sent: front.order_all(sent, on_view=on_view, view=view), orders))
         raise_unless(outcomes, passed)
 
@@ -183,7 +184,7 @@ class Following:
 
 
 def raise_unless(outcomes: Sequence[Outcome], passed: set[Refusal]) -> None:
-    """Raises the first outcome that is neither a reply nor one of these refusals."""
+    """Raises the first outcome that is neither a reply nor one of the refusals in `passed`."""
     for outcome in outcomes:
         if isinstance(outcome, NotTaken) and not (isinstance(outcome, Refused) and outcome.refusal in passed):
             raise outcome

@@ -1,4 +1,5 @@
-"""A gateway: one process and one client that looks and confirms for any number of members, each after a folder (seats.py)."""
+"""A gateway: one process with one client, which looks and confirms for any number of members. Each member has a folder
+(seats.py)."""
 
 from __future__ import annotations
 
@@ -23,60 +24,60 @@ from .since import boot_name
 from .starts import Shelf, Starts
 from .view import Node, View
 
-MOST_TURNS = 100  # of one look
-GATHER_SECONDS = 0.01  # for which others may begin after the last one, and are then confirmed with it
+MOST_TURNS = 100  # in one look
+GATHER_SECONDS = 0.01  # to wait for more members to begin after the last one did; then they are confirmed together
 
 
 class Desk:
-    """A node's members, which begin and talk together: their seats, and the stored state of their starts."""
+    """The members of one node, which begin and talk together: their seats, and the stored state of their starts."""
 
     def __init__(self, node: int, shelf: Shelf, folder: str, names: Iterable[str],
                  numbers: Mapping[str, int] = MappingProxyType({})) -> None:
-        """`numbers` are the numbers of the members' last instructions, by their names."""
+        """`numbers` are the numbers of the members' last instructions, by the members' names."""
         self.node, self._shelf = node, shelf
         self.seats = [Seat(os.path.join(folder, name)) for name in names]
         self._least = max([numbers.get(seat.name, 0) for seat in self.seats], default=0)
         self.starts = Starts(shelf, node, self._begun())
-        self.telling: int | None = None  # the epoch of this process's last instruction, if it is not confirmed yet
-        self.tag: str | None = None  # of the run that the members may talk in: empty if the node is alone
+        self.telling: int | None = None  # the epoch of this process's last instruction, until it is confirmed
+        self.tag: str | None = None  # of the run in which the members may talk; empty if the node is alone
 
     @property
     def told(self) -> str:
-        """The last instruction to the members; empty for none."""
+        """The last instruction to the members, empty if there was none."""
         return self._shelf.told(self.node)
 
     def due(self, view: View, row: Node) -> Due:
-        """Returns the action that a view with the node's row requires."""
+        """Returns the action that is due for a view with the node's row."""
         self.starts.work = begun = self._begun()
         if begun is not None and self.starts.begun != begun:
             self.starts.note_begun(begun)
         return Due.WAIT if self._is_told(row) else self.starts.due(view, row)
 
     def has_begun(self, row: Node) -> bool:
-        """Whether all members have begun as this process instructed, and that is stored, so that it can be confirmed."""
+        """Returns whether all members have begun as this process instructed, and that is stored, so that it can be confirmed."""
         return self._is_told(row) and self.starts.begun == row.epoch
 
     def awaits_begin(self) -> bool:
-        """Whether this process instructed members to begin, and not all of them have."""
+        """Returns whether this process instructed the members to begin, and not all of them have."""
         return self.telling is not None and self._begun() is None
 
     def note_begin(self, epoch: int) -> None:
-        """Notes that all members are to begin an epoch."""
+        """Records that all members are to begin an epoch."""
         number = 1 + max([self._least, number_of(self.told), *(seat.number for seat in self.seats)])
         self.starts.note_begin(told=f"{epoch} {number}\n")
         self.telling = epoch
 
     def note_confirmed(self) -> None:
-        """Notes that the epoch that the members were instructed to begin, and have begun, was confirmed."""
+        """Records that the instructed epoch, which all members have begun, was confirmed."""
         self.telling = None
 
     def lines(self, boot: str) -> str:
-        """Returns the instructions to its members (seats.py)."""
+        """Returns the instructions to the node's members (seats.py)."""
         run = "" if self.tag is None else f" {self.tag or '-'} {boot}"
         return "".join(f"{seat.name} {self.told.strip()}{run}\n" for seat in self.seats) if self.told else ""
 
     def is_parted(self) -> bool:
-        """Whether a talking member has refused a tag that will never equal its own."""
+        """Returns whether a talking member has refused a tag that will never equal its own."""
         refused = [tag for seat in self.seats if (tag := seat.take_refused())]
         return any(are_parted(self.tag or "", tag) for tag in refused)
 
@@ -89,7 +90,7 @@ class Desk:
 
 
 class Judged(NamedTuple):
-    """A node's members, its row, and the action that the row requires."""
+    """The members of one node, the node's row, and the action that is due for it."""
 
     desk: Desk
     row: Node
@@ -97,14 +98,14 @@ class Judged(NamedTuple):
 
 
 class Gateway(Following):
-    """Serves members. `members` has the names of each node's members, and the member NAME has the folder FOLDER/NAME: several
-    members of one node, as the processes of one host, all begin before it is confirmed. One file has the instructions for all
-    members (seats.py)."""
+    """Serves members. `members` has the names of each node's members; the member NAME has the folder FOLDER/NAME. All members
+    of one node, for example the processes on one host, must begin before the node's epoch is confirmed. One file has the
+    instructions to all members (seats.py)."""
 
     def __init__(self, port: Port, orders: Orders | AtFront, members: Mapping[int, Iterable[str]], folder: str, *,
                  word: str = "", told: Callable[[str], None] = warn) -> None:
-        """`orders` are an AtFront if every address of the port is a front's. Raises Unreadable if a file of its own can't be
-        read, and BadWords for an invalid name of a member."""
+        """`orders` is an AtFront if every address of the port is a front's. Raises Unreadable if a file of the gateway can't be
+        read, and BadWords if the name of a member is invalid."""
         super().__init__(orders, told)
         self.port, self._word, self._boot = port, word, boot_name()
         os.makedirs(folder, exist_ok=True)
@@ -112,8 +113,8 @@ class Gateway(Following):
         self.desks = [Desk(node, self._shelf, folder, names, self._board.numbers) for node, names in members.items()]
         self._changes = Changes(path for desk in self.desks for seat in desk.seats for path in seat.written_by_member())
         self._changes.take()
-        self._written: set[str] = set()  # the names of files that members have written since the last look
-        self._last_written = 0.0  # when that was
+        self._written: set[str] = set()  # names of files that members have written since the last look
+        self._last_written = 0.0  # the time of the last such write
         self._absent: set[int] = set()
         self._is_through = False
         self._last: View | None = None
@@ -122,8 +123,8 @@ class Gateway(Following):
                        "with this version")
 
     def look(self) -> View:
-        """Queries `show` for all members: publishes the epochs to begin, confirms the begun ones, asks for resets,
-        and looks again if it ordered something. Raises as `Member.look` does."""
+        """Queries `show` once for all members. Publishes the epochs to begin, confirms the begun ones, asks for resets, and
+        looks again if it ordered something. Raises like `Member.look`."""
         return self._look_from(self._view())
 
     def follow(self, wakes: Wakes, every: float = LOOK_SECONDS) -> None:
@@ -139,8 +140,8 @@ class Gateway(Following):
             self._written = set()
 
     def _look_at_last(self) -> View | None:
-        """Judges the last view once more, since members have begun and the front has pushed no other. None if that is not so, or
-        the coordinator is away."""
+        """Judges the last view again, if members have begun and the front has pushed no other view. Returns None if that is not
+        so, or if the coordinator is away."""
         if self._front is None or self._last is None or not self._front.descriptors():
             return None
         try:
@@ -166,8 +167,8 @@ class Gateway(Following):
         raise Away("each look showed new epochs")
 
     def _sooner(self, began: float) -> float:
-        """A look is due when all instructed members have begun, or no other one has for a moment: they are confirmed together. It
-        is due soon after a member has rejected a tag."""
+        """A look is due when all instructed members have begun, or when no other member has begun for a moment: they are
+        confirmed together. It is due soon after a member has refused a tag."""
         written = {os.path.basename(path) for path in self._changes.take() if os.path.exists(path)}
         if "begun" in written:
             self._last_written = time.monotonic()
@@ -177,8 +178,8 @@ class Gateway(Following):
         return began + DOUBT_SECONDS if self._written else math.inf
 
     def _judge(self, view: View, rows: Mapping[int, Node]) -> list[Judged]:
-        """The due action at each node that exists. Stores the required state, for all in one write: so members are instructed to
-        begin once the reset is over in their group, and have stopped talking by then."""
+        """Returns the due action at each node that exists. Stores the required state of all nodes in one write. So members are
+        instructed to begin only once the reset is over in their group, and they have stopped talking by then."""
         judged = [Judged(desk, rows[desk.node], desk.due(view, rows[desk.node])) for desk in self.desks if desk.node in rows]
         begin = [each for each in judged if each.due is Due.BEGIN and view.part(each.desk.node).is_quiet]
         for each in begin:
@@ -188,7 +189,7 @@ class Gateway(Following):
         return judged
 
     def _tell_members(self, view: View, judged: list[Judged]) -> None:
-        """Publishes in which run members may talk, and which epochs they must begin."""
+        """Publishes the run in which members may talk, and the epochs that they must begin."""
         talking = {each.desk.node for each in judged if each.due is Due.TALK}
         self._asked -= talking
         for desk in self.desks:
@@ -196,8 +197,8 @@ class Gateway(Following):
         self._board.tell("".join(desk.lines(self._boot) for desk in self.desks))
 
     def _order_what_is_due(self, view: View, judged: list[Judged]) -> bool:
-        """Confirms the begun epochs, and asks for one reset, since that may reach the others too. Returns whether there was
-        something to order."""
+        """Confirms the begun epochs, and asks for one reset at a time, because it may reach the other nodes too. Returns
+        whether it gave an order."""
         begun = [each for each in judged if each.desk.has_begun(each.row)]
         self._shelf.write()
         self._confirm({each.desk.node: each.row.epoch for each in begun}, self._foresee, view)
@@ -214,7 +215,7 @@ class Gateway(Following):
         return self.desks[0].node
 
     def _foresee(self, view: View) -> None:
-        """Adds the shown parties to the history while confirms are on their way."""
+        """Adds the parties that a view shows to the history, while confirms are on their way."""
         for desk in self.desks:
             desk.starts.foresee(view)
         self._shelf.write()

@@ -1,4 +1,4 @@
-"""A monitoring check: a coordinator's present state, and for how long each condition has lasted."""
+"""A monitoring check: the present state of a coordinator, and how long each condition has lasted."""
 
 from __future__ import annotations
 
@@ -12,13 +12,13 @@ from .signal_lag import Signals
 from .since import Since
 from .view import View
 
-# Over each of 128 links, both ways, go two messages with their receipts: more steps than a wave makes while none of its
-# nodes' rows changes.
+# Two messages, each with its receipt, cross each of the 128 links in both directions: more steps than a wave can make without
+# changing a row of one of its nodes.
 MOST_WAVE_STEPS = 1_024
 
 
 class Level(enum.IntEnum):
-    """The statuses of monitoring checks."""
+    """The statuses of a monitoring check."""
 
     OK = 0
     WARNING = 1
@@ -28,7 +28,7 @@ class Level(enum.IntEnum):
 
 @dataclass(frozen=True)
 class Bounds:
-    """How many seconds each condition may last before it is reported."""
+    """The number of seconds that each condition may last before it is reported."""
 
     steps: float = 5.0
     wave: float = 5.0
@@ -47,8 +47,8 @@ class Health:
 
 def check(port: Port, since: Since, bounds: Bounds, patience: float = 0.0, signals: Signals | None = None,
           store: str | None = None) -> Health:
-    """Queries the server and returns the findings. If no view arrives within this many seconds, findings that were already active
-    stay active. `store` is the coordinator's expected file. Raises NotTaken."""
+    """Queries the server and returns the findings. If no view arrives within `patience` seconds, findings that were already
+    active stay active. `store` is the file that the coordinator should be serving. Raises NotTaken."""
     comparison = Comparison(store)
     try:
         view = patiently(port.show, patience)
@@ -65,7 +65,7 @@ def check(port: Port, since: Since, bounds: Bounds, patience: float = 0.0, signa
 
 
 class Comparison:
-    """Compares the coordinator's store with the one in a file, if there is one: reads the file before and after a view."""
+    """Compares the coordinator's store with the store in a file, if there is one, by reading the file before and after a view."""
 
     def __init__(self, path: str | None) -> None:
         self._path = path
@@ -73,10 +73,10 @@ class Comparison:
         try:
             self._before = reading(path) if path else self._before
         except NotCompared:
-            pass  # the reading after the view says so
+            pass  # `judged` reports it after the second reading
 
     def differs(self, view: View) -> bool | None:
-        """Whether the store is another one; None if unknown."""
+        """Returns whether the stores differ, or None if that is unknown."""
         level = self.judged(view)[0] if self._path else Level.UNKNOWN
         return None if level is Level.UNKNOWN else level is Level.CRITICAL
 
@@ -94,7 +94,7 @@ class Comparison:
 
 
 def findings(view: View, since: Since, bounds: Bounds) -> list[str]:
-    """The conditions that have lasted longer than their bounds."""
+    """Returns the conditions that have lasted longer than their bounds."""
     found: list[str] = []
     if view.accepted > view.settled and (lasted := oldest_wait(view, since)) >= bounds.steps:
         found.append(f"{view.accepted - view.settled} steps have waited for the disk for {lasted:.0f} s")
@@ -108,16 +108,16 @@ def findings(view: View, since: Since, bounds: Bounds) -> list[str]:
 
 
 def oldest_wait(view: View, since: Since) -> float:
-    """Returns the least time for which the oldest step that waits for the disk has waited. Each look notes the last accepted
-    step; the oldest of these notes that is not settled yet gives the time."""
+    """Returns the least time for which the oldest unsettled step has waited for the disk. Each look records the last accepted
+    step; the oldest such record that is not settled yet determines the time."""
     noted = {int(thing.split()[1]) for thing in since.things("accepted")} | {view.accepted}
     return max(since.seconds(f"accepted {step}") for step in noted if view.settled < step <= view.accepted)
 
 
 def still_waves(view: View, since: Since, bounds: Bounds) -> list[str]:
-    """Returns the waves that do not move although no packet is in transit. A wave moves if a row of one of its nodes changes. It may
-    wait for the disk with pending steps; so it counts only if no look found pending steps for long, or if so much was settled
-    meanwhile that its own steps are included."""
+    """Returns the waves that do not move although no packet is in transit. A wave moves if the row of one of its nodes changes.
+    It may be waiting for the disk with pending steps; so it counts only if no look has found pending steps for long, or if
+    so many steps were settled meanwhile that its own must be among them."""
     found: list[str] = []
     seen: set[int] = set()
     for node in view.nodes:
@@ -137,7 +137,7 @@ def still_waves(view: View, since: Since, bounds: Bounds) -> list[str]:
 
 
 def missing_signals(view: View, signals: Signals, since: Since, bounds: Bounds) -> list[str]:
-    """Reports the signals that the file of signals has lacked for longer than its bound."""
+    """Reports the signals that have been missing from the file of signals for longer than the bound."""
     try:
         lacking = signals.lacking(view)
     except OSError as fault:
@@ -152,8 +152,8 @@ def missing_signals(view: View, signals: Signals, since: Since, bounds: Bounds) 
 
 
 def metrics(view: View | None, is_stopped: bool, differs: bool | None = None) -> str:
-    """Formats the metrics for node_exporter's textfile collector. `differs`: the store is not the one in its file; None if
-    unknown."""
+    """Formats the metrics for node_exporter's textfile collector. `differs`: whether the store differs from the one in its
+    file, or None if unknown."""
     rows = [("resetd_up", "gauge", "1 if the server answers", [("", int(view is not None or is_stopped))]),
             ("resetd_stopped", "gauge", "1 if the server answers Stopped", [("", int(is_stopped))])]
     if differs is not None:

@@ -1,5 +1,4 @@
-"""The history of a member: the digests of all parties with which its starts ever first talked, in a file that only
-grows."""
+"""The history of a member: the digests of all parties with which its starts have first talked, in a file that only grows."""
 
 from __future__ import annotations
 
@@ -13,15 +12,15 @@ LINES = re.compile(rb"(?:[0-9a-f]{64}\n)*")
 
 
 class History:
-    """A file with a digest of 64 hexadecimal digits on each line. An added digest counts, and is on disk, after the next `keep`.
-    It is never truncated: a store may be restored from any copy. A last line that a power cut tore belongs to a start that never
-    talked, so it is skipped, and the next one takes its place."""
+    """A file with one digest of 64 hexadecimal digits on each line. An added digest counts, and is on the disk, after the next
+    `keep`. The file is never truncated, because a store may be restored from any copy. If a power cut tore the last line, it
+    belongs to a start that never talked; so it is skipped, and the next line overwrites it."""
 
     def __init__(self, path: str) -> None:
         """Raises Unreadable if the file can't be read."""
         self._path = path
         text = files.read_bytes(path) or b""
-        self._size = text.rfind(b"\n") + 1  # of the lines that are whole
+        self._size = text.rfind(b"\n") + 1  # the size of the complete lines
         if not LINES.fullmatch(text, 0, self._size):
             raise Unreadable(path, ": remove it and the member's other files; the member then asks for a reset")
         self._digests = {bytes.fromhex(line.decode()) for line in text[:self._size].splitlines()}
@@ -34,16 +33,16 @@ class History:
         return len(self._digests)
 
     def sync(self) -> None:
-        """Syncs the file after reading it: the process that wrote it may have been killed before its sync."""
+        """Syncs the file after it was read: the process that wrote it may have been killed before it synced the file."""
         files.sync(self._path)
 
     def add(self, digest: str) -> None:
-        """Adds a digest with the next `keep`."""
+        """Adds a digest, which the next `keep` writes to the disk."""
         if digest not in self and digest not in self._added:
             self._added.append(digest)
 
     def keep(self) -> None:
-        """Writes all added digests to the disk. After an error call it again: it writes all of them again."""
+        """Writes all added digests to the disk. After an error, call it again: it writes all of them again."""
         if not self._added:
             return
         text = "".join(f"{digest}\n" for digest in self._added).encode()

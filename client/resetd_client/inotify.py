@@ -1,4 +1,4 @@
-"""Notifications of changed files in some folders (inotify of Linux), through the C library."""
+"""Notifications of changed files in folders (inotify of Linux), through the C library."""
 
 from __future__ import annotations
 
@@ -11,16 +11,16 @@ CREATED, MODIFIED, MOVED_FROM, MOVED_TO, DELETED = 0x100, 0x2, 0x40, 0x80, 0x200
 DELETED_SELF, MOVED_SELF, ONLY_FOLDERS = 0x400, 0x800, 0x1000000
 MASK = CREATED | MODIFIED | MOVED_FROM | MOVED_TO | DELETED | DELETED_SELF | MOVED_SELF | ONLY_FOLDERS
 IGNORED, OVERFLOWED = 0x8000, 0x4000
-NOT_KNOWN = DELETED_SELF | MOVED_SELF | IGNORED | OVERFLOWED  # these do not say which file has changed
+NOT_KNOWN = DELETED_SELF | MOVED_SELF | IGNORED | OVERFLOWED  # events that do not name the file that has changed
 EVENTS_BYTES = 65_536
-EVENT = struct.Struct("iIII")  # a watch, what happened, and the length of the name that follows
+EVENT = struct.Struct("iIII")  # the watch, the event, and the length of the name that follows
 
 
 class Inotify:
-    """A descriptor that can be read once something has changed in one of the folders. It is closed with its owner."""
+    """A descriptor that becomes readable when something has changed in one of the folders. Its owner closes it."""
 
     def __init__(self) -> None:
-        """Raises OSError if there is no inotify, or too many of them are in use."""
+        """Raises OSError if the system has no inotify, or too many are in use."""
         try:
             library = ctypes.CDLL(None, use_errno=True)
             self._add = library.inotify_add_watch
@@ -35,8 +35,8 @@ class Inotify:
         return int(self._descriptor)
 
     def watch(self, folder: str) -> int | None:
-        """Watches a folder from now on, even if it has replaced another one. Returns the number of the watch, or None if there is
-        no such folder."""
+        """Watches a folder from now on, even if it has replaced another one. Returns the number of the watch, or None if the
+        folder does not exist."""
         number = int(self._add(self._descriptor, os.fsencode(folder), ctypes.c_uint32(MASK)))
         return number if number >= 0 else None
 

@@ -1,4 +1,4 @@
-"""The limits of a coordinator (docs/PROTOCOL.md), so that numbers beyond them are rejected before anything is sent."""
+"""The limits of a coordinator (docs/PROTOCOL.md), with which numbers out of range are rejected before anything is sent."""
 
 from __future__ import annotations
 
@@ -17,7 +17,7 @@ RANGES: Mapping[str, range] = {
 
 
 def check_number(name: str, value: object) -> None:
-    """Raises BadWords if a request's member of this name can't have this value. It accepts other names."""
+    """Raises BadWords if a request's member with this name can't have this value. Accepts any value for other names."""
     limits = RANGES.get(name)
     if limits is None:
         return
@@ -26,13 +26,13 @@ def check_number(name: str, value: object) -> None:
 
 
 def check_order(order: Mapping[str, object]) -> None:
-    """Raises BadWords for the first number of an order that is out of its range."""
+    """Raises BadWords for the first number in an order that is out of its range."""
     for name, value in order.items():
         check_number(name, value)
 
 
 def said(limits: range) -> str:
-    """Returns a range in words."""
+    """Formats a range for a message."""
     return "a whole number below 2^64" if limits == WORDS else f"a whole number from {limits[0]} to {limits[-1]}"
 
 

@@ -1,4 +1,4 @@
-"""A member: one node's side of a service. When it begins, when it confirms, and when it may talk to others."""
+"""A member: one node's side of a service. It decides when to begin, when to confirm, and when it may talk to others."""
 
 from __future__ import annotations
 
@@ -24,28 +24,28 @@ from .signals import Clock, Wake, Wakes
 from .starts import Shelf, Starts
 from .view import Node, View
 
-MOST_TURNS = 100  # of one look: each begins or confirms an epoch that is new, or asks for a reset
-MOST_REFUSED = 64  # tags that are remembered until the next look: a group has no more members
+MOST_TURNS = 100  # in one look: each begins or confirms a new epoch, or asks for a reset
+MOST_REFUSED = 64  # tags remembered until the next look: no group has more members
 
 
 @dataclass(frozen=True)
 class Run:
-    """In a run a member may exchange messages. Each message or connection has the tag, one string; refuse another run's.
-    The tag is empty if the member was connected with nobody when its start first talked: then it sends no message.
-    `fence` is for a database that refuses members of earlier runs."""
+    """A run, in which a member may exchange messages. Each message or connection has the run's tag, a string; refuse messages
+    of another run. The tag is empty if the member was connected with nobody when its start first talked: then it sends no
+    message. `fence` is for a database that refuses members of earlier runs."""
 
     epoch: int
     tag: str
     fence: Fence | None = field(default=None, compare=False)
 
     def takes(self, tag: str) -> bool:
-        """Whether a message with this tag is of this run. Two tags of one run need not be equal."""
+        """Returns whether a message with this tag belongs to this run. Two tags of one run need not be equal."""
         return is_same_run(self.tag, tag)
 
 
 class Heard(NamedTuple):
-    """What a member heard about others between two looks: the tags that it refused, and the nodes and the greatest count of the
-    fences that made resources refuse its own."""
+    """What a member has learned about others between two looks: the tags that it refused, and the nodes and the greatest count
+    of the fences for which a resource refused its own."""
 
     tags: set[str]
     takers: set[int]
@@ -53,40 +53,41 @@ class Heard(NamedTuple):
 
 
 class Work(enum.Enum):
-    """How `begin` replaces the work, which determines what must be on disk before it."""
+    """How `begin` replaces the work. This determines what must be on the disk before `begin` is called."""
 
     PARTS = enum.auto()  # part by part: "nothing begun" is synced before
-    WHOLE = enum.auto()  # at once, together with its epoch, as one file that is renamed: nothing is synced before
-    MEMORY = enum.auto()  # it is in memory alone, and `begun` is None at each start of the process: nothing is synced before
+    WHOLE = enum.auto()  # as a whole, together with its epoch, by renaming one file: nothing is synced before
+    MEMORY = enum.auto()  # in memory alone, and `begun` is None whenever the process starts: nothing is synced before
 
 
 class OutOfRun(ResetdError):
-    """There is no run, or the message belongs to another one: don't accept it, and close its connection. Needs no person."""
+    """There is no run, or the message belongs to another run: don't accept it, and close its connection. The program can do
+    this itself, so it needs no person."""
 
     needs_person = False
 
 
 class Member(Following):
-    """One node's member: looks at `show` whenever it is woken, and trusts only the view.
+    """One node's member. It looks at `show` whenever it is woken, and trusts only the view.
 
-    It calls `begin` with an epoch: that drops all present work and closes what is open to other members, loads the common start,
-    stores it with the epoch, and returns only once that is on disk. `begun` is the epoch that is stored with the work, None for
-    no work (and for work in memory). The member keeps two files, `start-NODE.json` and `start-NODE.history` in the folder of its
-    orders: keep them as long as the work, and move them with the work.
+    It calls `begin` with an epoch. `begin` must drop all present work, close what is open to other members, load the common
+    start, store it with the epoch, and return only once that is on the disk. `begun` is the epoch that is stored with the
+    work, None if there is no work (or the work is in memory). The member keeps two files, `start-NODE.json` and
+    `start-NODE.history`, in the folder of its orders: keep them as long as the work, and move them together with it.
 
-    Either one thread calls `follow`, or the member is used by `with`, which runs `follow` in its own thread, woken by `wakes` and
-    at the latest after `every` seconds. Any other threads work `in_run`. `on_run` is called with each run that begins, and with
-    None when it ends, by the thread that looks; it must not wait for that thread.
+    Either one thread calls `follow`, or the member is used in a `with` statement, which runs `follow` in a thread of its
+    own, woken by `wakes` and at the latest after `every` seconds. Any other threads do their work `in_run`. The thread that
+    looks calls `on_run` with each run that begins, and with None when it ends; `on_run` must not wait for that thread.
     """
 
     def __init__(self, port: Port, orders: Orders | AtFront, node: int, begun: int | None, begin: Callable[[int], None], *,
                  word: str = "", told: Callable[[str], None] = warn, wakes: Wakes | None = None,
                  every: float = LOOK_SECONDS, on_run: Callable[[Run | None], None] = lambda run: None, work: Work = Work.PARTS,
                  generation: int = 0) -> None:
-        """`orders` are an AtFront if every address of the port is a front's; it wakes the member too, if no `wakes` are given.
-        `generation` is for the fence: one number of all members, 0 to 8,388,607, and after each restore of the coordinator's
-        store one that no member had before. Raises Unreadable if a file of its own does not read, and BadWords if work in memory is given as
-        begun, or at an invalid generation."""
+        """`orders` is an AtFront if every address of the port is a front's; it also wakes the member if `wakes` is not given.
+        `generation` is for the fence: one number for all members, 0 to 8,388,607; after each restore of the coordinator's
+        store it must be one that no member had before. Raises Unreadable if a file of the member can't be read, and BadWords
+        if `begun` is given for work in memory, or for an invalid generation."""
         super().__init__(orders, told)
         if work is Work.MEMORY and begun is not None:
             raise BadWords("work in memory does not outlive its process: give begun=None")
@@ -102,39 +103,39 @@ class Member(Following):
         self._thread: threading.Thread | None = None
         self._fault: BaseException | None = None
         self._run: Run | None = None
-        self._changes = threading.Condition(threading.RLock())  # over the run, and the work that belongs to it
+        self._changes = threading.Condition(threading.RLock())  # for the run, and the work that belongs to it
         self._is_there = True
-        self._refused: set[str] = set()  # the tags of messages of other runs, since the last look
-        self._takers: set[int] = set()  # the nodes of the fences for which resources have refused its own, since then
-        self._taken = 0  # the greatest count of these
-        self._epoch: int | None = None  # of its node, in the last view
-        self._why: str | None = None  # why somebody wants a reset
+        self._refused: set[str] = set()  # the tags in messages of other runs, since the last look
+        self._takers: set[int] = set()  # the nodes of the fences for which resources refused this member's, since then
+        self._taken = 0  # the greatest count of these fences
+        self._epoch: int | None = None  # of this node, in the last view
+        self._why: str | None = None  # why a reset is wanted
 
     @property
     def begun(self) -> int | None:
-        """The epoch of the work in hand, None for no work."""
+        """The epoch of the present work, None if there is no work."""
         return self._starts.begun
 
     @property
     def run(self) -> Run | None:
-        """The run that the group is in, None while somebody is not through. It may be over as soon as you have read it:
-        change the work `in_run`."""
+        """The run that the group is in, None while a member is not through. It may have ended by the time you have read it:
+        change the work only `in_run`."""
         return self._run
 
     @property
     def fence(self) -> Fence | None:
-        """The fence of the run: None while there is no run, and after an update from a version that had no fence, until the next
-        reset. Take it from the run of `in_run`, so that work and fence are of one start."""
+        """The fence of the run. None while there is no run, and also from an update of a version without fences until the next
+        reset. Read it from the run of `in_run`, so that work and fence belong to one start."""
         run = self._run
         return run.fence if run else None
 
     @contextmanager
     def in_run(self, tag: str | None = None, wait: float = 0.0) -> Iterator[Run]:
-        """While the body works, no begin and no other `in_run` comes in between. `tag` is that of a message: the body works only
-        if it is of this run. Raises OutOfRun at the tag of another run, and if there is no run after `wait` seconds; at another
-        tag the member looks, since this run may be over. Raises the exception that ended the member's own thread, if there is
-        one. Keep the body short, and don't wait for others in it. In a thread with an event loop it raises InLoop: use
-        `resetd_client.aio`."""
+        """While the body runs, no begin and no other `in_run` runs in between. `tag` is the tag of a message: the body runs
+        only if the message belongs to this run. Raises OutOfRun for the tag of another run, and if there is no run after
+        `wait` seconds. For an unknown tag the member looks, since this run may be over. Raises the exception that ended the
+        member's own thread, if there is one. Keep the body short, and don't wait for others in it. In a thread with an event
+        loop it raises InLoop: use `resetd_client.aio`."""
         refuse_in_loop("in_run")
         with self._changes:
             self._changes.wait_for(lambda: self._run is not None, wait)
@@ -149,25 +150,26 @@ class Member(Following):
             yield run
 
     def reset(self, why: str) -> None:
-        """Makes the looking thread ask for a reset of the member's node, at once or with its next look. May be called from any
-        thread and from a signal handler; several calls before that count as one."""
+        """Makes the looking thread ask for a reset of the member's node, immediately or with its next look. May be called from
+        any thread and from a signal handler. Several calls before that count as one."""
         self._why = why
         self._bell.ring()
 
     def note_overtaken(self, nodes: Iterable[int], count: int) -> None:
-        """A resource has rejected the member's fence, and keeps one with these nodes and this count. The member looks. If it may still
-        talk after that look, and one of the nodes is connected with it, it asks for a reset: a start of its own group has the
-        resource. Otherwise another group has it. If the coordinator's store has not settled as many steps as the count says, a
-        reset would not help: the thread that looks ends with StoreWentBack. May be called from any thread."""
+        """Reports that a resource has refused the member's fence, and stores a fence with these nodes and this count. The
+        member then looks. If it may still talk after that look, and one of the nodes is connected with it, it asks for a
+        reset: a start of its own group has the resource. Otherwise another group has it. If the coordinator's store has
+        settled fewer steps than the count implies, a reset would not help: the thread that looks ends with StoreWentBack.
+        May be called from any thread."""
         with self._changes:
             self._takers |= set(nodes)
             self._taken = max(self._taken, count)
         self._bell.ring()
 
     def look(self) -> View:
-        """Queries `show`, begins, confirms and asks for resets until there is nothing more to do, and returns the last view.
-        `run` is then the run that the group is in, or None while somebody is not through. After Away call it again; Refused,
-        Faulted and StoreWentBack need a person."""
+        """Queries `show`, begins, confirms and asks for resets until nothing more is due, and returns the last view. `run` is
+        then the run that the group is in, or None while a member is not through. After Away, call it again. Refused, Faulted
+        and StoreWentBack need a person."""
         if self._ask_wanted_reset():
             self._await_view()
         for _ in range(MOST_TURNS):
@@ -181,7 +183,7 @@ class Member(Following):
         raise Away(f"each look showed a new epoch of node {self.node}")
 
     def follow(self, wakes: Wakes, every: float = LOOK_SECONDS, after: Callable[[View], None] | None = None) -> None:
-        """Looks at once, at each wake-up, after this many seconds, and after each absence of the coordinator, until no more
+        """Looks immediately, at each wake-up, after this many seconds, and after each absence of the coordinator, until no more
         wake-ups will come or `stop` is called. `after` receives each view."""
         check_every(every)
         while (view := self._look_patiently()) is not None:
@@ -191,7 +193,7 @@ class Member(Following):
                 return
 
     def wait_seconds(self, every: float) -> float:
-        """Returns how long to wait for a wake-up: less while the group is not through."""
+        """Returns how long to wait for a wake-up. The wait is shorter while the group is not through."""
         return self._next_wait(self._run is not None or not self._is_there, every)
 
     def __enter__(self) -> Member:
@@ -202,7 +204,7 @@ class Member(Following):
         return self
 
     def __exit__(self, kind: object, *_: object) -> None:
-        """Stops. Raises the exception that ended the thread before, if there is one and the body raised nothing itself."""
+        """Stops the thread. Raises the exception that ended it before, unless the body raised one."""
         self.stop()
         if self._thread:
             self._thread.join()
@@ -213,7 +215,7 @@ class Member(Following):
     def _follow_alone(self) -> None:
         try:
             self.follow(self._wakes, self._every)
-        except BaseException as fault:  # raised for whoever leaves the `with`
+        except BaseException as fault:  # raised to the caller when the `with` ends
             self._fault = fault
             self._told(f"node {self.node}: it follows no more: {fault!r}")
             self._set_run(None)
@@ -229,7 +231,7 @@ class Member(Following):
         self._bell.ring()
 
     def _ask_wanted_reset(self) -> bool:
-        """Asks for the wanted reset, if its node is still at the epoch of the last view. Returns whether it asked."""
+        """Asks for the wanted reset, if the member's node still has the epoch of the last view. Returns whether it asked."""
         why, self._why = self._why, None
         if why is not None:
             self._ask_reset(self.node, why, self._epoch)
@@ -264,7 +266,7 @@ class Member(Following):
         return Run(row.epoch, self._starts.tag(view, self._word), self._starts.fence(self._word, self._generation))
 
     def _begin_anew(self, view: View, row: Node) -> None:
-        """Ends the run: no work `in_run` is in progress, and none begins."""
+        """Ends the run: when it returns, no work `in_run` is in progress, and none will begin."""
         self._starts.note_begin()
         if self._work is Work.PARTS or self._work is Work.WHOLE and self._shelf.may_say_begun(row.epoch):
             self._shelf.keep(is_synced=True)
@@ -274,18 +276,18 @@ class Member(Following):
         self._confirm({self.node: row.epoch}, self._foresee, view)
 
     def _foresee(self, view: View) -> None:
-        """Adds the shown party to the history while it waits for others or for its confirm."""
+        """Adds the party that the view shows to the history, while it waits for others or for its confirm."""
         self._starts.foresee(view)
         self._shelf.write()
         self._shelf.keep()
 
     def _check_store(self, view: View, count: int) -> None:
-        """Raises StoreWentBack. A pushed view may be older than the look that brought the count: then it looks again."""
+        """Raises StoreWentBack. A pushed view may be older than the look that brought the count: in that case it looks again."""
         if count > count_of(self._generation, view.settled):
             check_store(count, self._generation, self.port.show().settled)
 
     def _set_run(self, run: Run | None) -> Heard:
-        """Sets the present run. Returns what was heard about others since the last look."""
+        """Sets the present run. Returns what was learned about others since the last look."""
         with self._changes:
             before, self._run = self._run, run
             heard = Heard(self._refused, self._takers, self._taken)
@@ -309,5 +311,5 @@ class Member(Following):
 
 
 def is_one_run(before: Run, after: Run) -> bool:
-    """Whether a member is in the same run as before, even if others have left."""
+    """Returns whether a member is in the same run as before, even if others have left."""
     return before.epoch == after.epoch and (before.takes(after.tag) or before.tag == after.tag == "")

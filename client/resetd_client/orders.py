@@ -1,4 +1,4 @@
-"""One client's orders, numbered so that each is carried out once, and the recovery of a lost count."""
+"""The orders of one client, numbered so that each is carried out once, and the recovery of a lost count."""
 
 from __future__ import annotations
 
@@ -20,20 +20,20 @@ from .port import AT_ONCE, Port, line_of
 Order = dict[str, Any]
 
 LOGGER = logging.getLogger("resetd_client")
-MOST_TRIED = 200_000  # numbers that are tried to find a lost count: some seconds
-FIRST_PROBES, PROBES = 4, 1_024  # of them over one connection, at first, and at most
-MOST_RECOVERIES = 3  # of the count for one series: others may order as the same client meanwhile
+MOST_TRIED = 200_000  # numbers that are tried to find a lost count: this takes some seconds
+FIRST_PROBES, PROBES = 4, 1_024  # of these over one connection, at first and at most
+MOST_RECOVERIES = 3  # recoveries of the count in one series: others may order as the same client meanwhile
 NEXT_IS = frozenset({Refusal.BAD_EPOCH, Refusal.UNKNOWN_NODE})
 
 
 class CountLost(Refused):
-    """The order's number is neither the client's last nor the next, or it is the last one with another order: the client and the
-    coordinator disagree on the client's numbers. `Orders.recover` finds them. Needs a person, who knows whether the order may be
-    carried out twice."""
+    """The order's number is neither the client's last nor the next one, or it is the last one with another order: the client
+    and the coordinator disagree about the client's numbers. `Orders.recover` finds the right number. Needs a person, who
+    knows whether the order may be carried out twice."""
 
 
 class CountNotFound(ResetdError):
-    """None of the tried numbers is the client's last one. Needs a person."""
+    """None of the numbers that were tried is the client's last one. Needs a person."""
 
 
 def warn(text: str) -> None:
@@ -42,7 +42,7 @@ def warn(text: str) -> None:
 
 
 class Kept(NamedTuple):
-    """The number of the last accepted order, and the orders after it that were sent and have no answer yet."""
+    """The number of the last accepted order, and the later orders that were sent and have no answer yet."""
 
     number: int
     pending: list[Order]
@@ -50,7 +50,7 @@ class Kept(NamedTuple):
 
 @dataclass
 class Series:
-    """Orders that are carried out one after the other, and their results so far."""
+    """Orders to be carried out one after another, and their results so far."""
 
     wanted: list[Order]
     outcomes: list[Outcome] = field(default_factory=list)
@@ -66,35 +66,35 @@ class Series:
 
 
 class Orders:
-    """The orders of one client. Its folder keeps those that were sent last.
+    """The orders of one client. Its folder stores the orders that were sent last.
 
-    It writes orders down, with their numbers, before it sends them. So after any failure it sends them again with the
-    same numbers, and each is carried out once. One process at a time holds a folder, and a client may have only one
-    folder. If the folder has no order yet, it looks for the client's count before the first one.
+    Orders are stored with their numbers before they are sent. So after any failure they are sent again with the same
+    numbers, and each is carried out once. Only one process at a time can hold a folder, and a client may have only one
+    folder. If the folder is new, the client's count is found before the first order is sent.
 
-    Any threads may share it: each call waits for its turn, and gets the answers to its own orders. After Away a thread
-    calls again with the same orders, and goes on, whatever other threads have ordered meanwhile.
+    Any threads may share the object: each call waits for its turn, and gets the answers to its own orders. After Away, a
+    thread calls again with the same orders and so continues, whatever other threads have ordered meanwhile.
     """
 
     def __init__(self, port: Port, client: int, folder: str, *, recovers: bool = False, held_seconds: float = 0.0,
                  told: Callable[[str], None] = warn) -> None:
-        """`client` is 1 to 16. With `recovers`, it recovers a lost number and sends the order once more: for orders that do no
-        harm when they are carried out twice. `held_seconds`: how long another process may still hold the folder. `told` receives
-        messages for a person, by default the logger `resetd_client`. Raises BadWords, Held, and Unreadable if the folder's file
-        can't be read."""
+        """`client` is 1 to 16. With `recovers`, a lost number is recovered and the order is sent once more: use it only for
+        orders that may be carried out twice without harm. `held_seconds` is how long to wait for another process that holds
+        the folder. `told` receives messages for a person; by default they are logged to `resetd_client`. Raises BadWords,
+        Held, and Unreadable if the folder's file can't be read."""
         if client not in CLIENTS:
             raise BadWords(f"{client} is not a client: clients are 1 to {CLIENTS[-1]}")
         self.port, self.client, self.recovers, self.told = port, client, recovers, told
         self.folder = folder
         self._lock = files.hold(folder, held_seconds)
         self._path = os.path.join(folder, "order.json")
-        self._turn = threading.RLock()  # over all below: one thread at a time orders
-        self._is_proved = False  # whether an answer to this process was of the count
-        self._owner: Series | None = None  # the series that the orders without an answer are of
-        self._of_thread = threading.local()  # `series`: the one that Away left unfinished in a thread
+        self._turn = threading.RLock()  # for everything below: one thread at a time orders
+        self._is_proved = False  # whether any answer to this process has confirmed the count
+        self._owner: Series | None = None  # the series to which the orders without an answer belong
+        self._of_thread = threading.local()  # the series that Away left unfinished in this thread
         try:
             text = files.read(self._path)
-            self._is_known = bool(text)  # whether there is a count
+            self._is_known = bool(text)  # whether the count is known
             self._kept = self._read(text) if text else Kept(0, [])
         except BaseException:
             self._lock.close()
@@ -112,7 +112,7 @@ class Orders:
         return list(self._kept.pending)
 
     def close(self) -> None:
-        """Releases the folder, after any call in progress in another thread."""
+        """Releases the folder, after the call that another thread may be making."""
         with self._turn:
             self._lock.close()
 
@@ -123,12 +123,12 @@ class Orders:
         self.close()
 
     def order(self, op: str, *, above: int = 0, **members: int) -> Reply:
-        """Carries out an order. An earlier one without an answer comes first; if it is the same order, it counts as
-        this one. If the reply to a new order has a step not above `above`, that order was carried out before: then
-        the count is not the coordinator's.
+        """Carries out an order, after any earlier one that has no answer yet; if that is the same order, it counts as this one.
+        A reply to a new order must have a step above `above`: otherwise the order was carried out before, and the count
+        differs from the coordinator's.
 
-        After Away call it again with the same order. Raises BadWords at a number out of its range, TooLong, CountLost,
-        CountNotFound, Garbled, Untrusted, and Refused or Faulted, after which the number is free for the next order.
+        After Away, call it again with the same order. Raises BadWords for a number out of its range, TooLong, CountLost,
+        CountNotFound, Garbled and Untrusted; also Refused or Faulted, after which the next order gets the same number.
         """
         [outcome] = self.order_all([{"op": op, **members}], above=above)
         if isinstance(outcome, NotTaken):
@@ -136,17 +136,17 @@ class Orders:
         return outcome
 
     def order_all(self, orders: Sequence[Order], *, above: int = 0) -> list[Outcome]:
-        """Carries out orders, in this sequence and each once; it sends those after the first together. Returns the result of
-        each, up to and with the first that was refused (or is a fault): nothing after that was carried out. CARRIED_OUT stands
-        for a reply that was lost.
+        """Carries out orders in this sequence, each once; all except the first are sent together. Returns the result of each,
+        up to and including the first refusal or fault: the orders after that one were not carried out. CARRIED_OUT replaces
+        a reply that was lost.
 
-        After Away call it again with the same orders: it then goes on. Raises BadWords at a number out of its range,
-        TooLong (both before it has sent or written anything), CountLost, CountNotFound, Garbled and Untrusted.
+        After Away, call it again with the same orders: it then continues. Raises BadWords for a number out of its range and
+        TooLong (both before anything is sent or stored), CountLost, CountNotFound, Garbled and Untrusted.
         """
         wanted = [dict(order) for order in orders]
         for order in wanted:
             check_order(order)
-            line_of(self._request(WORDS[-1], order))  # one that is too long is not written down
+            line_of(self._request(WORDS[-1], order))  # so that an order that is too long is not stored
         with self._turn:
             left: Series | None = getattr(self._of_thread, "series", None)
             series = self._of_thread.series = left if left is not None and left.wanted == wanted else Series(wanted)
@@ -160,8 +160,8 @@ class Orders:
             return series.outcomes
 
     def settle(self) -> list[Outcome]:
-        """Sends the orders again that have no answer, and returns the result of each, as `order_all` does. Raises Away,
-        CountLost, Garbled and Untrusted."""
+        """Sends the orders again that have no answer, and returns the result of each, like `order_all`. Raises Away, CountLost,
+        Garbled and Untrusted."""
         with self._turn:
             series = self._owner or Series(self.unanswered)
             before = len(series.outcomes)
@@ -170,9 +170,9 @@ class Orders:
             return series.outcomes[before:]
 
     def recover(self, most: int = MOST_TRIED, node: int | None = None) -> int:
-        """Finds the number of this client's last order, writes it down, and returns it. It gives up an order without an answer:
-        `show` shows whether that was carried out. `node` is one that the client may name (a front's policy may allow it no
-        other). Raises CountNotFound, Away, Garbled and Untrusted."""
+        """Finds the number of this client's last order, stores it, and returns it. Drops an order that has no answer: `show`
+        shows whether it was carried out. `node` is a node that the client may name, in case a front's policy allows it no
+        other. Raises CountNotFound, Away, Garbled and Untrusted."""
         with self._turn:
             number = find_count(self.port, self.client, self.number, most, node)
             if self._is_known and number != self.number:
@@ -181,7 +181,7 @@ class Orders:
             return number
 
     def _go_on(self, series: Series, above: int) -> None:
-        """Sends the next orders of a series, once the number is known and no other orders are without an answer."""
+        """Sends the next orders of a series, once the number is known and no other orders lack an answer."""
         if not self._is_known:
             self.recover(node=series.rest[0].get("node"))
         rest = series.rest[:AT_ONCE if self._is_proved else 1]
@@ -201,7 +201,7 @@ class Orders:
             self.recover(node=series.wanted[0].get("node"))
 
     def _settle_others(self) -> None:
-        """Sends earlier orders again. If one is refused, it logs that and gives it up."""
+        """Sends earlier orders again that have no answer. Logs a refused one and drops it."""
         others, number = self.unanswered, self._kept.number + 1
         try:
             for outcome in self.settle():
@@ -214,9 +214,9 @@ class Orders:
             self.recover(node=others[0].get("node"))
 
     def _send(self, series: Series, above: int) -> None:
-        """Sends the orders that are written down, and notes the result of each. If an order, or a later one, gets another answer
-        than OutOfTurn, its number was used: so an earlier OutOfTurn belongs to an order that was carried out before. A rejected
-        order frees its number and those after it."""
+        """Sends the stored orders, and records the result of each. If an order or a later one gets any answer except OutOfTurn,
+        its number was used: so an earlier OutOfTurn means that the order was carried out before. A refused order frees its
+        number and those after it."""
         (number, pending), done = self._kept, list[Outcome]()
         requests = [self._request(number + 1 + place, order) for place, order in enumerate(pending)]
         try:
@@ -242,7 +242,7 @@ class Orders:
         return {**order, "client": self.client, "number": number}
 
     def _note(self, number: int, pending: list[Order]) -> None:
-        """Writes down the number of the last accepted order, and the orders after it that are sent."""
+        """Stores the number of the last accepted order, and the later orders that are being sent."""
         is_new = not self._is_known or (number, pending) != self._kept
         self._kept, self._is_known = Kept(number, pending), True
         if not pending:
@@ -264,8 +264,8 @@ class Orders:
 
 
 def outcome_of(answer: dict[str, Any] | NotTaken, above: int) -> Outcome:
-    """Returns the result of an order. Raises CountLost if the answer belongs to another order, and the answer itself if it leaves
-    open whether the order was carried out."""
+    """Returns the result of an order. Raises CountLost if the answer belongs to another order, and the answer itself if it does
+    not determine whether the order was carried out."""
     if isinstance(answer, Refused):
         if answer.refusal is Refusal.NUMBER_REUSED:
             raise CountLost(answer.number, answer.name) from answer
@@ -281,11 +281,11 @@ def outcome_of(answer: dict[str, Any] | NotTaken, above: int) -> Outcome:
 
 
 def find_count(port: Port, client: int, near: int = 0, most: int = MOST_TRIED, named: int | None = None) -> int:
-    """Finds the number of a client's last order, 0 for none, without harm: the order to confirm epoch 0 is always refused, as
-    NumberReused if its number is the last order's, as BadEpoch (or UnknownNode) if it is the next one, else as OutOfTurn. Numbers
-    are tried from `near` outwards, at most this many, and none above the number of steps. Raises CountNotFound, Away, Garbled and
-    Untrusted."""
-    view = port.show_any()  # it gives only a node and a bound
+    """Finds the number of a client's last order (0 if it has none), without changing anything. It sends orders to confirm epoch
+    0, which are always refused: as NumberReused if the number is that of the last order, as BadEpoch (or UnknownNode) if it
+    is the next one, and otherwise as OutOfTurn. It tries at most this many numbers, from `near` outwards, and none above the
+    number of steps. Raises CountNotFound, Away, Garbled and Untrusted."""
+    view = port.show_any()  # it is used only for a node and a bound
     node = named or (view.nodes[0].node if view.nodes else 1)
     greatest = view.accepted + 1
     tried, at_once = 0, FIRST_PROBES
@@ -308,8 +308,8 @@ def find_count(port: Port, client: int, near: int = 0, most: int = MOST_TRIED, n
 
 
 def outwards(near: int, greatest: int) -> Iterator[int]:
-    """Yields the numbers from 1 to `greatest`: the one after `near`, `near`, the one after that, the one before, and so
-    on."""
+    """Yields the numbers from 1 to `greatest` at growing distance from `near`: the one after `near`, `near`, the one after the
+    next, the one before, and so on."""
     above, below = max(near, 0) + 1, min(max(near, 0), greatest)
     while above <= greatest or below >= 1:
         if above <= greatest:

@@ -1,4 +1,4 @@
-"""The administration port of a coordinator, or the front before it, at one address or the first of several that answers."""
+"""The administration port of a coordinator, or of the front before it, at one address or at the first of several that answers."""
 
 from __future__ import annotations
 
@@ -19,31 +19,33 @@ from .view import View
 T = TypeVar("T")
 Request = Mapping[str, Any]
 
-MOST_BYTES = 512  # of a line
-AT_ONCE = 64  # lines that are sent before their answers are read: neither side then fills the other's buffers
+MOST_BYTES = 512  # in a line
+AT_ONCE = 64  # lines sent before their answers are read, so that neither end fills the other's buffers
 REPLY_SECONDS = 20.0  # a server serves one connection at a time, and ends one that is silent
 
 
 class TooLong(BadWords):
-    """The request does not fit into a line and was not sent. Needs a person: the caller's author."""
+    """The request does not fit into a line and was not sent. Needs a person: the author of the calling program."""
 
 
 class Port:
-    """Sends requests to a coordinator, over one connection after the other, each closed at once: the port serves one at a time.
+    """Sends requests to a coordinator over short connections, one after another, because the port serves one connection at a
+    time.
 
-    `addresses` are `HOST:PORT`, `unix:PATH` or `tls:HOST:PORT`, one or several with commas between, all of one
-    coordinator, of which one serves at a time. If none is given, the address is this user's way to the coordinator of this
-    host (`address.default_address`). It tries them in turn, beginning with the one that answered last, and
-    goes on to the next if one gives no answer, or answers Stopped, PendingFull or OutOfMemory.
+    `addresses` are `HOST:PORT`, `unix:PATH` or `tls:HOST:PORT`, one address or several with commas between them. All must
+    belong to one coordinator, and at most one of them serves at a time. They are tried in turn, beginning with the one that
+    answered last; if one gives no answer, or answers Stopped, PendingFull or OutOfMemory, the next one is tried. If
+    none is given, the address is this user's way to the coordinator of this host (`address.default_address`).
 
-    A view of another address than that of the last view counts only if it has as many settled steps (newest.py).
+    A view from another address than that of the last view counts only if it has at least as many settled steps (newest.py).
 
-    Any threads may share it: between two calls it keeps only the address that answered last, and the steps that it showed.
+    Any threads may share a Port: between two calls it keeps only the address that answered last, and the steps that it
+    showed.
     """
 
     def __init__(self, addresses: str | None = None, seconds: float = REPLY_SECONDS, credentials: Credentials | None = None) -> None:
-        """`seconds` is how long one answer may take. `credentials` are for `tls:`, by default those of the environment. Raises
-        BadWords for an invalid address, and Unreadable for a credentials file."""
+        """`seconds` is the time limit for one answer. `credentials` are for `tls:`, and default to those named in the
+        environment. Raises BadWords for an invalid address, and Unreadable for a credentials file that can't be read."""
         self.addresses = addresses_of(default_address() if addresses is None else addresses, credentials)
         self.seconds = seconds
         self._last = 0
@@ -51,12 +53,12 @@ class Port:
 
     @property
     def is_front(self) -> bool:
-        """Whether one of the addresses is a front's, which also reports changes (`Watched`)."""
+        """Returns whether one of the addresses is a front's, which also reports changes (`Watched`)."""
         return any(address.is_front for address in self.addresses)
 
     def ask(self, request: Request) -> dict[str, Any]:
-        """Returns the members of the answer to one request. Raises Away (NotNow is one), NotTaken (Refused, Faulted or Garbled),
-        TooLong and Untrusted, as do all methods below that send requests."""
+        """Returns the members of the answer to one request. Raises Away (NotNow is a kind of it), NotTaken (Refused, Faulted or
+        Garbled), TooLong and Untrusted, like all methods below that send requests."""
         return self._at_one(lambda address: self._members(address, request))
 
     def _members(self, address: Address, request: Request) -> dict[str, Any]:
@@ -65,16 +67,16 @@ class Port:
         return answer
 
     def raw(self, request: Request) -> str:
-        """Returns the line that answers one request, whatever it says. Raises Away if none came, TooLong and Untrusted."""
+        """Returns the line that answers one request, whatever it is. Raises Away if no line came, TooLong and Untrusted."""
         return self._at_one(lambda address: self._answer(address, request))
 
     def show(self) -> View:
-        """Returns the nodes and links, as far as they are on disk. Raises Garbled too, and Past (an Away) if every address that
-        answers shows an earlier moment than the last view."""
+        """Returns the nodes and links, as far as they are on disk. Also raises Garbled, and Past (an Away) if every address
+        that answers shows an earlier moment than the last view."""
         return self._at_one(self._newest_view)
 
     def show_any(self) -> View:
-        """The same as `show`, from any address, which may show the past: only for uses that do not depend on the moment."""
+        """Like `show`, from any address, even if it shows the past: only for uses that do not depend on the moment."""
         return self._at_one(self._view)
 
     def _newest_view(self, address: Address) -> View:
@@ -95,7 +97,7 @@ class Port:
             self.newest.note_order(address, step)
 
     def resend(self) -> int:
-        """Makes the server send the packets in transit again, and returns how many there are. Raises Garbled too."""
+        """Makes the server resend the packets in transit, and returns their number. Also raises Garbled."""
         answer = self.ask({"op": "resend"})
         try:
             return int(answer["count"])
@@ -103,13 +105,13 @@ class Port:
             raise Garbled(json.dumps(answer)) from fault
 
     def close(self) -> None:
-        """Shuts the server down; everything accepted is settled first. Raises Garbled too."""
+        """Shuts the server down, after it has settled everything that it has accepted. Also raises Garbled."""
         if self.ask({"op": "close"}).get("kind") != "closed":
             raise Garbled("close")
 
     def ask_many(self, requests: Sequence[Request]) -> Iterator[dict[str, Any] | NotTaken]:
-        """Returns the answers to many requests, in their order, over few connections, each part in one write. A server may end
-        a connection between two lines; then the rest goes over the next one. Raises Away if a connection brings no
+        """Returns the answers to many requests, in order, over few connections; each batch of lines is one write. If a server
+        ends a connection between two lines, the rest is sent over the next one. Raises Away if a connection brings no
         answer, or "not now"."""
         done = 0
         while done < len(requests):
@@ -139,7 +141,8 @@ class Port:
         return next(self._lines(address, [request]))
 
     def _lines(self, address: Address, requests: Sequence[Request]) -> Iterator[str]:
-        """Yields the lines that answer requests over one connection. If not all come, raises Away or Untrusted after the last."""
+        """Yields the lines that answer requests over one connection. If some are missing, raises Away or Untrusted after the
+        last one."""
         with address.connect(self.seconds) as connection:
             for place in range(0, len(requests), AT_ONCE):
                 part = requests[place:place + AT_ONCE]
@@ -157,8 +160,8 @@ class Port:
                         if is_silent else "it ended the connection without an answer"))
 
     def _at_one(self, call: Callable[[Address], T]) -> T:
-        """Returns the result of a call at the first address that answers. If none does, raises "not now" if one of them said so,
-        else the error of the last one."""
+        """Returns the result of a call at the first address that answers. If none does, raises the "not now" of one of them, or
+        else the last one's error."""
         fault: Away = Away("no address")
         for turn in range(len(self.addresses)):
             place = (self._last + turn) % len(self.addresses)
@@ -176,7 +179,7 @@ class Port:
 
 
 def spoken(connection: socket.socket, requests: Sequence[Request]) -> Iterator[str]:
-    """Sends requests at once and returns the complete answer lines that arrive. Raises TooLong, and the connection's OSError."""
+    """Sends all requests, and returns the complete answer lines that arrive. Raises TooLong, and the connection's OSError."""
     connection.sendall(b"".join(line_of(request) for request in requests))
     rest, came = b"", 0
     until = time.monotonic() + (connection.gettimeout() or REPLY_SECONDS) * (1 + len(requests) / AT_ONCE)
@@ -199,7 +202,7 @@ def line_of(request: Request) -> bytes:
 
 
 def patiently(call: Callable[[], T], seconds: float | None = None, told: Callable[[Away], None] | None = None) -> T:
-    """Repeats a call while it raises Away, for this many seconds, or forever. `told` receives the first Away of each row."""
+    """Repeats a call while it raises Away, for this many seconds or, if None, forever. `told` receives the first Away in a row."""
     until = None if seconds is None else time.monotonic() + seconds
     wait = 0.1
     is_first = True

@@ -1,4 +1,5 @@
-"""The processes of this machine, as far as this user may see them: their open files, their locks, and where they listen."""
+"""The processes of this machine, as far as this user may see them: their open files, their locks, and the addresses where they
+listen."""
 
 from __future__ import annotations
 
@@ -15,13 +16,13 @@ from dataclasses import dataclass
 
 LISTENS = "0A"  # the state in /proc/net/tcp
 MOST_WORDS = 400  # characters of a command
-LOOK_SECONDS = 0.5  # for so long a thread has to be in one call, or in none
+LOOK_SECONDS = 0.5  # how long a thread has to be in one call, or in none, to count
 NETWORK = 0x40000000  # CLONE_NEWNET, for setns(2)
 
 
 def lock_holders(found: os.stat_result) -> list[int]:
-    """Returns the processes of this machine that have a lock on a file. On some file systems a lock has another device's number
-    than the file: then it looks at the open files of the process."""
+    """Returns the processes of this machine that hold a lock on a file. On some file systems a lock has another device number
+    than the file; then the process's open files are compared."""
     device = f"{os.major(found.st_dev):02x}:{os.minor(found.st_dev):02x}"
     try:
         with open("/proc/locks", encoding="utf-8") as lines:
@@ -48,7 +49,7 @@ def has_open(process: int, found: os.stat_result) -> bool:
 
 
 def commanded(process: int) -> str:
-    """Returns the command line of a process on one line, if it can be known; only its beginning if it is very long."""
+    """Returns the command line of a process as one line, if it can be read. A very long one is cut."""
     try:
         with open(f"/proc/{process}/cmdline", "rb") as file:
             words = " ".join(file.read().replace(b"\0", b" ").decode("utf-8", "replace").split())
@@ -58,7 +59,7 @@ def commanded(process: int) -> str:
 
 
 def file_limit(process: int) -> int | None:
-    """Returns a process's limit on the size of a file, None for no limit."""
+    """Returns a process's limit on the size of a file, or None if it has no limit."""
     try:
         with open(f"/proc/{process}/limits", encoding="utf-8") as lines:
             row = next(line for line in lines if line.startswith("Max file size")).split()
@@ -80,7 +81,7 @@ def listening(host: str, port: int) -> set[int]:
 
 
 def has_other_network(process: int) -> bool:
-    """Whether a process is in another network namespace than this one, as far as this user may see it."""
+    """Returns whether a process is in another network namespace than this one, as far as this user may see that."""
     try:
         return not os.path.samestat(os.stat(f"/proc/{process}/ns/net"), os.stat("/proc/self/ns/net"))
     except OSError:
@@ -88,7 +89,7 @@ def has_other_network(process: int) -> bool:
 
 
 def join_network(process: int) -> None:
-    """Moves this thread into the network namespace of another process, for good. Raises OSError; needs root."""
+    """Moves this thread permanently into the network namespace of another process. Raises OSError; needs root."""
     with open(f"/proc/{process}/ns/net", "rb") as file:
         if ctypes.CDLL(None, use_errno=True).setns(file.fileno(), NETWORK) != 0:
             raise OSError(ctypes.get_errno(), os.strerror(ctypes.get_errno()))
@@ -99,7 +100,7 @@ def processes() -> list[int]:
 
 
 def opened(process: int) -> list[str]:
-    """Returns the numbers of the descriptors that a process has open, as far as this user may see them."""
+    """Returns the numbers of a process's open descriptors, as far as this user may see them."""
     try:
         return os.listdir(f"/proc/{process}/fd")
     except OSError:
@@ -117,14 +118,14 @@ def links_of(process: int) -> Iterator[str]:
 
 @dataclass(frozen=True)
 class Pipe:
-    """A pipe into which a process writes: who reads it, and whether it is full."""
+    """A pipe into which a process writes: the processes that read it, and whether it is full."""
 
     readers: list[int]
     is_full: bool
 
 
 def output_pipe(process: int) -> Pipe | None:
-    """Returns the pipe or FIFO that is a process's standard output; None if it is something else."""
+    """Returns the pipe or FIFO that is a process's standard output, or None if it is something else."""
     path = f"/proc/{process}/fd/1"
     try:
         name = os.readlink(path)
@@ -143,7 +144,7 @@ def output_pipe(process: int) -> Pipe | None:
 
 
 def reads(process: int, name: str) -> bool:
-    """Whether a process has opened the file of this name for reading, or for reading and writing."""
+    """Returns whether a process has opened the file with this name for reading (or for reading and writing)."""
     for number in opened(process):
         try:
             if os.readlink(f"/proc/{process}/fd/{number}") == name and flags_of(process, number) & os.O_ACCMODE != os.O_WRONLY:
@@ -160,7 +161,7 @@ def flags_of(process: int, number: str) -> int:
 
 
 class Condition(enum.Enum):
-    """Why a process makes no progress."""
+    """The reason why a process makes no progress."""
 
     STOPPED = "stopped"
     IN_A_CALL = "in a call"
@@ -168,8 +169,8 @@ class Condition(enum.Enum):
 
 
 def condition_of(process: int, seconds: float = LOOK_SECONDS) -> Condition | None:
-    """Whether a process is stopped by a signal, or one of its threads has for this many seconds been in one uninterruptible call,
-    such as a sync, or has never slept. None if none of these is so, or it can't be seen."""
+    """Returns whether a process is stopped by a signal, or one of its threads has for this many seconds been in one
+    uninterruptible call, such as a sync, or has never slept. None if none of these is so, or it can't be seen."""
     first = threads_of(process)
     if any(state in "Tt" for state, _ in first.values()):
         return Condition.STOPPED
@@ -180,7 +181,7 @@ def condition_of(process: int, seconds: float = LOOK_SECONDS) -> Condition | Non
 
 
 def threads_of(process: int) -> dict[str, tuple[str, int]]:
-    """Returns the threads of a process, each with its state, a letter, and how often it has gone to sleep."""
+    """Returns the threads of a process, each with the letter of its state and the number of times that it went to sleep."""
     found = {}
     try:
         for thread in os.listdir(f"/proc/{process}/task"):
@@ -194,7 +195,7 @@ def threads_of(process: int) -> dict[str, tuple[str, int]]:
 
 @dataclass(frozen=True)
 class Program:
-    """The file that a process runs, with its SHA-256; and whether its path still names that file."""
+    """The file that a process runs, its SHA-256, and whether its path still names that file."""
 
     path: str
     checksum: str
@@ -202,7 +203,7 @@ class Program:
 
 
 def program_of(process: int) -> Program | None:
-    """Returns the program of a process; None if this user may not see it."""
+    """Returns the program of a process, or None if this user may not see it."""
     link = f"/proc/{process}/exe"
     try:
         path = os.readlink(link).removesuffix(" (deleted)")

@@ -1,7 +1,8 @@
-"""After a restore: a reset in each group of linked nodes, so that no service mistakes its old start for the present one.
+"""After a restore: asks for a reset in each group of linked nodes, so that no service mistakes its old start for the present
+one.
 
-A restored store may show as confirmed an epoch that a service began in another past. After the reset the node's epoch is higher
-and unconfirmed, so its service begins again at its next look, whatever it had begun before.
+A restored store may show an epoch as confirmed that a service began in another past. After the reset the node's epoch is
+higher and unconfirmed, so its service begins again at its next look, whatever it had begun before.
 """
 
 from __future__ import annotations
@@ -18,8 +19,8 @@ LOOK_SECONDS = 0.05
 
 def renew(port: Port, orders: Orders, seconds: float) -> str:
     """Asks for a reset in each group of linked nodes, waits until the epoch of every node has risen, and returns a message. It
-    first finds the client's number, which a restore changes. It may be repeated. Raises Away if a node's epoch has not risen
-    within this many seconds."""
+    first finds the client's number, because a restore changes it. It may be repeated. Raises Away if a node's epoch has not
+    risen within this many seconds."""
     patiently(orders.recover, seconds)
     view = first = patiently(port.show, seconds)
     until = time.monotonic() + seconds
@@ -36,18 +37,18 @@ def renew(port: Port, orders: Orders, seconds: float) -> str:
 
 
 def reset(orders: Orders, node: int, accepted: int, seconds: float) -> None:
-    """Asks for one reset, whose step must be above those accepted before."""
+    """Asks for one reset. Its step must be above `accepted`."""
     patiently(lambda: orders.order("reset", above=accepted, node=node), seconds)
 
 
 def not_risen(first: View, view: View) -> frozenset[int]:
-    """Returns the nodes whose epoch has not risen since, among those that still exist."""
+    """Returns the nodes whose epoch has not risen since the first view, among those that still exist."""
     epochs = {node.node: node.epoch for node in first.nodes}
     return frozenset(node.node for node in view.nodes if node.epoch <= epochs.get(node.node, -1))
 
 
 def groups(view: View) -> list[tuple[Node, ...]]:
-    """Returns the nodes in groups: a reset of one node reaches its whole group."""
+    """Returns the groups of linked nodes: a reset of one node reaches its whole group."""
     found: list[tuple[Node, ...]] = []
     rest = {node.node for node in view.nodes}
     while rest:

@@ -1,5 +1,5 @@
-"""Whether a coordinator's store is the one in a file. The server reads its file only at its start, and answers on when somebody
-truncates, overwrites, replaces or removes it; its later answers are lost with its end."""
+"""Finds whether a coordinator's store is the store in a file. The server reads its file only at its start, and continues to
+answer when somebody truncates, overwrites, replaces or removes the file; its later answers are then lost when it ends."""
 
 from __future__ import annotations
 
@@ -10,12 +10,12 @@ from .view import View
 
 
 class NotCompared(Exception):
-    """It can't be known whether the file is the store: this user may not read it, or each attempt met a checkpoint."""
+    """It can't be found whether the file is the store: this user may not read it, or every attempt met a checkpoint."""
 
 
 @dataclass(frozen=True)
 class Reading:
-    """The number of steps in a file at a moment, or the reason why it is no store."""
+    """The number of steps in a file at one moment, or the reason why it is no store."""
 
     count: int | None
     why_not: str = ""
@@ -34,9 +34,9 @@ def reading(path: str) -> Reading:
 
 
 def difference(before: Reading, view: View, after: Reading) -> str:
-    """Returns why a file is not the store of a coordinator that answered with this view between the two readings; empty if it may
-    be the one. By then the file has the view's settled steps, and it never has a step that was not accepted. A flight in progress
-    may be in the file before it is settled."""
+    """Returns the reason why a file is not the store of a coordinator that answered with this view between the two readings;
+    empty if it may be that store. By the second reading the file must have the view's settled steps, and it never has a step
+    that was not accepted. A flight in progress may be in the file before it is settled."""
     if after.count is None:
         return after.why_not
     if after.count < view.settled:

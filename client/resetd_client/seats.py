@@ -32,37 +32,37 @@ from .since import boot_name
 BEGUN = re.compile(r"(?:lost )?[0-9]+ ([0-9]+)\n", re.ASCII)
 TOLD = re.compile(r"^(\S+) ([0-9]+) ([0-9]+)(?: (\S+) (\S+))?\n", re.ASCII | re.MULTILINE)
 NAME = re.compile(r"[^\s/]+", re.ASCII)
-BOARD = "told"  # the folder of the gateway's file: no member has this name
+BOARD = "told"  # the folder of the gateway's file; no member has this name
 WAIT_SECONDS = 1.0
 
 
 def board_in(folder: str) -> str:
-    """The gateway's file in its folder."""
+    """Returns the path of the gateway's file in its folder."""
     return os.path.join(folder, BOARD, "members")
 
 
 def line_of(text: str | None) -> str:
-    """Returns the first line of a text, with its line feed; empty if there is none."""
+    """Returns the first line of a text, with its line feed, or an empty text if there is none."""
     line, end, _ = (text or "").partition("\n")
     return line + end
 
 
 def number_of(text: str | None) -> int:
-    """Returns the number in the first line of `begun`, or of the last instruction; 0 if it is missing or can't be read."""
+    """Returns the number in the first line of `begun`, or of the last instruction, or 0 if it is missing or can't be read."""
     found = BEGUN.fullmatch(line_of(text))
     return int(found.group(1)) if found else 0
 
 
 class Cached:
-    """A file's text, which is read only once the file has changed."""
+    """The text of a file, which is read again only after the file has changed."""
 
     def __init__(self, path: str) -> None:
         self._path, self._text = path, ""
         self._state: State = None
 
     def read(self) -> str:
-        """The text; empty if there is no file."""
-        state = state_of(self._path)  # before the text: a file that is replaced meanwhile is read again
+        """The text, empty if there is no file."""
+        state = state_of(self._path)  # before the text, so that a file that is replaced meanwhile is read again
         if state != self._state:
             self._state, self._text = state, files.read(self._path) or ""
         return self._text
@@ -86,10 +86,10 @@ class Board:
 
 
 class Seat:
-    """A member's folder, as the gateway sees it."""
+    """A member's folder, from the gateway's side."""
 
     def __init__(self, folder: str) -> None:
-        """Raises BadWords for a name that no line can have."""
+        """Raises BadWords for a name that can't be written in a line."""
         self.folder, self.name = folder, os.path.basename(folder)
         if self.name == BOARD or not NAME.fullmatch(self.name):
             raise BadWords(f"{self.name!r} can't be a member's name: a name has no blanks, and is not {BOARD!r}")
@@ -100,22 +100,22 @@ class Seat:
 
     @property
     def number(self) -> int:
-        """The greatest number that the member has in its folder."""
+        """The greatest number in the member's folder."""
         return max(self._wanted, number_of(self._begun.read()))
 
     def written_by_member(self) -> list[str]:
         return [os.path.join(self.folder, name) for name in ("begun", "refused")]
 
     def has_begun(self, told: str) -> bool:
-        """Whether the member has begun as instructed."""
+        """Returns whether the member has begun as instructed."""
         return line_of(self._begun.read()) == told
 
     def has_lost(self, told: str) -> bool:
-        """Whether the member reports that the instructed work is gone."""
+        """Returns whether the member reports that the work of this instruction is lost."""
         return line_of(self._begun.read()) == f"lost {told}"
 
     def take_refused(self) -> str | None:
-        """Returns the tag that the member refused last, since the last call."""
+        """Returns the tag that the member refused last, if it has refused one since the last call."""
         path = os.path.join(self.folder, "refused")
         with suppress(FileNotFoundError):
             os.rename(path, f"{path}.taken")
@@ -126,8 +126,8 @@ class Seat:
         return text.strip()
 
     def _take_away_earlier_files(self) -> bool:
-        """Removes the files in which a gateway of an earlier version instructed each member: `run` first, so that the member may
-        no longer talk. Returns whether there were any."""
+        """Removes the files in which a gateway of an earlier version instructed each member, beginning with `run`, so that the
+        member may no longer talk. Returns whether there were any."""
         paths = [path for name in ("run", "wanted") if os.path.exists(path := os.path.join(self.folder, name))]
         for path in paths:
             os.remove(path)
@@ -135,7 +135,7 @@ class Seat:
 
 
 class Served:
-    """A member's side of a gateway: its folder, and the gateway's instructions."""
+    """The member's side of a gateway: its folder, and the gateway's instructions."""
 
     def __init__(self, folder: str) -> None:
         """`folder` is the member's own folder: NAME, inside the gateway's FOLDER."""
@@ -152,7 +152,7 @@ class Served:
             warn(f"{folder}: the gateway is of an earlier version: start it again with this one, which instructs its members in {path}")
 
     def wanted(self) -> int | None:
-        """The epoch to begin; None if the member has begun, or lost, the last one."""
+        """The epoch to begin, or None if the member has begun, or lost, the last one."""
         epoch, number, _, _ = self._line()
         if number <= number_of(self._begun.read()):
             return None
@@ -160,26 +160,27 @@ class Served:
         return epoch
 
     def has_begun(self, work: str = "", is_synced: bool = True) -> None:
-        """Says that the member has begun the epoch that `wanted` returned last, and that its work is on the disk. `work` is
-        written with it, in one file at once: so neither can exist without the other, and a begin costs two syncs instead of the
-        four of a separate file that is synced before this call. If the work is in memory, nothing need be synced: the member's
-        next process calls `has_lost` when it starts."""
+        """Reports that the member has begun the epoch that `wanted` returned last, and that its work is on the disk. `work` is
+        written together with this report, in one file: so neither can exist without the other, and a begin costs two syncs,
+        instead of the four that a separate file, synced before this call, would take. If the work is in memory, nothing has
+        to be synced: the member's next process calls `has_lost` when it starts."""
         (files.keep if is_synced else files.put)(os.path.join(self._folder, "begun"), self._told + work)
 
     def work(self) -> str | None:
-        """The work given to `has_begun`; None if nothing is begun, or its work was lost."""
+        """The work given to `has_begun`, or None if nothing is begun or its work was lost."""
         line, _, work = self._begun.read().partition("\n")
         return work if number_of(f"{line}\n") and not line.startswith("lost") else None
 
     def has_lost(self) -> None:
-        """Says that the work of the begun epoch is gone. The gateway then instructs the member to begin again, after a reset."""
+        """Reports that the work of the begun epoch is lost. The gateway then instructs the member to begin again, after a
+        reset."""
         begun = self._begun.read()
         if number_of(begun) and not begun.startswith("lost"):
             files.keep(os.path.join(self._folder, "begun"), f"lost {line_of(begun)}")
 
     def tag(self) -> str | None:
-        """Returns the tag of the run that the group is in; None while somebody is not through, and for a member that is connected
-        with nobody. A sender uses it; `takes` decides whether to accept a message."""
+        """Returns the tag of the run that the group is in, or None while a member is not through, and for a member that is
+        connected with nobody. The tag is for sending; `takes` decides whether to accept a message."""
         _, number, tag, boot = self._line()
         begun = self._begun.read()
         if number != number_of(begun) or begun.startswith("lost") or boot != boot_name():
@@ -187,8 +188,8 @@ class Served:
         return tag if tag != "-" else None
 
     def takes(self, tag: str) -> bool:
-        """Whether a message with this tag is of the run that the member is in. If it is not, the gateway learns of it, and
-        looks."""
+        """Returns whether a message with this tag belongs to the run that the member is in. If it does not, the gateway is
+        informed, and looks."""
         own = self.tag()
         if own is not None and is_same_run(own, tag):
             return True
@@ -201,7 +202,7 @@ class Served:
         self._changes.wait(seconds)
 
     def _line(self) -> tuple[int, int, str, str]:
-        """The epoch, the number, the tag and the boot of the gateway's line; numbers are 0 and texts empty if it has none."""
+        """Returns the epoch, the number, the tag and the boot in the gateway's line; 0 or empty if it has no line."""
         found = self._own_line.search(self._board.read())
         if found is None:
             return 0, 0, "", ""

@@ -1,5 +1,5 @@
-"""Whether a server's file of signals has a line for each signal. If the server can't write it any more, as on a full
-disk, it goes on and prints no further line until its next start: services then learn of a reset only by looking."""
+"""Finds whether a server's file of signals has a line for each signal. If the server can't write the file, for example because
+the disk is full, it continues and prints no more lines until its next start; services then learn of a reset only by looking."""
 
 from __future__ import annotations
 
@@ -11,13 +11,13 @@ from dataclasses import asdict, dataclass
 from . import files
 from .view import View
 
-LISTENING = re.compile(rb"listening [0-9.]+:\d+\n")  # perhaps after a line that was torn
+LISTENING = re.compile(rb"listening [0-9.]+:\d+\n")  # possibly after a torn line
 SIGNAL = re.compile(rb"signal (\d+) (\d+)\n")
 
 
 @dataclass(frozen=True)
 class Mark:
-    """A place in a file of signals, after a whole line, and each node's epoch when that was the end of the file."""
+    """A place in a file of signals, at the end of a line, and each node's epoch when the file ended there."""
 
     path: str
     inode: int
@@ -26,15 +26,15 @@ class Mark:
 
 
 class Signals:
-    """The lines that a file of signals lacks. A line may be lost by a kill, or when the file is moved away or truncated; but
-    after a mark, within one run of the server and one file, no line is lost this way. So each epoch that has risen since the mark
-    must have its line there. If all have it, the mark is set again, so that little is read each time."""
+    """The lines that a file of signals lacks. A kill may lose a line, and so may moving or truncating the file. But after a
+    mark, within one run of the server and one file, no line is lost this way: each epoch that has risen since the mark must
+    have its line there. If all have it, the mark is moved to the end, so that little is read each time."""
 
     def __init__(self, path: str, kept: str) -> None:
         self._path, self._kept = path, kept
 
     def lacking(self, view: View) -> list[tuple[int, int]]:
-        """Returns the signals that the view has and the file lacks, each a node and its epoch. Raises OSError."""
+        """Returns the signals that the view implies and the file lacks, each as a node and its epoch. Raises OSError."""
         shown = {node.node: node.epoch for node in view.nodes}
         mark = self._read()
         with open(self._path, "rb") as file:

@@ -1,4 +1,4 @@
-"""Wake-ups: they make a service look. It trusts no line: each only means that something may be new."""
+"""Wake-ups, which make a service look. It does not trust the content of a line: each only means that something may be new."""
 
 from __future__ import annotations
 
@@ -11,24 +11,23 @@ from .changes import Changes, wait_for
 
 
 class Wake(enum.Enum):
-    """The reason why a wait is over."""
+    """The reason why a wait ended."""
 
     CAME = enum.auto()  # something may be new
-    QUIET = enum.auto()  # the time is over
-    END = enum.auto()  # nothing more will come
+    QUIET = enum.auto()  # the time has passed
+    END = enum.auto()  # no more wake-ups will come
 
 
 class Wakes(Protocol):
-    """Where wake-ups come from. A source with `descriptors` (as below) can be waited for together with others: a list of
-    descriptors that are readable once something may be new after the last wait, or None if it has to be polled."""
+    """A source of wake-ups. A source with `descriptors` can be waited for together with others. `descriptors` returns the
+    descriptors that become readable once something may be new since the last wait, or None if the source has to be polled."""
 
     def wait(self, seconds: float) -> Wake:
-        """Waits until something may be new, at most this long. Everything that comes meanwhile is one wake-up."""
+        """Waits until something may be new, at most this many seconds. Everything that arrives meanwhile is one wake-up."""
 
 
 class Stream:
-    """Lines, or parts of lines, that another program writes, as `tail -F` does, to a descriptor (0 is standard
-    input)."""
+    """Lines, or parts of lines, that another program, such as `tail -F`, writes to a descriptor (0 is standard input)."""
 
     def __init__(self, descriptor: int = 0) -> None:
         self._descriptor = descriptor
@@ -49,7 +48,8 @@ class Stream:
 
 
 class Follower:
-    """The file of signals, followed while it grows, is truncated or is replaced. It need not exist yet, and it may disappear."""
+    """The file of signals, which is followed while it grows, is truncated or is replaced. It need not exist yet, and it may
+    disappear."""
 
     def __init__(self, path: str) -> None:
         self._changes = Changes([path])
@@ -62,7 +62,7 @@ class Follower:
 
 
 class Clock:
-    """No wake-up except the passing of time."""
+    """A source whose only wake-up is that the time has passed."""
 
     def wait(self, seconds: float) -> Wake:
         time.sleep(max(seconds, 0.0))

@@ -1,4 +1,4 @@
-"""Records since when a condition has lasted that a monitoring check sees from time to time."""
+"""Records since when the conditions have lasted that a monitoring check sees from time to time."""
 
 from __future__ import annotations
 
@@ -10,15 +10,15 @@ from . import files
 
 
 class Seen(NamedTuple):
-    """The first sight of a condition: its time, by the boot clock, and the number of steps then."""
+    """When a condition was first seen: the time by the boot clock, and the number of steps."""
 
     when: float
     steps: int
 
 
 class Since:
-    """Since when each observed condition has lasted, kept in a file from one check to the next. Times are of one boot of the
-    machine, by a clock that nobody sets."""
+    """Since when each observed condition has lasted, stored in a file between checks. Times are valid within one boot of the
+    machine, by a clock that nobody can set."""
 
     def __init__(self, path: str, now: float, boot: str = "") -> None:
         self._path, self._now, self._boot = path, now, boot
@@ -26,19 +26,19 @@ class Since:
         self._new: dict[str, Seen] = {}
 
     def seconds(self, thing: str) -> float:
-        """Returns for how long this has been seen; 0 if it is new."""
+        """Returns for how many seconds this condition has been seen; 0 if it is new."""
         return self._now - self._seen(thing).when
 
     def grown(self, thing: str, steps: int) -> int:
-        """Returns the number of steps since this was first seen."""
+        """Returns by how many steps the store has grown since this condition was first seen."""
         return max(steps - self._seen(thing, steps).steps, 0)
 
     def things(self, kind: str) -> list[str]:
-        """Returns what the previous check saw of a kind, which is the first word of a condition."""
+        """Returns the conditions of a kind that the previous check saw. The first word of a condition is its kind."""
         return [thing for thing in self._old if thing.startswith(f"{kind} ")]
 
     def keep(self) -> None:
-        """Stores the conditions that were seen this time, and forgets everything else."""
+        """Stores the conditions that were seen this time, and drops all others."""
         if self._new != self._old:
             files.keep(self._path, json.dumps({"boot": self._boot, "seen": self._new}))
 
@@ -58,12 +58,12 @@ class Since:
 
 
 def boot_clock() -> float:
-    """Returns the seconds since the machine started, including those when it slept: nobody sets this clock."""
+    """Returns the seconds since the machine started, including the time that it slept. Nobody can set this clock."""
     return time.clock_gettime(time.CLOCK_BOOTTIME)
 
 
 def boot_name() -> str:
-    """The identity of the machine's boot; empty if it can't be known."""
+    """Returns the identity of the machine's boot, or an empty text if it is unknown."""
     try:
         return (files.read("/proc/sys/kernel/random/boot_id") or "").strip()
     except OSError:

@@ -32,9 +32,9 @@ KNOWN = frozenset({"begun", "party", "count", "loaded", "foreseen", "boot", "tol
 
 @dataclass(frozen=True)
 class Row:
-    """One node's row. `count` is the number of settled steps in the view that fixed the party, None if it is not known. `floor` is
-    the greatest epoch that was ever begun, in a file of the oldest form. `is_synced_form` marks a row of an earlier version for a
-    start that has not talked yet: replace it, synced, before the start talks."""
+    """One node's row. `count` is the number of settled steps in the view that fixed the party, or None if it is unknown.
+    `floor` is the greatest epoch that was ever begun, in a file of the oldest form. `is_synced_form` marks the row that an
+    earlier version wrote for a start that has not talked yet: replace it, and sync the file, before the start talks."""
 
     kept: Kept = Kept()
     count: int | None = None
@@ -45,7 +45,7 @@ class Row:
 
     @property
     def is_empty(self) -> bool:
-        """Whether the file says only that nothing is begun."""
+        """Returns whether the row says only that nothing is begun."""
         return self.kept == Kept() and self.told is None and self.floor is None
 
 
@@ -68,7 +68,7 @@ def read_rows(path: str, text: str | None, boot: str) -> dict[int, Row]:
 
 
 def read_row(row: dict[str, object], boot: str) -> Row:
-    """Raises ValueError, KeyError and TypeError."""
+    """Parses one row. Raises ValueError, KeyError and TypeError."""
     party = None if row["party"] is None else frozenset(str(line) for line in _list(row["party"]))
     if "epoch" in row:
         return Row(Kept(None, party), floor=_number(row["epoch"]))

@@ -1,4 +1,4 @@
-"""The starts of a member: their state on the disk, and the action that a view requires by the rule (rule.py)."""
+"""The starts of a member: their state on the disk, and the action that is due for a view by the rule (rule.py)."""
 
 from __future__ import annotations
 
@@ -14,32 +14,33 @@ from .since import boot_name
 from .start_file import Row, read_rows, text_of
 from .view import Node, View
 
-MOST_FORESEEN = 4  # parties of a node: of an earlier one a start may have talked, for all that is known
+MOST_FORESEEN = 4  # parties of a node: a start may have talked with an earlier one, as far as is known
 
 
 class Shelf:
-    """Stores the starts of one or more nodes: in one file (start_file.py) which epoch each node has begun and with whom its start
-    first talked, and in a `.history` file, which only grows, all parties that any of them may have talked with. A node without a
-    row has begun nothing.
+    """Stores the starts of one or more nodes, in two files. One (start_file.py) has the epoch that each node has begun, and the
+    party with which its start first talked. The other, `.history`, only grows, and has all parties that any of the starts
+    may have talked with. A node without a row has begun nothing.
 
-    The history is on the disk before a start talks with a party. The start file is written without a sync: after a power cut it may
-    be lost, and then the member asks for a reset. Both files are synced when they are read, since the previous process may have
-    been killed before its own sync."""
+    The history is on the disk before a start talks with a party. The start file is written without a sync: a power cut may
+    lose it, and then the member asks for a reset. Both files are synced when they are read, because the previous process may
+    have been killed before it synced them.
+    """
 
     def __init__(self, path: str) -> None:
         """Raises Unreadable if a file can't be read."""
         self._path, self._boot = path, boot_name()
-        self._keeps_starts = True  # whether work outlives the process
+        self._keeps_starts = True  # whether the work outlives the process
         self.history = History(os.path.splitext(path)[0] + ".history")
         self._rows = read_rows(path, files.read(path), self._boot)
-        self._most = self._greatest_begun()  # that the file on the disk may say, which is the one that is read or written last
-        self._talking: set[str] = set()  # digests of parties that starts talk with after the next `keep`
+        self._most = self._greatest_begun()  # epochs that the file on the disk may name: it is the one that was read, or one written since
+        self._talking: set[str] = set()  # digests of parties with which starts will talk after the next `keep`
         self._is_written = self._is_on_disk = not any(row.is_synced_form for row in self._rows.values())
         self._take_over_epochs()
         self._sync_what_was_read()
 
     def _take_over_epochs(self) -> None:
-        """Reads the oldest form of files, which have the greatest epoch that was ever begun, and its party: that start does not
+        """Reads files of the oldest form, which have the greatest epoch that was ever begun, and its party. That start does not
         continue."""
         for row in self._rows.values():
             if row.floor is not None and row.kept.party and not is_alone(row.kept.party):
@@ -59,11 +60,12 @@ class Shelf:
         return Kept() if row.floor is not None else row.kept
 
     def count(self, node: int) -> int | None:
-        """Returns the number of settled steps in the view that fixed the party of a node's start; None if it is not known."""
+        """Returns the number of settled steps in the view that fixed the party of a node's start, or None if it is unknown."""
         return self._row(node).count
 
     def told(self, node: int) -> str:
-        """Returns the last command of a gateway to the members of a node, `EPOCH NUMBER` and a line feed; empty for none."""
+        """Returns a gateway's last instruction to the members of a node, `EPOCH NUMBER` and a line feed; empty if there was
+        none."""
         return self._row(node).told or ""
 
     def floor(self, node: int) -> int | None:
@@ -71,32 +73,32 @@ class Shelf:
         return self._row(node).floor
 
     def put(self, node: int, kept: Kept, *, told: str | None = None) -> None:
-        """Replaces a node's start; the next `keep` or `write` puts it into the file."""
+        """Replaces a node's start. The next `keep` or `write` writes it to the file."""
         before = self._row(node)
         row = Row(kept, before.count if kept == before.kept else None, before.foreseen, before.told if told is None else told)
         if row != before:
             self._set(node, row)
 
     def fix_party(self, node: int, kept: Kept, digest: str | None, count: int) -> None:
-        """Records that a start talks for the first time, in a view of `count` settled steps. The next `keep` puts its digest on the
-        disk (unless it is alone) before it writes the start file."""
+        """Records that a start talks for the first time, in a view of `count` settled steps. The next `keep` writes the party's
+        digest to the disk (unless the start is alone), and then the start file."""
         if digest is not None:
             self.history.add(digest)
             self._talking.add(digest)
         self._set(node, replace(self._row(node), kept=kept, count=count))
 
     def foresee(self, node: int, digest: str) -> None:
-        """Adds a party to the history before any start talks with it. Call `write`, and then `keep`."""
+        """Adds a party to the history before any start has talked with it. Call `write` and then `keep` after it."""
         row = self._row(node)
         self.history.add(digest)
         self._set(node, replace(row, foreseen=(*row.foreseen, digest)[-MOST_FORESEEN:]))
 
     def is_barred(self, digest: str) -> bool:
-        """Whether a start may have talked with this party: it is in the history, and not only foreseen."""
+        """Returns whether a start may have talked with this party: it is in the history, and not only foreseen."""
         return digest in self.history and not any(digest in row.foreseen for row in self._rows.values())
 
     def keep(self, is_synced: bool = False) -> None:
-        """Syncs the history, and then writes the start file and, with `is_synced`, syncs it. After an error call it again."""
+        """Syncs the history, then writes the start file, and syncs it if `is_synced`. After an error, call it again."""
         self.history.keep()
         talking, self._talking = self._talking, set()
         for node, row in list(self._rows.items()):
@@ -105,13 +107,13 @@ class Shelf:
         self.write(is_synced)
 
     def write(self, is_synced: bool = False) -> None:
-        """Writes the start file alone. It names the foreseen parties before the history has them, so that the next process can tell
-        them from those that a start has talked with."""
+        """Writes only the start file. It names the foreseen parties before the history has them, so that the next process can
+        distinguish them from parties with which a start has talked."""
         if self._keeps_starts and not (self._is_on_disk if is_synced else self._is_written):
             self._write(is_synced)
 
     def _write(self, is_synced: bool) -> None:
-        """Writes the file. Only if "nothing begun" must be on disk is it emptied, which takes one sync."""
+        """Writes the file. If the disk must say only that nothing is begun, empties it, which needs one sync."""
         if is_synced and all(row.is_empty for row in self._rows.values()):
             files.empty(self._path)
         else:
@@ -123,15 +125,15 @@ class Shelf:
         return max([row.kept.begun for row in self._rows.values() if row.kept.begun is not None], default=-1)
 
     def keep_no_starts(self) -> None:
-        """Stops writing the start file, for work that does not outlive the process: its next process has begun nothing."""
+        """Stops writing the start file. Used for work that does not outlive the process: its next process has begun nothing."""
         if self._rows:
             self._rows = {}
             files.empty(self._path)
         self._keeps_starts = False
 
     def may_say_begun(self, epoch: int) -> bool:
-        """Whether the start file on the disk may name this epoch, for an earlier start. If so, sync "nothing begun" before you begin
-        the epoch again."""
+        """Returns whether the start file on the disk may name this epoch, for an earlier start. If it may, sync "nothing begun"
+        before the epoch is begun again."""
         return epoch <= self._most
 
     def _row(self, node: int) -> Row:
@@ -143,7 +145,7 @@ class Shelf:
 
 
 class Barred:
-    """The parties that a start must not talk with, in the form that the rule expects."""
+    """The parties with which a start must not talk, in the form that the rule expects."""
 
     def __init__(self, shelf: Shelf) -> None:
         self._shelf = shelf
@@ -153,23 +155,23 @@ class Barred:
 
 
 class Starts:
-    """The starts of one node's member, stored beside its work. The caller calls `shelf.keep` after `due`, after `note_begin` and
-    after `note_begun`, before it acts on them."""
+    """The starts of one node's member, stored together with its work. After `due`, `note_begin` and `note_begun` the caller
+    calls `shelf.keep`, before it acts on them."""
 
     def __init__(self, shelf: Shelf, node: int, begun: int | None) -> None:
-        """`begun` is the epoch that is stored with the work in hand, None for no work."""
+        """`begun` is the epoch that is stored with the present work, None if there is no work."""
         self._shelf, self._node = shelf, node
         self.work = begun
         self._floor = shelf.floor(node)
 
     @property
     def begun(self) -> int | None:
-        """The epoch of the work in hand; None for no work, and for work that does not belong to the stored start."""
+        """The epoch of the present work; None if there is no work, or if it does not belong to the stored start."""
         return self.work if self.work == self._kept.begun else None
 
     def due(self, view: View, row: Node) -> Due:
-        """Returns the action that a view with the row of the member's node requires, and puts the state to store into the
-        shelf."""
+        """Returns the action that is due for a view with the row of the member's node, and records the state to be stored in
+        the shelf."""
         if self._floor is not None and row.epoch <= self._floor:
             return self._take_over(view, row)
         self._floor = None
@@ -179,9 +181,9 @@ class Starts:
         return judged.due
 
     def foresee(self, view: View) -> None:
-        """Adds the party with which the begun start will talk, if nothing changes, to the history in advance, so that it need not
-        wait for the disk later. No start has talked with that party yet, so it still may; this process knows that, and so does
-        the next one unless the power was cut. One that does not know it asks for a reset when this party is shown."""
+        """Adds the party with which the begun start will talk, if nothing changes, to the history in advance, so that the start
+        need not wait for the disk later. No start has talked with that party yet, so it is still permitted. This process
+        knows that, and so does the next one, unless the power was cut: then it asks for a reset when this party is shown."""
         row, part = view.node(self._node), view.part(self._node)
         if row is None or row.epoch != self.begun or self._kept.party is not None or not part.is_quiet or is_alone(part.party):
             return
@@ -190,14 +192,14 @@ class Starts:
             self._shelf.foresee(self._node, digest)
 
     def tag(self, view: View, word: str = "") -> str:
-        """The tag of a start that is due to talk; empty for one that was alone when it first talked."""
+        """Returns the tag of a start that is due to talk, empty for one that was alone when it first talked."""
         party = self._kept.party
         return tag_of(party, view.party(self._node), word) if party is not None else ""
 
     def fence(self, word: str = "", generation: int = 0) -> Fence | None:
-        """Returns the fence of a start that has first talked. None if an earlier version of the library fixed its party: the next
-        reset brings one. A start that was alone shares its run with nobody, and may come again with the same party: so its tag
-        includes the count. `generation` is greater after each restore of the coordinator's store."""
+        """Returns the fence of a start that has talked, or None if an earlier version of the library fixed its party: the next
+        reset brings a fence. A start that was alone shares its run with nobody, and a later one may have the same party; so
+        its tag includes the count. `generation` must be greater after each restore of the coordinator's store."""
         party, settled = self._kept.party, self._shelf.count(self._node)
         if party is None or settled is None:
             return None
@@ -215,12 +217,12 @@ class Starts:
         return f"epoch {row.epoch} is shown and confirmed, and {work} here"
 
     def note_begin(self, told: str | None = None) -> None:
-        """Notes that a start begins: call this, and `keep`, before any work of the previous one is dropped. That one no longer
-        talks, whatever happens to its work."""
+        """Records that a start begins. Call this, and `keep`, before any work of the previous start is dropped. The previous
+        start will not talk again, whatever happens to its work."""
         self._shelf.put(self._node, Kept(), told=told)
 
     def note_begun(self, epoch: int) -> None:
-        """The start of an epoch is complete, and on the disk."""
+        """Records that the start of an epoch is complete and on the disk."""
         self.work = epoch
         self._shelf.put(self._node, Kept(epoch))
 
@@ -232,7 +234,7 @@ class Starts:
         return judge(Kept(self.begun, self._kept.party), Barred(self._shelf), shown_to(view, row))
 
     def _take_over(self, view: View, row: Node) -> Due:
-        """Handles a file of an earlier version with this epoch or a greater one: it asks for a reset, once."""
+        """Handles a file of an earlier version that has this epoch or a greater one: asks for a reset, once."""
         if any(node.mode != "ready" for node in view.connected(row.node)):
             return Due.WAIT
         self._floor = None

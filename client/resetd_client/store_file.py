@@ -1,4 +1,4 @@
-"""A store's file, read by the rules of docs/FORMATS.md, also while it is served: its content, and a copy of it."""
+"""A store's file, read by the rules of docs/FORMATS.md, even while it is served: its content, and a copy of it."""
 
 from __future__ import annotations
 
@@ -22,7 +22,7 @@ Read = Callable[[int, int], bytes]
 
 
 class NoStore(ResetdError):
-    """The file is not a readable store: the fault's name as `resetd` prints it, and its position. Needs a person."""
+    """The file is not a readable store: the fault's name as `resetd` prints it, and the position of the fault. Needs a person."""
 
     def __init__(self, name: str, place: int, what: str) -> None:
         super().__init__(f"{name}: at byte {place}, {what}")
@@ -30,7 +30,8 @@ class NoStore(ResetdError):
 
 
 class Restless(ResetdError):
-    """Each pass over a served store met a checkpoint: the same call may succeed later. Needs no person, unless it lasts."""
+    """Every pass over a served store met a checkpoint; the same call may succeed later. A program can retry by itself: this
+    needs no person, unless it lasts."""
 
     needs_person = False
 
@@ -38,7 +39,7 @@ class Restless(ResetdError):
 @dataclass(frozen=True)
 class Half:
     """The content of one half of a store: its version, its snapshot, and the bodies after open gates. `start` is the half's
-    offset in the file, `places` are those of the bodies."""
+    offset in the file, and `places` has the offsets of the bodies."""
 
     size: int
     index: int
@@ -52,7 +53,7 @@ class Half:
 
     @property
     def used(self) -> int:
-        """Returns the number of bytes of the half in use, including its closed gate."""
+        """Returns the number of bytes that the half uses, including its closed gate."""
         return TOP + len(self.snapshot) + 1 + sum(len(body) + 5 for body in self.bodies)
 
     @property
@@ -64,7 +65,7 @@ class Half:
         return places
 
     def file(self) -> bytes:
-        """Returns the bytes of a store with only this, in its first half."""
+        """Returns the bytes of a store that has only this content, in its first half."""
         parts = [b"\0", MAGIC, self.size.to_bytes(8, "big"), bytes([self.version]), len(self.snapshot).to_bytes(4, "big"),
                  self.snapshot]
         for body in self.bodies:
@@ -74,7 +75,7 @@ class Half:
 
 @dataclass(frozen=True)
 class Store:
-    """A half whose snapshot encodes a world, and whose bodies encode batches that continue from there."""
+    """A half whose snapshot encodes a world, and whose bodies encode batches that continue it."""
 
     half: Half
     world: World
@@ -82,12 +83,13 @@ class Store:
 
     @property
     def count(self) -> int:
-        """Returns its number of steps."""
+        """Returns the number of steps of the store."""
         return self.batches[-1].last if self.batches else self.world.count
 
 
 def store_of(half: Half) -> Store:
-    """Returns the store that a half encodes. `resetd check` reports whether the world accepts the steps. Raises NoStore."""
+    """Returns the store that a half encodes. It does not check whether the world accepts the steps; `resetd check` does. Raises
+    NoStore."""
     if half.version not in VERSIONS:
         raise NoStore("BadSnapshot", half.start, f"version {half.version} is not known")
     try:
@@ -108,8 +110,8 @@ def store_of(half: Half) -> Store:
 
 
 def read_half(read: Read, is_other: bool = False) -> Half:
-    """Returns the selected half, or the other one, as it was at one moment of this call, even while the store is served. Every
-    order that was answered before the call is in it. Raises NoStore and Restless."""
+    """Returns the selected half, or the other one, as it was at one moment of this call, even while the store is served. It
+    includes every order that was answered before the call. Raises NoStore and Restless."""
     head = read(0, HEADER)
     size = int.from_bytes(head[9:], "big")
     if len(head) < HEADER or head[1:9] != MAGIC or size not in HALVES:
@@ -123,8 +125,9 @@ def read_half(read: Read, is_other: bool = False) -> Half:
 def one_pass(read: Read, size: int, is_other: bool) -> Half | None:
     """Makes one pass over a half. Returns None if a checkpoint came in between.
 
-    A half is rewritten only while the other one is selected. So the selector is the same before and after the first reading of
-    the top, and after the batches, and then the top is still the same: each checkpoint has a new count of steps.
+    A half is rewritten only while the other one is selected. So the selector must be the same before and after the first
+    reading of the top, and again after the batches, and then the top must still be the same: each checkpoint has a new count
+    of steps.
     """
     selector = selected(read)
     index = selector ^ is_other
@@ -143,19 +146,19 @@ def one_pass(read: Read, size: int, is_other: bool) -> Half | None:
 
 
 def selected(read: Read) -> int:
-    """Returns which half the selector names."""
+    """Returns the index of the half that the selector selects."""
     return read(0, 1)[0] % 2
 
 
 def top_of(read: Read, start: int) -> bytes:
-    """Returns the version, the length of the snapshot, and the snapshot, as far as they are there."""
+    """Returns the version, the length of the snapshot, and the snapshot, as far as the file has them."""
     reading = read(start, TOP + MOST_SNAPSHOT)
     return reading[:TOP + int.from_bytes(reading[1:TOP], "big")]
 
 
 def walked(read: Read, size: int, index: int, top: bytes) -> Half:
-    """Reads a half from its top to its first closed gate. A gate opens only once its body and the closed gate after that are
-    written. So each gate is read by a call that began after the one before it was seen open, with the body between
+    """Reads a half from its top to its first closed gate. A gate opens only once its body and the closed gate after it are
+    written. So each gate is read by a call that begins after the previous gate was seen open, together with the body between
     them. Raises NoStore."""
     start = HEADER + index * size
 
@@ -190,7 +193,7 @@ def reader_of(descriptor: int) -> Read:
 
 
 def open_store(path: str) -> int:
-    """Opens a store's file and returns its descriptor. It refuses a path that is not a regular file, and never blocks. Raises
+    """Opens a store's file and returns its descriptor. Refuses a path that is not a regular file, and never blocks. Raises
     OSError."""
     descriptor = os.open(path, os.O_RDONLY | os.O_NONBLOCK | os.O_CLOEXEC)
     if not stat.S_ISREG(os.fstat(descriptor).st_mode):

@@ -1,4 +1,4 @@
-"""The grammars of batches and worlds (docs/FORMATS.md), read from the left to the first fault."""
+"""The grammars of batches and worlds (docs/FORMATS.md), decoded from left to right up to the first fault."""
 
 from __future__ import annotations
 
@@ -21,7 +21,7 @@ T = TypeVar("T")
 
 
 class NotSpelled(Exception):
-    """The bytes can't be decoded: Short, BadByte or Extra, and the place of the first fault."""
+    """The bytes can't be decoded: Short, BadByte or Extra, and the position of the first fault."""
 
     def __init__(self, kind: str, place: int) -> None:
         super().__init__(f"{kind} at {place}")
@@ -29,13 +29,13 @@ class NotSpelled(Exception):
 
 
 class Reader:
-    """Reads bytes from the left. Each call raises NotSpelled."""
+    """Decodes bytes from left to right. Each call raises NotSpelled."""
 
     def __init__(self, data: bytes) -> None:
         self.data, self.place = data, 0
 
     def number(self, size: int, least: int, most: int) -> int:
-        """Decodes a number of this many bytes, within limits."""
+        """Decodes a number of this many bytes, from `least` to `most`."""
         if self.place + size > len(self.data):
             raise NotSpelled("Short", len(self.data))
         value = int.from_bytes(self.data[self.place:self.place + size], "big")
@@ -51,7 +51,7 @@ class Reader:
         return self.number(8, least, most)
 
     def counted(self, most: int, item: Callable[[], T]) -> list[T]:
-        """Decodes as many items as a byte says."""
+        """Decodes a list: a byte with the number of items, and the items."""
         return [item() for _ in range(self.byte(0, most))]
 
     def end(self) -> None:
@@ -72,7 +72,7 @@ class Command:
 
 @dataclass(frozen=True)
 class Ordered:
-    """A step that is a client's order, by its number."""
+    """A step that is a client's order, with the order's number."""
 
     client: int
     number: int
@@ -98,7 +98,7 @@ class Taken:
 
 @dataclass(frozen=True)
 class Cleared:
-    """A step in which a receipt clears a message that was taken."""
+    """A step in which a receipt clears a message."""
 
     origin: int
     target: int
@@ -114,7 +114,7 @@ Step = Ordered | Taken | Cleared
 
 @dataclass(frozen=True)
 class Batch:
-    """Steps that were settled together, and the number of the first."""
+    """Steps that were settled together, with the number of the first."""
 
     first: int
     steps: tuple[Step, ...]
@@ -140,7 +140,7 @@ class Session:
 
 @dataclass(frozen=True)
 class World:
-    """The parts of a snapshot that a person may ask for: how many steps it has, its nodes with their modes, links and
+    """The parts of a snapshot that a person may ask for: the number of steps, the nodes with their modes, the links and the
     sessions."""
 
     count: int
@@ -150,7 +150,7 @@ class World:
 
 
 def batch_of(body: bytes, version: int) -> Batch:
-    """Decodes the batch of a body. Raises NotSpelled."""
+    """Decodes the batch in a body. Raises NotSpelled."""
     reader = Reader(body)
     first = reader.word(1, MOST_STEPS_EVER)
     steps = tuple(step_of(reader, version) for _ in range(reader.number(2, 1, MOST_IN_BATCH)))
@@ -197,7 +197,7 @@ def world_of(snapshot: bytes, version: int) -> World:
 
 
 class Rows:
-    """Decodes the rows of a world's lists, each of which is in its range and above the one before."""
+    """Decodes the rows of a world's lists. Each row must be in its range and above the previous one."""
 
     def __init__(self, reader: Reader, version: int, count: int) -> None:
         self.reader, self.version, self.count = reader, version, count
@@ -212,7 +212,7 @@ class Rows:
         self.groups[node] = read.byte(*GROUPS)
         mode = self.modes[node] = MODES[read.byte(0, len(MODES) - 1)]
         read.byte(0, NODES[1])  # the parent
-        read.word()  # who is awaited
+        read.word()  # the awaited nodes
         read.word(0, count)  # epoch
         read.word(0, count)  # confirmed
         if self.version == 2:

@@ -1,4 +1,4 @@
-"""Topology files, and the orders that turn a network into that of a file."""
+"""Topology files, and the orders that change a network into that of a file."""
 
 from __future__ import annotations
 
@@ -18,8 +18,8 @@ Pair = tuple[int, int]
 
 
 class BadTopology(ResetdError):
-    """The file is not a topology, or not one that a network can have. `name` is how `resetd init` names the fault. Needs a
-    person: the file's author."""
+    """The file is not a topology, or its network can't exist. `name` is the name of the fault that `resetd init` reports. Needs
+    a person: the file's author."""
 
     def __init__(self, name: str, text: str) -> None:
         super().__init__(f"{name}: {text}")
@@ -28,21 +28,21 @@ class BadTopology(ResetdError):
 
 @dataclass
 class Network:
-    """Nodes with their groups, and links as pairs with the lesser number first."""
+    """Nodes with their groups, and links as pairs with the smaller number first."""
 
     groups: dict[int, int] = field(default_factory=dict)
     links: set[Pair] = field(default_factory=set)
 
     @staticmethod
     def of(view: View) -> Network:
-        """Returns the network that `show` prints."""
+        """Returns the network that a view shows."""
         return Network({node.node: node.group for node in view.nodes}, {pair(link.a, link.b) for link in view.links})
 
     def degree(self, node: int) -> int:
         return sum(node in link for link in self.links)
 
     def links_of(self, nodes: Iterable[int]) -> set[Pair]:
-        """Returns the links with an end among these nodes."""
+        """Returns the links that have an end among these nodes."""
         ends = set(nodes)
         return {link for link in self.links if ends & set(link)}
 
@@ -53,7 +53,7 @@ def pair(a: int, b: int) -> Pair:
 
 @dataclass(frozen=True)
 class Order:
-    """An order of a plan, with a note for a person."""
+    """An order in a plan, with a note for a person."""
 
     op: str
     members: dict[str, int]
@@ -65,8 +65,8 @@ class Order:
 
 
 def read_topology(text: bytes) -> Network:
-    """Reads the network of a topology file. It checks keys before values, and values before the rows, like `resetd init`. Raises
-    BadTopology."""
+    """Reads the network in a topology file. Like `resetd init`, it checks keys before values, and values before the rows.
+    Raises BadTopology."""
     if len(text) > MOST_BYTES:
         raise BadTopology("NotToml", f"over {MOST_BYTES} bytes")
     try:
@@ -92,7 +92,7 @@ def read_topology(text: bytes) -> Network:
 
 
 def add_link(network: Network, a: int, b: int) -> None:
-    """Adds a link that a network can have. Raises BadTopology."""
+    """Adds a link, if the network can have it. Raises BadTopology."""
     for end in (a, b):
         if end not in network.groups:
             raise BadTopology("6 UnknownNode", f"link {a} {b}: there is no node {end}")
@@ -110,13 +110,13 @@ def add_link(network: Network, a: int, b: int) -> None:
 
 
 def tables(top: dict[str, Any], key: str) -> Iterator[dict[str, Any]]:
-    """Returns the tables directly in an array; other items are skipped."""
+    """Returns the tables that are items of an array; other items are skipped."""
     rows = top.get(key, [])
     return (row for row in (rows if isinstance(rows, list) else []) if isinstance(row, dict))
 
 
 def tables_alone(top: dict[str, Any], key: str) -> Iterator[dict[str, Any]]:
-    """Returns the tables of an array. Raises BadTopology if it is not an array, or has anything else."""
+    """Returns the tables of an array. Raises BadTopology if the value is not an array, or has other items."""
     rows = top.get(key, [])
     if not isinstance(rows, list) or not all(isinstance(row, dict) for row in rows):
         raise BadTopology("BadValue", f"{key} must be written as [[{key}]]")
@@ -124,7 +124,7 @@ def tables_alone(top: dict[str, Any], key: str) -> Iterator[dict[str, Any]]:
 
 
 def check_keys(table: dict[str, Any], required: set[str], optional: set[str], where: str) -> None:
-    """Raises BadTopology if a table lacks a key, or has an unknown one."""
+    """Raises BadTopology if a table lacks a required key, or has an unknown one."""
     if missing := required - set(table):
         raise BadTopology("BadKey", f"{where} lacks {' and '.join(sorted(missing))}")
     if extra := set(table) - required - optional:
@@ -139,9 +139,9 @@ def number(value: Any, limits: range, what: str) -> int:
 
 
 def plan(have: Network, want: Network) -> list[Order]:
-    """Returns the orders that turn one network into the other. They remove and add nodes whose group changes; then add nodes,
-    join links before they drop others, so that nobody is cut off meanwhile, and remove nodes. If a join has no room,
-    they first drop a link that is to go, and the order says so."""
+    """Returns the orders that change one network into the other. They remove the nodes whose group changes and add them again,
+    add nodes, join links before they drop others, so that no node is cut off meanwhile, and then remove nodes. If there is
+    no room for a join, a link that is to go is dropped first, and the order has a note about that."""
     now = Network(dict(have.groups), set(have.links))
     orders: list[Order] = []
 
@@ -173,7 +173,7 @@ def plan(have: Network, want: Network) -> list[Order]:
 
 
 def rooms(now: Network, want: Network, link: Pair) -> list[Pair]:
-    """Returns which of the links to drop must be dropped before a link can be joined."""
+    """Returns the links that must be dropped before a link can be joined, among those to be dropped."""
     going, chosen = now.links - want.links, set[Pair]()
     for end in link:
         if now.degree(end) - sum(end in other for other in chosen) >= MOST_LINKS_AT_NODE:

@@ -1,4 +1,4 @@
-"""The view that `show` returns: typed rows of nodes and links, and the state of a group that follows from them."""
+"""The view that `show` returns: typed rows of nodes and links, and the group states derived from them."""
 
 from __future__ import annotations
 
@@ -11,8 +11,8 @@ from .party import Party, tag_of
 
 
 class Node(NamedTuple):
-    """A node's row. `mode` is `ready`, or `abort` or `converge` while the node is in a reset; `parent` is 0 for none; `epoch`
-    counts the node's signals, and `confirmed` is the last epoch that a service has confirmed."""
+    """A node's row. `mode` is `ready`, or `abort` or `converge` while the node is in a reset; `parent` is 0 if it has none;
+    `epoch` counts the node's signals, and `confirmed` is the last epoch that a service has confirmed."""
 
     node: int
     group: int
@@ -23,7 +23,7 @@ class Node(NamedTuple):
 
     @property
     def is_begun(self) -> bool:
-        """Whether the node is in no reset, and its service has confirmed the present epoch."""
+        """Returns whether the node is in no reset, and its service has confirmed the present epoch."""
         return self.mode == "ready" and self.epoch == self.confirmed
 
 
@@ -37,20 +37,20 @@ class Link(NamedTuple):
 
 @dataclass(frozen=True)
 class Part:
-    """Nodes that links connect with each other, in ascending order, and those links: a reset of one node reaches all. Derived
-    values are computed once, since all members of a gateway ask for them."""
+    """Nodes that links connect with each other, in ascending order, and these links: a reset of one node reaches all of them.
+    Derived values are computed once, because all members of a gateway ask for them."""
 
     nodes: tuple[Node, ...] = ()
     links: tuple[Link, ...] = ()
 
     @cached_property
     def is_through(self) -> bool:
-        """Whether none of them is in a reset, and all have begun."""
+        """Returns whether none of the nodes is in a reset, and all have begun."""
         return all(node.is_begun for node in self.nodes)
 
     @cached_property
     def is_quiet(self) -> bool:
-        """Whether none of them is in a reset."""
+        """Returns whether none of the nodes is in a reset."""
         return all(node.mode == "ready" for node in self.nodes)
 
     @cached_property
@@ -62,7 +62,7 @@ class Part:
 
 @dataclass(frozen=True)
 class View:
-    """The settled world: how many steps were accepted and how many are on the disk, and the rows."""
+    """The settled world: the numbers of accepted and of settled steps, and the rows."""
 
     accepted: int
     settled: int
@@ -71,7 +71,7 @@ class View:
 
     @staticmethod
     def of(answer: Mapping[str, Any]) -> View:
-        """Returns the view of an answer's members. It ignores what a later version adds to a row."""
+        """Returns the view in an answer's members. Ignores members that a later version adds to a row."""
         return View(
             int(answer["accepted"]), int(answer["settled"]),
             tuple(Node(int(n), int(g), str(mode), int(parent), int(e), int(c))
@@ -84,11 +84,11 @@ class View:
                 "nodes": [list(node) for node in self.nodes], "settled": self.settled}
 
     def node(self, number: int) -> Node | None:
-        """Returns the row of a node, if it exists."""
+        """Returns the row of a node, or None if the node does not exist."""
         return next((node for node in self.nodes if node.node == number), None)
 
     def part(self, number: int) -> Part:
-        """Returns the part of a node; None if the node does not exist."""
+        """Returns the part of a node, or None if the node does not exist."""
         return self._parts.get(number, Part())
 
     def connected(self, number: int) -> tuple[Node, ...]:
@@ -97,22 +97,22 @@ class View:
         return self.part(number).nodes
 
     def awaited(self, number: int) -> tuple[Node, ...]:
-        """Returns the connected nodes that are not through: in a reset, or not confirmed yet."""
+        """Returns the connected nodes that are not through: they are in a reset, or have not confirmed."""
         return tuple(node for node in self.connected(number) if not node.is_begun)
 
     def party(self, number: int) -> Party:
-        """Returns which nodes are connected with a node, each with its epoch, and by which links: the party that names a run
-        (party.py)."""
+        """Returns the party of a node, which names a run: the nodes connected with it, each with its epoch, and the links
+        between them (party.py)."""
         return self.part(number).party
 
     @cached_property
     def _parts(self) -> dict[int, Part]:
-        """The part of each node."""
+        """Returns the part of each node."""
         near: dict[int, list[int]] = {node.node: [] for node in self.nodes}
         for link in self.links:
             near.setdefault(link.a, []).append(link.b)
             near.setdefault(link.b, []).append(link.a)
-        first: dict[int, int] = {}  # of each node, the node by which its part was found
+        first: dict[int, int] = {}  # for each node, the node from which its part was found
         for node in self.nodes:
             rest = [node.node]
             while rest:
@@ -124,7 +124,7 @@ class View:
         return {node.node: parts[first[node.node]] for node in self.nodes}
 
     def tag(self, number: int, word: str = "") -> str:
-        """Returns the tag of a start of this node that first talks with this view (party.py); empty if it is alone. `word` is
-        shared by the whole group."""
+        """Returns the tag of a start of this node that first talks in this view (party.py); empty if it is alone. The whole
+        group shares `word`."""
         party = self.party(number)
         return tag_of(party, party, word)

@@ -1,4 +1,4 @@
-"""The members for which a group waits: those that have not confirmed, since when, and their last sign of life."""
+"""The members for which a group waits: those that have not confirmed, since when, and their last signs of life."""
 
 from __future__ import annotations
 
@@ -9,12 +9,13 @@ from typing import Any
 from .finding import Finding
 from .view import Node, Part, View
 
-AUDIT = "/var/log/resetd-front/audit"  # of a front, which has the times
+AUDIT = "/var/log/resetd-front/audit"  # of a front; it has the times
 Entry = Mapping[str, Any]
 
 
 def of_groups(view: View, audit: str) -> Iterator[Finding]:
-    """Yields what each group waits for, if it is not through. `audit` is the path of a front's audit, which has the times."""
+    """Yields, for each group that is not through, what it waits for. `audit` is the path of a front's audit file, which has the
+    times."""
     parts = {part.nodes[0].node: part for node in view.nodes if not (part := view.part(node.node)).is_through}
     if not parts:
         return
@@ -38,7 +39,7 @@ def of_group(part: Part, entries: list[Entry]) -> Iterator[Finding]:
 
 
 def others(part: Part) -> str:
-    """Describes who waits for a member."""
+    """Describes the members that wait for one member."""
     return f"the {len(part.nodes)} nodes of its group wait" if len(part.nodes) > 1 else "it is connected with nobody"
 
 
@@ -52,12 +53,12 @@ def sign_of_life(node: Node, entries: list[Entry]) -> str:
 
 
 def name_of(who: object) -> object:
-    """The principal of an entry; of a front the certificate or the user."""
+    """Returns the principal of an entry; for a front, the certificate or the user."""
     return who.get("certificate") or who.get("user") if isinstance(who, dict) else who
 
 
 def is_reset_of(entry: Entry, nodes: set[int]) -> bool:
-    """Whether an entry is of a reset of one of these nodes that was carried out."""
+    """Returns whether an entry is a reset of one of these nodes that was carried out."""
     request, answer = request_of(entry), entry.get("answer")
     return request.get("op") == "reset" and request.get("node") in nodes and isinstance(answer, dict) and answer.get("kind") in (
         "started", "finished", "carried out")
@@ -73,7 +74,7 @@ def request_of(entry: Entry) -> Entry:
 
 
 def read_entries(path: str) -> tuple[list[Entry], str]:
-    """Returns the entries of an audit file, and why there are none."""
+    """Returns the entries of an audit file, and the reason if there are none."""
     entries: list[Entry] = []
     try:
         with open(path, encoding="utf-8", errors="replace") as lines:

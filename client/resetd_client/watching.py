@@ -1,5 +1,4 @@
-"""Watching through a front: it pushes the view at once, at each change, and every 15 seconds so that a dead connection is
-noticed."""
+"""Watching through a front: the front pushes a view at each change, and every 15 seconds so that a dead connection is noticed."""
 
 from __future__ import annotations
 
@@ -19,23 +18,23 @@ from .port import Port, Request, line_of
 from .signals import Wake
 from .view import View
 
-SILENCE_SECONDS = 45.0  # after this long without a line the front, or the connection to it, counts as dead
-REPLY_SECONDS = 30.0  # a front's own patience with the server
-FIRST_PAUSE, PAUSE = 0.1, 2.0  # seconds between two trials to connect, at first and at most
-VIEW = '{"accepted":'  # with which the line of a view begins
-MOST_BYTES = 1 << 20  # of a line: 64 nodes and 128 links take some ten thousand
+SILENCE_SECONDS = 45.0  # after this many seconds without a line, the front or the connection to it counts as dead
+REPLY_SECONDS = 30.0  # a front's time limit for the server's answer
+FIRST_PAUSE, PAUSE = 0.1, 2.0  # seconds between two attempts to connect, at first and at most
+VIEW = '{"accepted":'  # the beginning of a view's line
+MOST_BYTES = 1 << 20  # of a line: one with 64 nodes and 128 links has about ten thousand
 
 
 class Pushed:
-    """One connection to a front, which pushes views over it."""
+    """One connection to a front, over which the front pushes views."""
 
     def __init__(self, address: Address, seconds: float) -> None:
-        """`seconds` is how long it may take to connect. Raises Away and Untrusted."""
+        """`seconds` is the time limit for connecting. Raises Away and Untrusted."""
         self.address, self._rest, self.is_over = address, b"", False
-        self._is_answered = False  # whether the first line has come, which answers `watch`
+        self._is_answered = False  # whether the first line has arrived, which answers `watch`
         self._seconds = seconds
-        self.awaited, self.answers = 0, list[str]()  # answers to orders that were sent over it
-        self.least = 0  # the step of the last order that was carried out over it: a view with fewer settled steps is of before
+        self.awaited, self.answers = 0, list[str]()  # answers to the orders that were sent over this connection
+        self.least = 0  # the step of the last order carried out over it: a view with fewer settled steps is older
         self._connection = address.connect(seconds)
         try:
             self._connection.sendall(line_of({"op": "watch"}))
@@ -52,7 +51,7 @@ class Pushed:
         return self._connection.fileno()
 
     def send(self, requests: Sequence[Request]) -> None:
-        """Sends orders; their answers come between the views. Raises Away, and TooLong."""
+        """Sends orders. Their answers arrive between the views. Raises Away and TooLong."""
         text = b"".join(line_of(request) for request in requests)
         try:
             self._connection.settimeout(self._seconds)
@@ -63,20 +62,20 @@ class Pushed:
         self.awaited, self.answers = len(requests), []
 
     def views(self, seconds: float) -> list[View]:
-        """The views that have arrived, after at most this many seconds; `is_over` is then true if no more will. Raises Away after
-        a silence, NotTaken (Garbled, Faulted) if a line is not a view, and Untrusted."""
+        """Returns the views that arrive within this many seconds; then `is_over` is True if no more will arrive. Raises Away
+        after a silence, NotTaken (Garbled, Faulted) if a line is not a view, and Untrusted."""
         return [view_of(line, str(self.address)) for line in self._lines(seconds)]
 
     def newest(self, seconds: float) -> View | None:
-        """The same, but only the newest one, since the others are out of date by then."""
+        """Like `views`, but returns only the newest one, because the others are out of date."""
         lines = self._lines(seconds)
         for line in lines[:-1]:
             if not line.startswith(VIEW):
-                view_of(line, str(self.address))  # it is not a view: raises the fault that it is
+                view_of(line, str(self.address))  # a line that is no view: it raises its fault
         return view_of(lines[-1], str(self.address)) if lines else None
 
     def _lines(self, seconds: float) -> list[str]:
-        """Returns the lines that have come, without the answers to orders."""
+        """Returns the lines that have arrived, except the answers to orders."""
         silence = self.heard + SILENCE_SECONDS - time.monotonic()
         if self._is_ready(max(0.0, min(seconds, silence))):
             self._read()
@@ -93,7 +92,7 @@ class Pushed:
         return [line.decode("utf-8", "replace") for line in lines]
 
     def _takes(self, line: bytes, place: int) -> bool:
-        """Accepts the answer to an order. The very first line is the answer to `watch`."""
+        """Accepts the answer to an order. The first line of the connection answers `watch`."""
         if line.startswith(VIEW.encode()) or not self.awaited or not (self._is_answered or place):
             return False
         self.awaited -= 1
@@ -101,13 +100,13 @@ class Pushed:
         return True
 
     def _is_ready(self, seconds: float) -> bool:
-        """Whether something can be read; TLS may buffer what the system has already delivered."""
+        """Returns whether something can be read. TLS may already have buffered what the system delivered."""
         if isinstance(self._connection, ssl.SSLSocket) and self._connection.pending():
             return True
         return bool(select.select([self._connection], [], [], seconds)[0])
 
     def _read(self) -> None:
-        """Reads all that has come."""
+        """Reads everything that has arrived."""
         while not self.is_over and len(self._rest) <= MOST_BYTES:
             try:
                 read = self._connection.recv(65536)
@@ -122,10 +121,10 @@ class Pushed:
 
 class Watched:
     """Wakes its waiters within milliseconds of a change, on any host, if one of a port's addresses is a front's. It reconnects
-    automatically, and then assumes a change."""
+    by itself, and then assumes that something has changed."""
 
     def __init__(self, port: Port, seconds: float = 5.0) -> None:
-        """`seconds` is how long it may take to connect. Raises BadWords if none of the addresses is a front's."""
+        """`seconds` is the time limit for connecting. Raises BadWords if none of the addresses is a front's."""
         self._newest = port.newest
         self._fronts = [address for address in port.addresses if address.is_front]
         if not self._fronts:
@@ -134,31 +133,31 @@ class Watched:
         self._seconds, self._turn = seconds, 0
         self._pause, self._not_before = FIRST_PAUSE, 0.0
         self._seen: View | None = None
-        self._new: View | None = None  # the newest view, until it is taken
-        self._is_untold = False  # whether it came since the last wait
+        self._new: View | None = None  # the newest view, until `take` returns it
+        self._is_untold = False  # whether that view arrived after the last wait
 
     def take(self) -> View | None:
-        """Returns the newest view, once, if it is newer than all orders that were sent over the connection."""
+        """Returns the newest view once, if it is newer than all orders that were sent over the connection."""
         view = self._new if self.has_view else None
         self._new, self._is_untold = None, False
         return view
 
     @property
     def has_view(self) -> bool:
-        """Whether there is a view to take that is newer than all orders that were sent over the connection."""
+        """Returns whether `take` has a view that is newer than all orders that were sent over the connection."""
         return self._new is not None and self._pushed is not None and self._new.settled >= self._pushed.least
 
     def await_view(self, seconds: float) -> None:
-        """Waits at most this long until there is a view to take; does not wait for a connection."""
+        """Waits until `take` has a view, at most this many seconds. Does not wait for a connection."""
         until = time.monotonic() + seconds
         while self._pushed is not None and not self.has_view and (left := until - time.monotonic()) > 0:
             self._wait_for_view(left)
 
     def ask_many(self, requests: Sequence[Request], on_view: Callable[[View], None] = lambda view: None,
                  view: View | None = None) -> list[str]:
-        """Returns the answers to orders that go over this connection, in their sequence. While they are on their way it calls
-        `on_view` with `view` and with each pushed view. Raises Away, and whatever `wait` raises; then an order was carried out or
-        not."""
+        """Returns the answers to orders, sent over this connection in this sequence. Until they arrive, it calls `on_view` with
+        `view`, and then with each pushed view. Raises Away, and whatever `wait` raises; after that an order may or may not
+        have been carried out."""
         try:
             pushed = self._connected()
             pushed.send(requests)
@@ -167,7 +166,7 @@ class Watched:
             until = time.monotonic() + REPLY_SECONDS
             while pushed.awaited:
                 if (each := pushed.newest(until - time.monotonic())) is not None:
-                    with suppress(Past):  # an order that is carried out there makes it count
+                    with suppress(Past):  # an order that is carried out there makes the address count
                         self._take(pushed, each)
                         on_view(each)
                 if pushed.awaited and (pushed.is_over or time.monotonic() > until):
@@ -180,13 +179,13 @@ class Watched:
             raise
 
     def note_order(self, step: int) -> None:
-        """Notes that an order sent over the connection was carried out as this step."""
+        """Records that an order sent over the connection was carried out as this step."""
         if self._pushed is not None:
             self._pushed.least = max(self._pushed.least, step)
             self._newest.note_order(self._pushed.address, step)
 
     def _connected(self) -> Pushed:
-        """Returns the connection, after connecting if there is none. Raises Away."""
+        """Returns the connection, and connects first if there is none. Raises Away."""
         if self._pushed is None:
             self._connect(self._seconds)
         if self._pushed is None:
@@ -199,7 +198,7 @@ class Watched:
         self._note(view)
 
     def _note(self, view: View) -> None:
-        """Stores a view that differs from the last."""
+        """Stores a view if it differs from the last one."""
         if view != self._seen:
             self._seen = self._new = view
             self._is_untold = True
@@ -209,8 +208,8 @@ class Watched:
         return self._fronts[self._turn % len(self._fronts)]
 
     def wait(self, seconds: float) -> Wake:
-        """Waits until a view comes that is not the last one, at most this long. It never returns END. Raises NotTaken (Garbled,
-        or Faulted if the policy allows no watch) and Untrusted."""
+        """Waits until a view arrives that differs from the last one, at most this many seconds. Never returns END. Raises
+        NotTaken (Garbled, or Faulted if the policy does not allow `watch`) and Untrusted."""
         until = time.monotonic() + seconds
         while True:
             if not self._is_untold:
@@ -222,18 +221,18 @@ class Watched:
                 return Wake.QUIET
 
     def descriptors(self) -> list[int] | None:
-        """Returns the descriptors to wait for; None while there is no connection, so that
-        `wait` has to be called."""
+        """Returns the descriptors to wait for; None while there is no connection, so that `wait` has to be called."""
         return None if self._pushed is None else [self._pushed.fileno()]
 
     def close(self) -> None:
-        """Ends its connection."""
+        """Closes the connection."""
         if self._pushed is not None:
             self._pushed.close()
             self._pushed = None
 
     def _wait_for_view(self, seconds: float) -> None:
-        """Waits at most `seconds` for a view and keeps the newest. If the front is away or shows the past, the next one is tried."""
+        """Waits for a view, at most this many seconds, and keeps the newest. If the front is away or shows the past, the next
+        front is tried."""
         try:
             if self._pushed is None:
                 self._connect(seconds)
@@ -255,11 +254,11 @@ class Watched:
             is_untold, new, seen = self._is_untold, self._new, self._seen
             self.close()
             self._put_off()
-            if view is not None:  # it came before the end
+            if view is not None:  # it arrived before the end
                 self._is_untold, self._new, self._seen = is_untold, new, seen
 
     def _connect(self, seconds: float) -> None:
-        """Connects with the next front, once its pause is over; waits at most this many seconds."""
+        """Connects to the next front, once its pause is over. Waits at most this many seconds."""
         left = self._not_before - time.monotonic()
         if left > 0:
             time.sleep(max(0.0, min(left, seconds)))
@@ -267,7 +266,7 @@ class Watched:
             self._pushed = Pushed(self._front, self._seconds)
 
     def _put_off(self) -> None:
-        """Notes that the front was away: the next one is tried, after a growing pause, and its first view counts as new."""
+        """Records that the front was away. The next one is tried after a growing pause, and its first view counts as new."""
         self._turn += 1
         self._seen = self._new = None
         self._is_untold = False
@@ -276,7 +275,7 @@ class Watched:
 
 
 def view_of(line: str, where: str) -> View:
-    """Returns the view of a pushed line. Raises NotTaken (Garbled, Faulted, Refused), and NotNow."""
+    """Returns the view in a pushed line. Raises NotTaken (Garbled, Faulted, Refused) and NotNow."""
     answer = members_of(line, where)
     try:
         return View.of(answer)
@@ -285,9 +284,9 @@ def view_of(line: str, where: str) -> View:
 
 
 def views(port: Port, seconds: float = 5.0) -> Iterator[View]:
-    """Yields the views that a front at one of the port's addresses pushes over one connection: the present one, and one at each change.
-    Raises Away when the connection ends, or can't be opened within this many seconds, NotTaken, Untrusted, and BadWords if none
-    of the addresses is a front's."""
+    """Yields the views that a front at one of the port's addresses pushes over one connection: the present view, and one at
+    each change. Raises Away when the connection ends, or can't be opened within this many seconds; NotTaken; Untrusted; and
+    BadWords if none of the addresses is a front's."""
     fronts = [address for address in port.addresses if address.is_front]
     if not fronts:
         raise BadWords("no address of a front (unix:PATH, tls:HOST:PORT) to watch")

@@ -1,5 +1,5 @@
-"""Finds the cause of a fault of `resetd`, such as Device or NoMagic, at a store's file, from outside: it locks and writes
-nothing."""
+"""Finds the cause of a fault of `resetd`, such as Device or NoMagic, by inspecting a store's file from outside. It locks and
+writes nothing."""
 
 from __future__ import annotations
 
@@ -20,7 +20,7 @@ KINDS = {stat.S_IFREG: "file", stat.S_IFDIR: "folder", stat.S_IFIFO: "FIFO", sta
 
 
 def of_file(path: str, account: Account | None = None) -> Iterator[Finding]:
-    """The findings about a store's file, from its folder to its bytes, for a user, by default the owner of the folder."""
+    """Yields the findings about a store's file, from its folder to its bytes, for a user, by default the owner of the folder."""
     folder = os.path.dirname(os.path.abspath(os.path.realpath(path)))
     yield from of_folder(folder)
     try:
@@ -64,7 +64,7 @@ def of_folder(folder: str) -> Iterator[Finding]:
 
 
 def owned(found: os.stat_result) -> str:
-    """Formats the mode and the owners as `ls` does."""
+    """Formats the mode and the owners like `ls`."""
     try:
         group = grp.getgrgid(found.st_gid).gr_name
     except KeyError:
@@ -93,7 +93,7 @@ def of_access(path: str, account: Account) -> Iterator[Finding]:
 
 
 def of_lock(found: os.stat_result) -> Iterator[Finding]:
-    """Reports who has locked the file."""
+    """Reports which process has locked the file."""
     holders = lock_holders(found)
     for process in holders:
         yield Finding("lock", f"held by process {process}{commanded(process)}: a second start is refused", "Device")
@@ -104,14 +104,14 @@ def of_lock(found: os.stat_result) -> Iterator[Finding]:
 
 
 def of_program(process: int) -> Iterator[Finding]:
-    """Reports which program a process runs, which distinguishes one build of the server from another."""
+    """Reports which program a process runs. This distinguishes one build of the server from another."""
     if program := program_of(process):
         yield Finding("program", f"process {process} runs {program.path}, SHA-256 {program.checksum}" + (
             "" if program.is_there else "; the file at that path has changed: the process runs the old one until it is restarted"))
 
 
 def of_output(process: int) -> Iterator[Finding]:
-    """Reports a server's output to a pipe: the server ends only once all its lines have been read."""
+    """Reports that a server's output is a pipe: the server ends only after all its lines have been read."""
     pipe = output_pipe(process)
     if pipe is not None:
         read = ", ".join(f"process {each}{commanded(each)}" for each in pipe.readers) or "no process"
@@ -138,7 +138,7 @@ def of_store(store: Store) -> Iterator[Finding]:
 
 
 def of_space(path: str, found: os.stat_result) -> Iterator[Finding]:
-    """Reports whether the file may grow to its full length."""
+    """Reports whether the file can grow to its full length."""
     space, full = os.statvfs(path), HEADER + 2 * half_size(path)
     free, lacks = space.f_bavail * space.f_frsize, max(full - found.st_blocks * 512, 0)
     yield Finding("space", f"{free:,} bytes are free, and the file may take {lacks:,} more",
@@ -152,7 +152,7 @@ def of_space(path: str, found: os.stat_result) -> Iterator[Finding]:
 
 
 def half_size(path: str) -> int:
-    """Returns the size of a half, or the least possible one if the file does not have it."""
+    """Returns the size of a half, or the least possible size if the file does not have it."""
     try:
         with open(path, "rb") as file:
             size = int.from_bytes(file.read(HEADER)[9:], "big")

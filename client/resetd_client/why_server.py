@@ -1,4 +1,5 @@
-"""The cause of a fault of a server at an address: who listens there, who has its one connection, and its present state."""
+"""Finds the cause of a fault of a server at an address: which process listens there, which client has its one connection, and
+the server's present state."""
 
 from __future__ import annotations
 
@@ -16,7 +17,7 @@ from .same_store import NotCompared, Reading, difference, reading
 from .view import View
 from .waiting import AUDIT, of_groups
 
-KEPT_SECONDS = "11 minutes"  # the longest that one client keeps all others out
+KEPT_SECONDS = "11 minutes"  # the longest time for which one client keeps all others waiting
 CONDITIONS = {
     Condition.STOPPED: ("is stopped by a signal (SIGSTOP or a debugger): kill -CONT {} continues it", "a stop"),
     Condition.IN_A_CALL: ("has a thread in a system call that does not return, such as a sync of a slow or hanging disk: "
@@ -26,8 +27,8 @@ CONDITIONS = {
 
 
 def of_address(text: str, seconds: float, path: str, audit: str = AUDIT) -> Iterator[Finding]:
-    """Reports what listens at an address, whether a server could, whether a coordinator there has the store in this file, and
-    which members its groups wait for, with the times of a front's audit."""
+    """Reports what listens at an address, whether a server could listen there, whether a coordinator there has the store in
+    this file, and which members its groups wait for, with the times from a front's audit file."""
     yield from of_network(path)
     try:
         host, port = host_and_port(text)
@@ -49,7 +50,7 @@ def of_address(text: str, seconds: float, path: str, audit: str = AUDIT) -> Iter
 
 
 def of_network(path: str) -> Iterator[Finding]:
-    """Reports a private network: a server whose unit has PrivateNetwork= is in one, and the following checks then run inside
+    """Reports a private network. A server whose unit has PrivateNetwork= is in one, and then the following checks run inside
     it."""
     for process in filter(has_other_network, holders_of(path)):
         try:
@@ -109,7 +110,7 @@ def holders_of(path: str) -> list[int]:
 
 
 def of_silence(address: str, servers: list[int]) -> Iterator[Finding]:
-    """Reports why a listening server does not answer: its own state, and who has its one connection."""
+    """Reports why a listening server does not answer: its own state, and which client has its one connection."""
     for process in servers:
         if condition := condition_of(process):
             text, later = CONDITIONS[condition]
@@ -124,7 +125,7 @@ def of_silence(address: str, servers: list[int]) -> Iterator[Finding]:
 
 
 def told_peer(peer: Peer) -> str:
-    """Describes a client: its processes, or its user if they can't be seen."""
+    """Describes a client by its processes, or by its user if the processes can't be seen."""
     if peer.processes:
         return " and ".join(f"process {each}{commanded(each)}" for each in peer.processes) + (
             f" of {user_name(peer.user)}" if peer.user is not None else "")

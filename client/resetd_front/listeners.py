@@ -218,7 +218,7 @@ def name_of(address: object) -> str:
 
 
 def remove_stale(path: str) -> None:
-    """Removes a stale socket. Raises OSError if somebody listens there, or if it is no socket."""
+    """Removes a stale socket. Raises OSError if a process listens on it, or if it is not a socket."""
     with socket.socket(socket.AF_UNIX) as trial:
         try:
             if not stat.S_ISSOCK(os.lstat(path).st_mode):

@@ -4,19 +4,15 @@ from __future__ import annotations
 
 import asyncio
 import json
-import os
 from collections.abc import Sequence
 from typing import Any
+
+from resetd_page import CONTENT_POLICY, EACH_SECONDS, LOOK_SECONDS, PAGE
 
 from .audit import moment
 from .front import Front, complain
 from .listeners import check_loopback, listening, place_of, unix_listening
 from .metrics import Metrics
-
-PAGE = os.path.join(os.path.dirname(os.path.abspath(__file__)), "page.html")
-POLICY = "default-src 'none'; script-src 'unsafe-inline'; style-src 'unsafe-inline'; connect-src 'self'"
-EACH_SECONDS = 0.05  # the shortest time between two updates of a page
-LOOK_SECONDS = 2.0  # for which a page waits before the server is looked at again
 
 
 class Page:
@@ -55,7 +51,7 @@ class Page:
 
     async def _page(self, request: Any) -> Any:
         return self._web.Response(body=self._text, content_type="text/html", charset="utf-8",
-                                  headers={"Content-Security-Policy": POLICY, "Cache-Control": "no-store"})
+                                  headers={"Content-Security-Policy": CONTENT_POLICY, "Cache-Control": "no-store"})
 
     async def _numbers(self, request: Any) -> Any:
         if self._metrics is None:

@@ -12,7 +12,7 @@ WORD = "fd:"  # the prefix of a name in place of an address
 
 @cache
 def passed() -> dict[str, socket.socket]:
-    """Returns all passed sockets. Raises OSError if one is no socket."""
+    """Returns the sockets that the service manager passed, by their names. Raises OSError if one is not a socket."""
     if os.environ.get("LISTEN_PID") != str(os.getpid()):
         return {}
     names = os.environ.get("LISTEN_FDNAMES", "").split(":")

@@ -21,16 +21,16 @@ from resetd_client.store_grammar import orders_of
 
 NODES, CLIENTS = 8, 4
 Answered = tuple[dict[str, Any], dict[str, Any]]  # an order and its reply
-ONE_IN_SERVED = 20  # copies of which one is served too
-WRITTEN_SECONDS = 60  # within which a store under load is written to
+ONE_IN_SERVED = 20  # copies after which one is also served
+WRITTEN_SECONDS = 60  # seconds within which a store under load is written to
 
 
 class Lost(Exception):
-    """A copy is not a store, or lacks an answered order."""
+    """A copy is not a legal store, or lacks an answered order."""
 
 
 class Load(threading.Thread):
-    """One client, who has resets made, several lines at once. `answered` is the last order with a reply."""
+    """One client that asks for resets, several lines at once. `answered` is the number of the last order with a reply."""
 
     def __init__(self, address: str, client: int) -> None:
         super().__init__(daemon=True)
@@ -50,7 +50,7 @@ class Load(threading.Thread):
                 self.failed = f"client {self.client}: {fault}"
 
     def some(self, number: int) -> int:
-        """Some resets, and the number of the last that was answered."""
+        """Asks for some resets. Returns the number of the last one that was answered."""
         lines = [{"op": "reset", "client": self.client, "number": number + 1 + each, "node": self.choice.randint(1, NODES)}
                  for each in range(self.choice.randint(1, 8))]
         for line, answer in zip(lines, self.port.ask_many(lines)):
@@ -79,7 +79,7 @@ class Trial:
         self.server.close()
 
     def copies(self, count: int) -> str:
-        """Makes this many copies and checks each. Returns the counts. Raises Lost."""
+        """Makes this many copies, and checks each. Returns the counts. Raises Lost."""
         began = time.monotonic()
         while any(each.answered is None and not each.failed for each in self.load):
             time.sleep(0.01)
@@ -110,7 +110,7 @@ class Trial:
                 raise Lost(each.failed)
 
     def judge(self, path: str) -> Store:
-        """What the program and the library say of a copy."""
+        """Returns what the program and the library report about a copy."""
         done = subprocess.run([PROGRAM, "check", path], capture_output=True, encoding="utf-8", check=False)
         if done.returncode != 0:
             raise Lost(f"resetd check: {done.stdout}{done.stderr}")
@@ -120,7 +120,7 @@ class Trial:
         return store
 
     def serve(self, path: str, answered: list[Answered]) -> None:
-        """Earlier answers are the same over the copy, or a later order of the client is there."""
+        """Serves a copy. Its earlier answers must be the same, or it must have a later order of the client."""
         with subprocess.Popen([PROGRAM, "serve", path, "127.0.0.1:0"], stdout=subprocess.PIPE, encoding="utf-8") as server:
             assert server.stdout
             port = Port(server.stdout.readline().split()[1], 300)
@@ -132,7 +132,7 @@ class Trial:
 
 
 def read_gates_last(store: str, path: str) -> None:
-    """A wrong copy: the bytes after the last gate are of an earlier moment than the gate."""
+    """Makes a wrong copy: the bytes after the last gate are of an earlier moment than the gate."""
     with open(store, "rb") as file:
         earlier = file.read()
         half = read_half(lambda place, length: earlier[place:place + length])

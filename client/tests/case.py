@@ -1,4 +1,4 @@
-"""What the tests share: a coordinator, which is the one in memory and, where RESETD names it, also the program."""
+"""The common parts of the tests: a coordinator, which is the one in memory and, if RESETD names the program, also the program."""
 
 from __future__ import annotations
 
@@ -36,7 +36,7 @@ class Case(unittest.TestCase):
         self.told: list[str] = []
 
     def started(self) -> Any:
-        """A coordinator; of type Fake or Real, which have the same face."""
+        """Starts a coordinator: a Fake or a Real, which have the same interface."""
         server = Real(PROGRAM) if self.is_real else Fake()
         self.addCleanup(server.close)
         return server
@@ -47,7 +47,7 @@ class Case(unittest.TestCase):
         return orders
 
     def run_words(self, *words: str, address: str = "") -> tuple[int, str, str]:
-        """`resetctl` with these arguments: its status, its output, and its complaints."""
+        """Runs `resetctl` with these arguments. Returns its status, its output, and its messages."""
         out, err = io.StringIO(), io.StringIO()
         with redirect_stdout(out), redirect_stderr(err), mock.patch("resetd_client.control.base.SILENCE_SECONDS", 60.0):
             status = main(["--address", address or self.server.address, "--state", self.folder, "--patience", "0", *words])
@@ -55,7 +55,7 @@ class Case(unittest.TestCase):
 
 
 def over_both(loader: unittest.TestLoader, tests: unittest.TestSuite, _: str | None) -> unittest.TestSuite:
-    """For a module's `load_tests`: each Case again over the program, where RESETD names it."""
+    """For a module's `load_tests`: repeats each Case over the program, if RESETD names it."""
     if not PROGRAM:
         return tests
     both = unittest.TestSuite([tests])
@@ -67,7 +67,7 @@ def over_both(loader: unittest.TestLoader, tests: unittest.TestSuite, _: str | N
 
 
 def in_memory(test: Any) -> Any:
-    """A test that writes into the coordinator's memory."""
+    """Marks a test that writes into the coordinator's memory, so it can't run over the program."""
     def call(self: Case) -> None:
         if self.is_real:
             self.skipTest("writes into the coordinator's memory")

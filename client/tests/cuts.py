@@ -46,16 +46,16 @@ PARTS = {
 START, HISTORY = "/disk/start-1.json", "/disk/start-1.history"
 MOST_LIVES = 5  # of a member's process
 
-Start = tuple[int, int] | None  # the epoch that stands with the work, and the number of the begin that made it
+Start = tuple[int, int] | None  # the epoch stored with the work, and the number of the begin that made it
 
 
 class End(BaseException):
-    """The process ends here."""
+    """Raised where the process ends."""
 
 
 class Disk:
-    """The current bytes of each file, and those that a power cut may leave. `left` is the number of steps that the process makes
-    before it is killed."""
+    """The present bytes of each file, and the bytes that a power cut may leave. `left` is the number of steps that the process
+    makes before it is killed."""
 
     def __init__(self, rng: random.Random, without: str) -> None:
         self.rng, self.without = rng, without
@@ -79,13 +79,13 @@ class Disk:
         self.maybe[path] = [self.cache.get(path)]
 
     def cut(self) -> None:
-        """The power is cut, and comes again."""
+        """Cuts the power, and restores it."""
         self.boot += 1
         for path, texts in self.maybe.items():
             self.cache[path] = self.rng.choice(texts)
             self.maybe[path] = [self.cache[path]]
 
-    # what resetd_client/files.py does
+    # the counterparts of resetd_client/files.py
 
     def keep(self, path: str, text: str) -> None:
         self.write(path, text)
@@ -117,7 +117,7 @@ class Disk:
 
 
 def read_torn(path: str, text: str | None, boot: str) -> dict[int, Row]:
-    """Reads a torn text as far as it goes."""
+    """Reads a torn text as far as it can be read."""
     try:
         json.loads(text or "{}")
         return read_rows(path, f"{text}\n" if text else text, boot)
@@ -128,7 +128,7 @@ def read_torn(path: str, text: str | None, boot: str) -> dict[int, Row]:
 
 
 class Now:
-    """The disk that the library's files are on."""
+    """The disk that has the library's files at present."""
 
     disk: Disk
 
@@ -139,7 +139,7 @@ CALLS = {"keep": Disk.keep, "put": Disk.put, "overwrite": Disk.put, "empty": Dis
 
 @contextmanager
 def in_memory(without: str) -> Iterator[None]:
-    """The library's files are on the disk of the present life."""
+    """Redirects the library's files to the disk of the present life."""
     def of_now(call: Any) -> Any:
         return lambda *words: call(Now.disk, *words)
     with ExitStack() as stack:
@@ -176,7 +176,8 @@ class Front(AtFront):
 
 
 class Looks:
-    """A port that shows anything of nodes 1 and 2, and perhaps 3; or, if it is calm, only that they confirm one epoch."""
+    """A port that shows random views of nodes 1 and 2, and possibly 3. If it is calm, it only shows that they confirm one
+    epoch."""
 
     def __init__(self, disk: Disk, is_calm: bool) -> None:
         self._disk, self._rng, self._shown = disk, disk.rng, list[View]()
@@ -223,8 +224,8 @@ class Life:
             self.begin_before()
 
     def begin_before(self) -> None:
-        """A start of an earlier version, which has synced that it is begun and has talked with nobody; or it was killed in front
-        of that sync, and then nothing begun is on the disk."""
+        """Writes the file of a start of an earlier version, which has synced that it is begun and has talked with nobody; or
+        the one that it leaves if it is killed before that sync: then the disk says that nothing is begun."""
         epoch = self.rng.randint(1, 2)
         self.start = (epoch, next(self.numbers))
         self.maybe = [self.start]
@@ -238,7 +239,7 @@ class Life:
 
     def begin(self, epoch: int) -> None:
         if self.work is Work.PARTS and self.start:
-            self.put_work((self.start[0], next(self.numbers)))  # some parts are new, and the epoch is the old one
+            self.put_work((self.start[0], next(self.numbers)))  # some parts are new, and the epoch is still the old one
             self.put_work(None)
         self.put_work((epoch, next(self.numbers)))
         if self.work is not Work.MEMORY:
@@ -250,7 +251,7 @@ class Life:
             self.talked.append((self.start, run.tag.split("-")[0]))
 
     def live(self, place: int) -> None:
-        """A process, until it ends: the first one, the second and so on."""
+        """Runs a process until it ends: the first, the second and so on."""
         if self.work is Work.MEMORY:
             self.start, self.maybe = None, [None]
         steps = self.rng.randint(0, 14) if self.is_calm and place == 0 else self.rng.randint(0, 40)
@@ -271,7 +272,7 @@ class Life:
             self.maybe = [self.start]
 
     def fault(self) -> str | None:
-        """What breaks the theorem, if something does."""
+        """Describes the violation of the theorem, if there is one."""
         by_start, by_run = dict[Start, str](), dict[str, Start]()
         for start, run in self.talked:
             if by_start.setdefault(start, run) != run:
@@ -294,7 +295,7 @@ def leave_out(without: str, shelf: Shelf) -> None:
 
 
 def search(seeds: Iterator[int] | range, work: Work, without: str = "") -> tuple[int, str] | None:
-    """The first life that breaks the theorem, and how."""
+    """Returns the first life that violates the theorem, and how."""
     with in_memory(without):
         for seed in seeds:
             life = Life(seed, work, without)

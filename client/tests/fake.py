@@ -23,11 +23,11 @@ class Refuse(Exception):
 
 
 class Wrong(Exception):
-    """A line is no request."""
+    """A line is not a request."""
 
 
 class Fake(Wire):
-    """The world is in plain attributes, which a test may write."""
+    """The coordinator. Its world is in plain attributes, which a test may change."""
 
     is_real = False
 
@@ -39,7 +39,7 @@ class Fake(Wire):
         super().__init__()
 
     def ring(self, nodes: int) -> None:
-        """A row of linked nodes, made without orders."""
+        """Makes a row of linked nodes, without orders."""
         for node in range(1, nodes + 1):
             self.nodes[node] = [1, 0, 0]
         for node in range(1, nodes):
@@ -48,21 +48,21 @@ class Fake(Wire):
         self.steps += nodes
 
     def row(self, node: int) -> list[int]:
-        """A node's group, epoch and confirmed epoch."""
+        """Returns a node's group, epoch and confirmed epoch."""
         return self.nodes[node]
 
     def last(self, client: int) -> int:
-        """The number of a client's last order."""
+        """Returns the number of a client's last order."""
         return self.sessions[client][0] if client in self.sessions else 0
 
     def pairs(self) -> list[tuple[int, int]]:
         return sorted(self.links)
 
     def await_settled(self) -> None:
-        """Waits until no reset is at any node: here they are over at once."""
+        """Waits until no node is in a reset; here resets end immediately."""
 
     def copy(self) -> Any:
-        """What a copy of the store would have."""
+        """Returns what a copy of the store would contain."""
         return json.loads(json.dumps({
             "nodes": list(self.nodes.items()), "links": [[*k, v] for k, v in self.links.items()],
             "sessions": list(self.sessions.items()), "steps": self.steps}))
@@ -74,7 +74,7 @@ class Fake(Wire):
         self.steps = copy["steps"]
 
     def reset(self, node: int) -> None:
-        """A reset that somebody else asked for."""
+        """Makes a reset that another client asked for."""
         reached, rest = {node}, [node]
         while rest:
             at = rest.pop()
@@ -174,7 +174,7 @@ class Fake(Wire):
 
 
 def request_of(line: bytes) -> dict[str, Any]:
-    """The request of a line. Raises Wrong."""
+    """Returns the request of a line. Raises Wrong."""
     if not line.endswith(b"\n"):
         raise Wrong("Unfinished")
     if len(line) > MOST_BYTES + 1:

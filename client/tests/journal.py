@@ -1,5 +1,5 @@
-"""A file that is written as docs/FORMATS.md says, and read meanwhile in every way that a kernel may: only writes and reads of one
-byte are atomic."""
+"""A file that is written as docs/FORMATS.md says, and read meanwhile in every way that a kernel permits: only reads and writes
+of one byte are atomic."""
 
 from __future__ import annotations
 
@@ -10,14 +10,14 @@ SELECTOR = 0
 
 
 class Journal:
-    """A store's life: `states` are the bytes of the file, one after the other, and `contents` what the selected half
-    holds in each: its index, its snapshot, and its bodies."""
+    """The life of a store. `states` are the bytes of the file at each moment, and `contents` what the selected half holds then:
+    its index, its snapshot, and its bodies."""
 
     def __init__(self, choice: random.Random, size: int, appends: int) -> None:
         self.choice, self.size = choice, size
         self.index, self.count = 0, choice.choice([1, 250, 65_530])
         self.snapshot, self.bodies = self._snapshot(), list[bytes]()
-        self.checkpoints = list[int]()  # the states during one and around it
+        self.checkpoints = list[int]()  # the states during a checkpoint and around it
         self.states = [b"\0" + b"ACRRESET" + size.to_bytes(8, "big") + self._top() + b"\0"]
         self.contents = [self._content()]
         self.gate = len(self.states[0]) - 1
@@ -54,8 +54,8 @@ class Journal:
         self.checkpoints += range(begun - 1, len(self.states) + 2)
 
     def _write(self, place: int, data: bytes, with_snapshot: bytes | None = None) -> None:
-        """A write, whose bytes come to be seen in up to three parts: from its start on, from its end on, in any order, or
-        the last one after all others."""
+        """Writes data whose bytes become visible in up to three parts: from its start, from its end, in any order, or with the
+        last byte after all others."""
         now = self._content() if with_snapshot is None else (self.index, with_snapshot, tuple(self.bodies))
         file = bytearray(self.states[-1].ljust(place, b"\0"))
         parts = [self.choice.randrange(3) for _ in data]
@@ -73,9 +73,9 @@ class Journal:
 
 
 class Reading:
-    """Reads a journal while it is written: `now` is its state. The writing continues between two calls, and during a call too:
-    then each byte that the call returns is of any state in between. It continues steadily, or at a few calls only, and then
-    prefers states during a checkpoint; over at most the given number of selectors."""
+    """Reads a journal while it is written: `now` is its state. The writing continues between two calls, and also during a call:
+    then each byte that the call returns is from any state in between. It continues steadily, or only at a few calls, and
+    then prefers states during a checkpoint; with at most the given number of changes of the selector."""
 
     def __init__(self, journal: Journal, choice: random.Random, start: int, most_selectors: int) -> None:
         self.journal, self.choice, self.now, self.left = journal, choice, start, most_selectors

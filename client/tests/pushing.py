@@ -1,4 +1,5 @@
-"""What a front does for its clients, before a coordinator in memory: a socket of this host or TLS, and views that it pushes."""
+"""Does what a front does for its clients, before a coordinator in memory: over a socket of this host or TLS, and with pushed
+views."""
 
 from __future__ import annotations
 
@@ -18,23 +19,23 @@ SUBJECTS = {"authority": "CA:TRUE", "front": "", "client": "", "foreign": "CA:TR
 
 
 class Pushing:
-    """Serves each connection in a thread. `names` are of the certificates that clients have shown."""
+    """Serves each connection in a thread. `names` are the names in the certificates that clients have shown."""
 
     def __init__(self, fake: Fake, listener: socket.socket, context: ssl.SSLContext | None = None) -> None:
         self.fake, self._listener, self._context = fake, listener, context
         self.names: list[str] = []
         self.connections = 0
-        self.answer = ""  # to a watch, in place of views
-        self.to_order = ""  # the same to the next order without a number: "lose" ends the connection after it is carried out
-        self.ordered: list[dict[str, Any]] = []  # the orders without a number that came
-        self.ends = False  # each connection as soon as it is there
+        self.answer = ""  # lines that answer a watch, in place of views
+        self.to_order = ""  # the same for the next order without a number: "lose" ends the connection after it is carried out
+        self.ordered: list[dict[str, Any]] = []  # the orders without a number that arrived
+        self.ends = False  # each connection, from its beginning
         self._watchers: list[socket.socket] = []
         self._open: list[socket.socket] = []
         self._changes = threading.Condition()
         threading.Thread(target=self._serve, daemon=True).start()
 
     def push(self) -> None:
-        """Pushes the present view to all that watch."""
+        """Pushes the present view to all watching connections."""
         with self._changes:
             for each in self._watchers:
                 with contextlib.suppress(OSError):
@@ -101,7 +102,7 @@ class Pushing:
 
 
     def _order(self, connection: socket.socket, request: dict[str, Any]) -> None:
-        """Numbers an order, carries it out, pushes the view that it leads to, and answers; a reset that names another epoch
+        """Numbers an order, carries it out, pushes the view that it leads to, and answers. A reset that names another epoch
         than its node's is refused."""
         self.ordered.append(request)
         seen = request.get("epoch") if request["op"] == "reset" else None
@@ -122,13 +123,13 @@ class Pushing:
 
 
 def name_in(connection: ssl.SSLSocket) -> str:
-    """The common name of the certificate that a client has shown."""
+    """Returns the common name in the certificate that a client has shown."""
     subject = (connection.getpeercert() or {}).get("subject", ())
     return next((str(value) for row in subject for key, value in row if key == "commonName"), "")  # type: ignore[misc]
 
 
 def make_certificates(folder: str) -> None:
-    """NAME.pem and NAME.key: an authority, a front and a client that it has signed, and a foreign authority with a
+    """Makes NAME.pem and NAME.key for an authority, a front and a client that it has signed, and for a foreign authority with a
     stranger that it has signed."""
     signers = {"front": "authority", "client": "authority", "stranger": "foreign"}
     for name, what in SUBJECTS.items():
@@ -154,7 +155,7 @@ def of_unix(fake: Fake, path: str) -> Pushing:
 
 
 def context_of(folder: str, name: str = "front") -> ssl.SSLContext:
-    """Of a front that shows this certificate, and wants one of the authority's."""
+    """Returns the TLS context of a front that shows this certificate, and requires one signed by the authority."""
     context = ssl.SSLContext(ssl.PROTOCOL_TLS_SERVER)
     context.minimum_version = ssl.TLSVersion.TLSv1_3
     context.load_cert_chain(os.path.join(folder, f"{name}.pem"), os.path.join(folder, f"{name}.key"))
@@ -164,6 +165,6 @@ def context_of(folder: str, name: str = "front") -> ssl.SSLContext:
 
 
 def of_tls(fake: Fake, folder: str, name: str = "front") -> tuple[Pushing, str]:
-    """A front that shows this certificate, and its address."""
+    """Starts a front that shows this certificate. Returns the front and its address."""
     listener = socket.create_server(("127.0.0.1", 0))
     return Pushing(fake, listener, context_of(folder, name)), f"tls:127.0.0.1:{listener.getsockname()[1]}"

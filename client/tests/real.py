@@ -1,5 +1,5 @@
-"""The program in the place of the coordinator in memory: `resetd serve` over a new store, behind a port that fails in the ways
-that a test asks for."""
+"""Replaces the coordinator in memory by the program: `resetd serve` over a new store, after a port that fails in the ways that
+a test asks for."""
 
 from __future__ import annotations
 
@@ -15,11 +15,11 @@ from typing import Any
 from wire import Wire
 
 STOPPED = '{"name":"Stopped","refused":1}'
-SECONDS = 300.0  # within which a server answers or a reset ends, on a busy machine too
+SECONDS = 300.0  # seconds within which a server answers or a reset ends, even on a busy machine
 
 
 class Real(Wire):
-    """One coordinator, which is ended with `close`."""
+    """One coordinator. `close` ends it."""
 
     is_real = True
 
@@ -34,7 +34,7 @@ class Real(Wire):
         super().__init__()
 
     def found(self, topology: str) -> None:
-        """A new store with the nodes and links of a topology."""
+        """Creates a store with the nodes and links of a topology."""
         self.end()
         if os.path.exists(self.store):
             os.remove(self.store)
@@ -44,7 +44,7 @@ class Real(Wire):
         self.start()
 
     def ring(self, nodes: int) -> None:
-        """A row of linked nodes."""
+        """Makes a row of linked nodes."""
         self.found("".join(f"[[node]]\nid = {node}\ngroup = 1\n" for node in range(1, nodes + 1)) +
                    "".join(f"[[link]]\na = {node}\nb = {node + 1}\n" for node in range(1, nodes)))
 
@@ -63,7 +63,7 @@ class Real(Wire):
             raise RuntimeError(f"{self.program} does not listen")
 
     def end(self) -> None:
-        """Ends the program as a crash does."""
+        """Ends the program like a crash."""
         if self.process and self.process.poll() is None:
             self.process.kill()
         if self.process:
@@ -78,7 +78,7 @@ class Real(Wire):
         return self.direct(line) if not self.is_stopped or b'"close"' in line or b'"resend"' in line else STOPPED
 
     def direct(self, text: bytes) -> str:
-        """The line that answers a text, without the faults of a test."""
+        """Returns the line that answers a text, without the faults of a test."""
         host, port = self.behind.split(":")
         with socket.create_connection((host, int(port)), timeout=SECONDS) as connection:
             connection.sendall(text)
@@ -92,7 +92,7 @@ class Real(Wire):
         return answer
 
     def await_settled(self) -> dict[str, Any]:
-        """The view once no reset is at any node, nothing is in transit and everything is on the disk."""
+        """Returns the view once no node is in a reset, nothing is in transit and everything is on the disk."""
         until = time.monotonic() + SECONDS
         while time.monotonic() < until:
             view = self.ask(op="show")
@@ -113,7 +113,7 @@ class Real(Wire):
         return [(row[0], row[1]) for row in self.await_settled()["links"]]
 
     def last(self, client: int) -> int:
-        """The number of a client's last order, by refusals."""
+        """Finds the number of a client's last order from refusals."""
         for number in range(1, 1_000):
             name = self.ask(op="confirm", client=client, number=number, node=64, epoch=0)["name"]
             if name == "NumberReused":
@@ -126,7 +126,7 @@ class Real(Wire):
         self.by_somebody("reset", node=node)
 
     def copy(self) -> Any:
-        """A copy of the store, which is not served meanwhile."""
+        """Returns a copy of the store, which is not served meanwhile."""
         self.await_settled()
         self.ask(op="close")
         if self.process:

@@ -27,7 +27,7 @@ class Words(unittest.TestCase):
         found = addresses_of(text, Credentials())
         self.assertEqual(",".join(map(str, found)), text.replace(" ", ""))
         self.assertEqual([each.is_front for each in found], [False, True, True, False])
-        self.assertEqual([each.is_front for each in addresses_of("unix:4170,tls:4170")], [False, False])  # hosts of these names
+        self.assertEqual([each.is_front for each in addresses_of("unix:4170,tls:4170")], [False, False])  # hosts with these names
 
     def test_what_is_none(self) -> None:
         for text in ("", "here", "127.0.0.1:", ":4170", "127.0.0.1:0", "127.0.0.1:65536", "127.0.0.1:x", "unix:", "unix:relative",
@@ -58,7 +58,7 @@ class Sockets(Case):
             Port(f"unix:{self.folder}/none").show()
 
     def test_what_is_not_allowed(self) -> None:
-        """A fault that this library knows: nothing was carried out, and the order's number is free."""
+        """This library knows the fault: nothing was carried out, and the order's number can be used again."""
         with Orders(Port(f"unix:{self.path}", 30), 3, f"{self.folder}/orders") as orders:
             orders.order("reset", node=1)
             with mock.patch.object(self.server, "respond", return_value='{"fault":"NotAllowed"}'), self.assertRaises(Faulted) as caught:
@@ -165,7 +165,7 @@ class Certificates(Case):
                 Port(self.address, 30, self.credentials("stranger")).show()
 
     def test_a_client_that_is_not_taken_without_a_word(self) -> None:
-        """As by a server on asyncio, which ends the connection and sends no alert."""
+        """A server may end the connection without an alert, like one on asyncio."""
         listener, stop = socket.create_server(("127.0.0.1", 0)), threading.Event()
         self.addCleanup(stop.set)
 
@@ -173,7 +173,7 @@ class Certificates(Case):
             asyncio.get_running_loop().set_exception_handler(lambda *_: None)
             async with await asyncio.start_server(lambda _, writer: writer.close(), sock=listener, ssl=context_of(self.pem)):
                 await asyncio.to_thread(stop.wait)
-            await asyncio.sleep(0.1)  # the connection that it has ended is closed
+            await asyncio.sleep(0.1)  # the connection that the front has ended is closed
 
         thread = threading.Thread(target=lambda: asyncio.run(serve()), daemon=True)
         thread.start()
@@ -203,7 +203,7 @@ class Certificates(Case):
         self.assertRaises(Away, Port("tls:127.0.0.1:1", 30, self.credentials()).show)
 
     def test_where_credentials_are_found(self) -> None:
-        """By options before variables, and by these before a file, whose paths begin at its folder."""
+        """Options precede variables, and variables precede a file, whose paths are relative to its folder."""
         path = f"{self.folder}/tls.toml"
         with open(path, "w", encoding="utf-8") as file:
             file.write(f'certificate = "{self.pem}/client.pem"\nkey = "there.key"\nauthority = "/none"\n')

@@ -1,4 +1,4 @@
-"""A member in a program that runs on asyncio: its coroutines keep each other out, and nothing blocks their loop."""
+"""A member in a program that runs on asyncio: its coroutines exclude each other, and nothing blocks their loop."""
 
 from __future__ import annotations
 
@@ -13,7 +13,7 @@ from case import Case, over_both
 from resetd_client import Clock, Faulted, InLoop, Member, OutOfRun, Stream, aio
 from resetd_client.signals import Wakes
 
-SECONDS = 60.0  # for what happens in milliseconds
+SECONDS = 60.0  # for events that take milliseconds
 
 
 class Coroutines(Case):
@@ -24,7 +24,7 @@ class Coroutines(Case):
         self.ends: list[int] = []
 
     def through(self, work: Callable[[aio.Member], Awaitable[None]], wakes: Wakes | None = None) -> None:
-        """Follows with a new member until its work is done."""
+        """Follows with a new member until the work is done."""
         async def begin(epoch: int) -> None:
             await asyncio.sleep(0)
             self.begun.append(epoch)
@@ -58,7 +58,7 @@ class Coroutines(Case):
                     most = max(most, inside)
                     tags.add(run.tag)
                     for _ in range(20):
-                        await asyncio.sleep(0)  # lets the others try
+                        await asyncio.sleep(0)  # lets the other coroutines run
                     inside -= 1
 
             await asyncio.gather(body(), body(), body())
@@ -68,8 +68,8 @@ class Coroutines(Case):
         self.assertEqual(self.begun, [1])
 
     def test_a_wait_does_not_block_the_loop(self) -> None:
-        """A hundred turns of the loop while a coroutine waits for a run that does not come."""
-        self.server.ring(2)  # the other one confirms nothing
+        """The loop turns a hundred times while a coroutine waits for a run that does not begin."""
+        self.server.ring(2)  # the other member confirms nothing
 
         async def waits(member: aio.Member) -> None:
             waiting = asyncio.create_task(self.waits(member, 3_600))
@@ -119,11 +119,11 @@ class Coroutines(Case):
         self.through(cancel)
 
     def test_a_begin_keeps_them_out(self) -> None:
-        """A reset comes while a coroutine is in: the member begins only after it."""
+        """A reset arrives while a coroutine is inside: the member begins only after it."""
         async def resets(member: aio.Member) -> None:
             async with member.in_run(wait=SECONDS):
                 await asyncio.to_thread(self.server.by_somebody, "reset", node=1)
-                await asyncio.sleep(0.3)  # never long enough for it, since this one stays in
+                await asyncio.sleep(0.3)  # never long enough for the begin, because this coroutine stays inside
                 self.assertEqual(self.begun, [1])
             while self.begun != [1, 2]:
                 await asyncio.sleep(0.01)
@@ -172,7 +172,7 @@ class Coroutines(Case):
 
 class Loops(Case):
     def test_what_would_block_a_loop_is_refused(self) -> None:
-        """In the loop's own thread alone."""
+        """It is refused only in the loop's own thread."""
         self.server.ring(1)
         member = Member(self.port, self.orders(), 1, None, lambda _: None, told=self.told.append)
         member.look()

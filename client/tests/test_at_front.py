@@ -1,4 +1,4 @@
-"""A member's orders and wake-ups at a front, over one connection: over a socket of this host and over TLS."""
+"""A member's orders and wake-ups at a front, over one connection: a socket of this host, and TLS."""
 
 from __future__ import annotations
 
@@ -12,7 +12,7 @@ from collections.abc import Callable
 from contextlib import suppress
 from unittest import mock
 
-from case import Case  # first: it says where the library is
+from case import Case  # first: it adds the library to the path
 from pushing import Pushing, make_certificates, of_tls, of_unix
 from resetd_client import (AtFront, Away, BadWords, Credentials, EarlierFront, Faulted, Garbled, Held, Member, NotTaken, Port, Refusal, Refused, Reply, Run,
                            View, Wake, Work, aio)
@@ -40,7 +40,7 @@ class FrontCase(Case):
 
 class Orders(FrontCase):
     def test_orders_have_no_client_and_no_number(self) -> None:
-        """And nothing is kept of them."""
+        """No record of them is kept."""
         self.assertEqual(self.order(op="reset", node=1, epoch=0), Reply("started", 4))
         self.assertEqual(self.order(op="confirm", node=1, epoch=1), Reply("done", 5))
         self.assertEqual(self.front.ordered, [{"op": "reset", "node": 1, "epoch": 0}, {"op": "confirm", "node": 1, "epoch": 1}])
@@ -59,7 +59,8 @@ class Orders(FrontCase):
         self.assertEqual((refused.refusal, self.server.row(1)[1]), (Refusal.BAD_EPOCH, 1))
 
     def test_what_is_no_answer(self) -> None:
-        """The front's count is lost, the server has no room, the connection ends: all of it is to be sent again."""
+        """The front has lost its count, the server has no room, or the connection ends: in each case the order is to be sent
+        again."""
         for to_order in ('{"name":"OutOfTurn","refused":4}', '{"name":"NumberReused","refused":5}', '{"name":"Stopped","refused":1}',
                          '{"fault":"OutOfMemory"}', "lose"):
             self.front.to_order = to_order
@@ -75,7 +76,7 @@ class Orders(FrontCase):
             self.assertRaises(Garbled, self.order, op="reset", node=1)
 
     def test_a_front_of_an_earlier_version(self) -> None:
-        """It takes these orders for none: that is said in one line, and ends the member."""
+        """An earlier front does not know these orders: that is reported in one line, and ends the member."""
         self.front.to_order = '{"fault":"BadRequest"}'
         member = Member(self.port, self.at_front, 1, None, lambda epoch: None, told=self.told.append)
         with self.assertRaisesRegex(EarlierFront, "the front is of an earlier version than this library"):
@@ -94,7 +95,7 @@ class Orders(FrontCase):
             AtFront(self.port, f"{self.folder}/member")
 
     def test_what_is_called_while_an_order_is_on_its_way(self) -> None:
-        """With the view that led to it, and with each that is pushed before its answer."""
+        """`on_view` is called with the view that led to the order, and with each view that is pushed before its answer."""
         self.assertIs(self.at_front.wait(SECONDS), Wake.CAME)
         view = self.at_front.take()
         assert view
@@ -123,7 +124,7 @@ class Views(FrontCase):
         self.assertEqual((after.settled >= reply.step, after.nodes[0].epoch), (True, 1))
 
     def test_a_view_of_before_the_last_order_is_no_look(self) -> None:
-        """A look at the front is then asked for."""
+        """A view from before the last order does not count: the front is asked for a new one."""
         self.assertIs(self.at_front.wait(SECONDS), Wake.CAME)
         with mock.patch.object(self.front, "_view", return_value=self.front._view()):
             self.order(op="reset", node=1)
@@ -131,7 +132,7 @@ class Views(FrontCase):
             self.assertIsNone(self.at_front.take())
 
     def test_a_store_that_went_back_is_shown_by_the_next_connection(self) -> None:
-        """Though the last order had a greater step."""
+        """This is so although the last order had a greater step."""
         copy = self.server.copy()
         self.order(op="reset", node=1)
         self.at_front.take()
@@ -144,7 +145,7 @@ class Views(FrontCase):
 
 
 class Members(FrontCase):
-    """A member whose orders, looks and wake-ups go over one connection."""
+    """A member with its orders, looks and wake-ups over one connection."""
 
     def member(self, work: Work = Work.PARTS) -> Member:
         self.begun, self.runs = list[int](), list[Run | None]()
@@ -157,7 +158,7 @@ class Members(FrontCase):
             time.sleep(0.005)
 
     def confirmed(self) -> int:
-        """The epoch that the member has confirmed."""
+        """Returns the epoch that the member has confirmed."""
         return int(self.server.row(1)[2])
 
     def confirm_other(self) -> None:
@@ -200,7 +201,7 @@ class Members(FrontCase):
                 self.front.push()
 
     def syncs_of_a_reset(self, work: Work) -> int:
-        """Of one more reset, until the member talks."""
+        """Counts the syncs of one more reset, until the member talks."""
         synced = list[int]()
         with self.member(work) as member:
             self.expect(lambda: self.confirmed() == 1)
@@ -215,7 +216,7 @@ class Members(FrontCase):
         return len(synced)
 
     def test_how_often_a_member_syncs_for_a_reset(self) -> None:
-        """The history, and "nothing begun" before work that is replaced in parts."""
+        """It syncs the history, and also "nothing begun" before work that is replaced part by part."""
         self.assertEqual(self.syncs_of_a_reset(Work.MEMORY), 1)
 
     def test_how_often_one_with_work_that_is_renamed_syncs(self) -> None:
@@ -225,7 +226,7 @@ class Members(FrontCase):
         self.assertEqual(self.syncs_of_a_reset(Work.PARTS), 2)
 
     def test_a_member_on_asyncio(self) -> None:
-        """Whose work is in memory, and which a front wakes: no file of starts is there."""
+        """Its work is in memory, and a front wakes it: it writes no start file."""
         begun: list[int] = []
 
         async def begin(epoch: int) -> None:
@@ -252,7 +253,7 @@ class Members(FrontCase):
 
 
 class OverTls(FrontCase):
-    """The same with a certificate at each end."""
+    """The same tests over TLS, with a certificate at each end."""
 
     def started_front(self) -> tuple[Pushing, Port]:
         if not shutil.which("openssl"):

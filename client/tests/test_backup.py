@@ -56,7 +56,7 @@ class Words(Case):
         self.assertEqual(os.listdir(self.folder), ["copy"])
 
     def test_a_file_beside_the_copy_stays(self) -> None:
-        """Whatever its name is."""
+        """It stays whatever its name is."""
         with open(f"{self.out}.new", "w", encoding="utf-8") as file:
             file.write("another file")
         self.assertEqual(self.run_words("backup", self.store, self.out)[0], 0)

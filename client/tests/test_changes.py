@@ -1,4 +1,4 @@
-"""Waits for files that others change, and waits that another thread ends: what wakes them, and that nothing polls."""
+"""Waiting for files that other programs change, and for another thread: what ends a wait, and that nothing polls."""
 
 from __future__ import annotations
 
@@ -17,12 +17,12 @@ from resetd_client import changes
 from resetd_client.bell import Bell
 from resetd_client.changes import Changes, wait_for
 
-LONG = 120.0  # seconds that no wait of these tests lasts
+LONG = 120.0  # seconds; no wait of these tests lasts that long
 QUIET = 0.5
 
 
 class Files(unittest.TestCase):
-    """By the system's word."""
+    """The system reports the changes."""
 
     is_polled = False
 
@@ -49,7 +49,7 @@ class Files(unittest.TestCase):
         timer.start()
         self.assertEqual(files.wait(LONG), [path or self.path])
         timer.join()
-        files.take()  # the changes meanwhile
+        files.take()  # the changes in between
 
     def test_each_change(self) -> None:
         files = Changes([self.path, f"{self.folder}/another"])
@@ -105,8 +105,8 @@ class Files(unittest.TestCase):
         self.expect_woken(files, lambda: self.write(f"{self.folder}/inner/file"))
 
     def test_a_wait_that_nothing_ends(self) -> None:
-        """The wait lasts as long as given. If the system reports changes, the files are checked twice, at its beginning and at
-        its end."""
+        """The wait lasts as long as requested. If the system reports changes, the files are checked twice: at the beginning and
+        at the end."""
         files = Changes([self.path])
         files.take()
         with mock.patch.object(changes, "state_of", side_effect=changes.state_of) as looked:
@@ -127,7 +127,7 @@ class Files(unittest.TestCase):
 
 
 class PolledFiles(Files):
-    """If the system can't report changes."""
+    """The system can't report changes."""
 
     is_polled = True
 
@@ -143,7 +143,7 @@ class Bells(unittest.TestCase):
         self.assertFalse(wait_for([[bell.fileno()]], 0.0))
 
     def test_it_rings_as_often_as_it_is_rung(self) -> None:
-        """More often than a pipe holds bytes."""
+        """It rings more often than a pipe has room for bytes."""
         bell = Bell()
         for _ in range(70_000):
             bell.ring()

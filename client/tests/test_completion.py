@@ -1,4 +1,4 @@
-"""Completion for shells: what a shell offers, tried in bash itself."""
+"""Completion for shells: what bash offers, tried in bash itself."""
 
 from __future__ import annotations
 
@@ -29,7 +29,7 @@ class Bash(unittest.TestCase):
             file.write(bash(parser()))
 
     def offered(self, *words: str) -> set[str]:
-        """What bash offers after these words, of which the last one is begun."""
+        """Returns what bash offers after these words, the last of which is incomplete."""
         done = subprocess.run(["bash", "--norc", "-c", ASK, "bash", self.script, "resetctl", *words], capture_output=True,
                               encoding="utf-8", check=False, cwd="/")
         self.assertEqual((done.returncode, done.stderr), (0, ""))
@@ -47,7 +47,7 @@ class Bash(unittest.TestCase):
         self.assertEqual(self.offered("completion", "z"), {"zsh"})
 
     def test_values_are_not_commands(self) -> None:
-        """An address is several words there, since bash splits at a colon and at an equals sign."""
+        """In bash an address consists of several words, because bash splits at a colon and at an equals sign."""
         for before in (("--client", "3"), ("--address", "127.0.0.1", ":", "4170"), ("--address", "=", "unix", ":", "/run/front"),
                        ("--address", "a", ":", "1,b", ":", "2"), ("--quiet",), ("--state", "show")):
             with self.subTest(before=before):

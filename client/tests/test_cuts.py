@@ -1,5 +1,5 @@
-"""Power cuts and kills at each write of a member (cuts.py): some lives of each kind, and each part that is left out is seen to be
-needed. CUTS is how many lives of each kind of work there are (400); the nightly run has more."""
+"""Power cuts and kills at each write of a member (cuts.py): some lives of each kind, and a proof that each part of the member
+is needed, by leaving it out. CUTS is the number of lives of each kind of work (400); the nightly run uses more."""
 
 from __future__ import annotations
 
@@ -11,8 +11,8 @@ from cuts import PARTS, search
 from resetd_client import Work
 
 LIVES = int(os.environ.get("CUTS", "400"))
-MOST = 20_000  # lives in which a part that is left out has to be seen
-OF_WHOLE = ("again",)  # parts that only work which is replaced at once needs
+MOST = 20_000  # lives within which the violation must be found if a part is left out
+OF_WHOLE = ("again",)  # parts that only work which is replaced as a whole needs
 
 
 class Cuts(unittest.TestCase):

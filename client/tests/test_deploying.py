@@ -1,5 +1,5 @@
-"""The files of docs/DEPLOYING.md: the dashboard names only metrics that are written, and Kubernetes and the container understand
-the manifest."""
+"""The files of docs/DEPLOYING.md: the dashboard names only metrics that exist, and Kubernetes and the container accept the
+manifest."""
 
 from __future__ import annotations
 
@@ -32,7 +32,8 @@ def text_of(name: str) -> str:
 
 
 def metrics_of_the_front() -> set[str]:
-    """The series that the front writes, as prometheus_client names them; a stand-in of that library notes the families."""
+    """Returns the series that the front writes, as prometheus_client names them. A stand-in for that library records the
+    families."""
     series = set[str]()
 
     def family(*endings: str) -> Any:
@@ -114,7 +115,7 @@ class Manifest(unittest.TestCase):
 
     @unittest.skipUnless(shutil.which("kubectl"), "kubectl is not installed: the manifest is not decoded")
     def test_kubernetes_knows_each_field(self) -> None:
-        """kubectl decodes the StatefulSet into its type, and drops a field that is not one of it."""
+        """kubectl decodes the StatefulSet into its type, and drops fields that the type does not have."""
         given = self.kinds["StatefulSet"]
         done = subprocess.run(["kubectl", "set", "image", "--local", "-f", "-", "server=changed", "-o", "json"], input=json.dumps(given),
                               capture_output=True, encoding="utf-8", check=False)
@@ -128,7 +129,7 @@ def front_port(container: dict[str, Any]) -> int:
 
 
 def missing(given: Any, kept: Any, path: str = "") -> Any:
-    """The fields of one value that another one lacks."""
+    """Returns the fields of one value that are missing in another one."""
     if isinstance(given, dict):
         for name, value in given.items():
             if name not in kept:

@@ -1,4 +1,5 @@
-"""The exceptions of the library: of one base, exported, documented where they are raised, and distinguished by `resetctl`."""
+"""The exceptions of the library: they have one base, are exported, are documented where they are raised, and are distinguished
+by `resetctl`."""
 
 from __future__ import annotations
 
@@ -10,18 +11,18 @@ import pkgutil
 import unittest
 from collections.abc import Iterator
 
-from case import ROOT, Case  # first: it says where the library is
+from case import ROOT, Case  # first: it adds the library to the path
 
 import resetd_client
 from resetd_client import BadWords, Member, Orders, Port, ResetdError, Unreadable
 
 PACKAGE = os.path.join(ROOT, "client", "resetd_client")
-INNER = {"Stopped", "NotSpelled", "NotCompared"}  # which the library catches itself
-SAYING = ("address", "answers", "errors", "limits", "orders", "port", "topology", "watching")  # each documents its exceptions
+INNER = {"Stopped", "NotSpelled", "NotCompared"}  # exceptions that the library catches itself
+SAYING = ("address", "answers", "errors", "limits", "orders", "port", "topology", "watching")  # modules in which each function documents its exceptions
 
 
 def exceptions() -> Iterator[type[BaseException]]:
-    """Those that the package's own modules define."""
+    """Yields the exceptions that the package's modules define."""
     for found in pkgutil.iter_modules(resetd_client.__path__, "resetd_client."):
         for _, each in inspect.getmembers(importlib.import_module(found.name), inspect.isclass):
             if issubclass(each, BaseException) and each.__module__ == found.name and each.__name__ not in INNER:
@@ -29,7 +30,7 @@ def exceptions() -> Iterator[type[BaseException]]:
 
 
 def raised(function: ast.FunctionDef) -> set[str]:
-    """The names of exceptions that a function's own text raises."""
+    """Returns the names of the exceptions that a function raises directly."""
     names = set[str]()
     for node in ast.walk(function):
         if isinstance(node, ast.Raise) and isinstance(node.exc, ast.Call) and isinstance(node.exc.func, ast.Name) \
@@ -68,7 +69,7 @@ class Raised(unittest.TestCase):
 
 
 class Unread(Case):
-    """Files of the library's own that do not read."""
+    """The library's own files, if they can't be read."""
 
     def write(self, path: str, text: bytes) -> None:
         os.makedirs(os.path.dirname(path), exist_ok=True)
@@ -76,7 +77,7 @@ class Unread(Case):
             file.write(text)
 
     def test_orders_that_do_not_read(self) -> None:
-        """The errors say what to do, and the folder is free again."""
+        """The messages say what to do, and the folder is free again."""
         path = f"{self.folder}/orders/order.json"
         for text in (b"no", b"[]", b"{}", b'"x"', b'{"answered": false, "number": 1, "order": 3}', b"\xff\xfe"):
             self.write(path, text)
@@ -85,7 +86,7 @@ class Unread(Case):
             self.assertEqual(caught.exception.path, path)
         try:
             Orders(self.port, 1, f"{self.folder}/orders")
-        except Unreadable as left:  # with all that it refers to
+        except Unreadable as left:  # with everything that it refers to
             os.remove(path)
             self.orders().close()
             self.assertIsNotNone(left.__traceback__)
@@ -107,4 +108,4 @@ class Unread(Case):
     def test_words(self) -> None:
         for wrong in (lambda: Port("here"), lambda: self.orders(17)):
             self.assertRaises(BadWords, wrong)
-            self.assertRaises(ValueError, wrong)  # what such words raised before they had a name
+            self.assertRaises(ValueError, wrong)  # the message for such arguments before the exception had a name

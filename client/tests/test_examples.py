@@ -1,4 +1,4 @@
-"""The command lines of the examples; tools/test_services tries what they do."""
+"""The command lines of the examples. tools/test_services tries what the examples do."""
 
 from __future__ import annotations
 
@@ -21,7 +21,7 @@ def ran(*words: str) -> tuple[int, str, str]:
 
 class Lines(Case):
     def test_ask(self) -> None:
-        """The statuses of an example, and an address of a front."""
+        """Tries the exit statuses of an example, and the address of a front."""
         front = of_unix(self.server, f"{self.folder}/front")
         self.addCleanup(front.close)
         show, fly = '{"op":"show"}', '{"op":"fly"}'
@@ -54,7 +54,7 @@ class Examples(unittest.TestCase):
                 self.assertIn(f"usage: {name} ", told)
 
     def test_what_can_not_be_is_one_line(self) -> None:
-        """A folder that can't be made, and a time that would not pass."""
+        """A folder can't be created, or a time would never pass."""
         with tempfile.TemporaryDirectory() as folder:
             for words in (("service", "3", "127.0.0.1:1", "/dev/null/folder", "--no-signals"),
                           ("service", "3", "127.0.0.1:1", folder, "--no-signals", "--look", "0"),

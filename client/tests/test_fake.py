@@ -1,4 +1,4 @@
-"""The coordinator in memory answers as the program does: the same lines to both, by words and at random."""
+"""The coordinator in memory answers like the program: both get the same lines, chosen by hand and at random."""
 
 from __future__ import annotations
 
@@ -22,7 +22,7 @@ VALUES: list[Any] = [-1, 0, 1, 2, 16, 17, 64, 65, (1 << 64) - 1, 1 << 64, 1.0, 1
 
 
 def lines() -> list[bytes]:
-    """Lines that are no request, requests with each member out of its range or of another type, and repeats."""
+    """Returns lines that are no requests, requests with each member out of its range or of another type, and repeats."""
     told = list(WRONG_LINES)
     for order in (ORDER, {"op": "add", "client": 1, "number": 1, "node": 1, "group": 1},
                   {"op": "join", "client": 1, "number": 1, "a": 1, "b": 2},
@@ -41,7 +41,7 @@ def line(request: dict[str, Any]) -> bytes:
 
 
 def drawn(choice: random.Random, numbers: dict[int, int]) -> dict[str, Any]:
-    """An order among few nodes, mostly with the next number of its client."""
+    """Returns a random order among few nodes, mostly with the next number of its client."""
     client = choice.choice([1, 2, 3])
     number = numbers.get(client, 0) + choice.choice([0, 1, 1, 1, 1, 1, 2, -1])
     node, other = choice.randint(1, 5), choice.randint(1, 5)
@@ -59,7 +59,7 @@ class Alike(unittest.TestCase):
         self.addCleanup(self.real.close)
 
     def compare(self, text: bytes) -> dict[str, Any]:
-        """Both answers, except the numbers of steps: the program's resets take further steps."""
+        """Compares the two answers, except the numbers of steps, because the program's resets take further steps."""
         told: list[dict[str, Any]] = [json.loads(self.fake.respond(text)), json.loads(self.real.respond(text))]
         for answer in told:
             answer.pop("step", None)

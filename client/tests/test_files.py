@@ -22,7 +22,7 @@ class Kept(unittest.TestCase):
         self.path = f"{temporary.name}/file"
 
     def test_several_that_write_at_once(self) -> None:
-        """None fails, and whoever reads meanwhile has one of their texts."""
+        """None of them fails, and a reader always sees the text of one of them."""
         faults: list[BaseException] = []
 
         def write(text: str) -> None:
@@ -49,7 +49,7 @@ class Kept(unittest.TestCase):
         self.assertEqual((read(self.path), os.listdir(os.path.dirname(self.path))), ("text", ["file"]))
 
     def test_what_is_synced_and_when(self) -> None:
-        """The whole text before it is put in place, and then its entry in the folder."""
+        """The whole text is synced before it is put in place, and after that its entry in the folder."""
         calls: list[tuple[str, str, int]] = []
         fsync, replace = os.fsync, os.replace
 
@@ -67,7 +67,7 @@ class Kept(unittest.TestCase):
         self.assertEqual([call[:2] for call in calls[2:]], [("sync", os.path.dirname(self.path))])
 
     def test_a_link_in_the_place_of_the_new_text(self) -> None:
-        """A link is not followed: its target stays unchanged."""
+        """The link is not followed: its target stays unchanged."""
         with open(f"{self.path}.other", "w", encoding="utf-8") as file:
             file.write("other")
         os.symlink(f"{self.path}.other", f"{self.path}.new")
@@ -75,7 +75,7 @@ class Kept(unittest.TestCase):
         self.assertEqual((read(f"{self.path}.other"), read(self.path)), ("other", None))
 
     def test_a_folder_that_is_held(self) -> None:
-        """The folder is waited for as long as is said, and a wait in vain keeps no descriptor."""
+        """The wait for the folder lasts as long as requested, and an unsuccessful wait leaves no open descriptor."""
         folder = os.path.dirname(self.path)
         lock = hold(folder)
         before = os.listdir("/proc/self/fd")
@@ -88,7 +88,7 @@ class Kept(unittest.TestCase):
         timer.join()
 
     def test_who_may_read_it(self) -> None:
-        """Whom the user lets: a member's files may be another user's to read."""
+        """The user's umask decides: a member's files may have to be readable for another user."""
         before = os.umask(0o027)
         try:
             keep(self.path, "text")

@@ -25,7 +25,7 @@ from resetd_client.since import boot_name
 
 
 class UntilEnded:
-    """No wake-up but the end, so that nothing writes any more when the folder is taken away."""
+    """Wake-ups that only bring the end, so that nothing is written any more when the folder is removed."""
 
     def __init__(self) -> None:
         self.ended = threading.Event()
@@ -35,7 +35,7 @@ class UntilEnded:
 
 
 class Seats(unittest.TestCase):
-    """A member after a gateway, from either side."""
+    """A member behind a gateway, from either side."""
 
     def setUp(self) -> None:
         temporary = tempfile.TemporaryDirectory()
@@ -48,7 +48,7 @@ class Seats(unittest.TestCase):
         keep(f"{self.folder}/{name}", text)
 
     def tell(self, told: str, run: str = "") -> None:
-        """Writes the member's instruction, between two others."""
+        """Writes the member's instruction between those of two others."""
         self.board.tell(f"0 7 7 x-y {boot_name()}\n1 {told}{run}\n11 8 8\n")
 
     def begin(self, told: str) -> None:
@@ -64,7 +64,7 @@ class Seats(unittest.TestCase):
         self.assertEqual(self.served.wanted(), 3)
 
     def test_it_is_told_in_one_write(self) -> None:
-        """And none if nothing is new."""
+        """Nothing is written if nothing is new."""
         with mock.patch("os.replace", side_effect=os.replace) as replaced, mock.patch("os.fsync") as synced:
             for _ in range(3):
                 self.tell("1 1", f" a-b {boot_name()}")
@@ -78,7 +78,7 @@ class Seats(unittest.TestCase):
         self.assertEqual((self.seat.has_begun("2 2\n"), self.served.wanted()), (False, 2))
 
     def test_work_goes_down_with_what_is_begun(self) -> None:
-        """In one file, whole and on the disk: a file and its folder are synced."""
+        """They are in one file, whole and on the disk: the file and its folder are synced."""
         self.assertIsNone(self.served.work())
         self.tell("1 1")
         self.served.wanted()
@@ -92,7 +92,7 @@ class Seats(unittest.TestCase):
         self.assertEqual((self.seat.has_lost("1 1\n"), self.served.work(), self.served.tag()), (True, None, None))
 
     def test_what_is_lost_is_lost_once(self) -> None:
-        """And takes the work with it."""
+        """The loss also removes the work."""
         self.tell("1 1")
         self.served.wanted()
         self.served.has_begun("work\n")
@@ -101,7 +101,7 @@ class Seats(unittest.TestCase):
             self.assertEqual(read(f"{self.folder}/1/begun"), "lost 1 1\n")
 
     def test_what_was_lost_before_it_was_begun(self) -> None:
-        """The member has still to begin."""
+        """The member still has to begin."""
         self.tell("1 1")
         self.served.has_lost()
         self.assertEqual((self.seat.has_lost("1 1\n"), self.served.wanted()), (False, 1))
@@ -117,8 +117,8 @@ class Seats(unittest.TestCase):
             self.assertEqual((self.served.wanted(), self.seat.has_begun(f"1 {number}\n"), self.seat.number), (None, True, number))
 
     def test_a_tag_is_that_of_the_start(self) -> None:
-        """Of the epoch that the member has begun, not of one that it has to begin or has lost; in this boot, and of a whole
-        line."""
+        """The tag belongs to the epoch that the member has begun, not to one that it has to begin or has lost. It is valid only
+        in this boot and in a complete line."""
         self.begin("1 1")
         self.tell("1 1", f" a-b {boot_name()}")
         self.assertEqual(self.served.tag(), "a-b")
@@ -133,8 +133,8 @@ class Seats(unittest.TestCase):
         self.assertIsNone(self.served.tag())
 
     def test_a_power_cut_before_begun(self) -> None:
-        """The work is on the disk, `begun` is not yet, and the instruction is unchanged. The new work may not talk in the run of
-        the old one."""
+        """The work is on the disk, `begun` is not, and the instruction is unchanged. The new work must not talk in the old
+        work's run."""
         self.begin("1 1")
         self.tell("1 1", f" a-b {boot_name()}")
         before = read(f"{self.folder}/told/members") or ""
@@ -146,7 +146,7 @@ class Seats(unittest.TestCase):
             self.assertEqual((again.wanted(), again.tag()), (None, None))
 
     def test_a_power_cut_after_begun(self) -> None:
-        """An old text of the instructions asks for nothing, and is not a run of the new start; a torn one is the same."""
+        """An old text of the instructions asks for nothing, and gives the new start no run. A torn text does the same."""
         self.begin("1 1")
         self.tell("1 1", f" a-b {boot_name()}")
         old = read(f"{self.folder}/told/members") or ""
@@ -163,7 +163,7 @@ class Seats(unittest.TestCase):
         self.assertEqual((self.served.takes("x-c"), self.seat.take_refused(), self.seat.take_refused()), (False, "x-c", None))
 
     def test_a_refused_tag_that_replaces_another_one_as_that_is_taken(self) -> None:
-        """None is lost."""
+        """No tag is lost."""
         self.begin("1 1")
         self.tell("1 1", f" a-b {boot_name()}")
         self.served.takes("x-c")
@@ -179,7 +179,7 @@ class Seats(unittest.TestCase):
         self.assertEqual((taken, self.seat.take_refused(), self.seat.take_refused()), ("x-c", "y-d", None))
 
     def test_a_wait_ends_with_a_change(self) -> None:
-        """Also with one that came before it."""
+        """A change before the wait ends it too."""
         self.tell("1 1")
         began = time.monotonic()
         self.served.wait(120)
@@ -191,7 +191,8 @@ class Seats(unittest.TestCase):
         self.assertEqual(self.served.wanted(), 1)
 
     def test_what_an_earlier_gateway_left(self) -> None:
-        """It instructed each member in separate files: they are removed, and their number is the least."""
+        """An earlier gateway instructed each member in separate files. They are removed, and their number is the least one
+        allowed."""
         for name, text in (("run", "1 tag 9 boot\n"), ("wanted", "1 9\n"), ("begun", "1 4\n")):
             self.write(f"1/{name}", text)
         with self.assertLogs("resetd_client", "WARNING") as told:
@@ -228,12 +229,12 @@ class Gateways(Case):
         return epoch
 
     def told_to(self, node: int) -> str:
-        """The instruction to the member."""
+        """Returns the instruction to the member."""
         lines = (read(f"{self.folder}/members/told/members") or "").splitlines()
         return next(line.partition(" ")[2] for line in lines if line.startswith(f"{node} "))
 
     def look(self) -> None:
-        """Looks as often as a reset, which takes a while, asks for."""
+        """Looks as often as a reset, which takes a while, requires."""
         for _ in range(5):
             self.gateway.look()
             self.server.await_settled()
@@ -282,14 +283,14 @@ class Gateways(Case):
         self.assertEqual(self.all_begin(), [None, None, None])
 
     def test_a_gateway_that_starts_again_goes_on(self) -> None:
-        """In the run of before: its stored state is the one that its members have begun."""
+        """It continues in the previous run: its stored state is the one that its members have begun."""
         self.all_begin()
         tags = self.tags()
         self.gateway = self.restarted()
         self.assertEqual((self.all_begin(), self.tags(), None in tags), ([None] * 3, tags, False))
 
     def test_what_it_tells_goes_down_once_for_all(self) -> None:
-        """A begin, its confirmation, and a first talk: as many syncs for three members as for one."""
+        """A begin, its confirmation and a first talk need as many syncs for three members as for one."""
         counts: list[int] = []
         sync = os.fsync
 
@@ -329,7 +330,7 @@ class Gateways(Case):
         self.assertEqual(self.rows(), [(1, 1)] * 3)
 
     def test_what_somebody_else_confirms(self) -> None:
-        """It is a run, if its members have begun it; and no instruction is repeated for the same epoch."""
+        """It is a run if the gateway's members have begun that epoch. No instruction for the same epoch is repeated."""
         self.look()
         for node in (1, 2, 3):
             self.begin(node)
@@ -341,7 +342,7 @@ class Gateways(Case):
         self.assertEqual((self.all_begin(), self.rows()), ([None, 1, None], [(1, 1)] * 3))
 
     def test_the_greatest_number_is_told(self) -> None:
-        """Also where its own file is gone, or those of its members are."""
+        """This is so even if the gateway's own file is missing, or those of its members."""
         self.all_begin()
         self.assertTrue(self.told_to(1).startswith("1 1 "))
         self.book.close()
@@ -356,7 +357,7 @@ class Gateways(Case):
         self.assertTrue(self.told_to(1).startswith("3 3 "))
 
     def test_a_file_of_an_earlier_version(self) -> None:
-        """All begin again, after one reset, and earlier begins of members do not count for it."""
+        """All begin again after one reset, and earlier begins of members do not count for it."""
         self.all_begin()
         self.book.close()
         party = sorted(self.port.show().party(1))
@@ -394,7 +395,7 @@ class Gateways(Case):
         self.assertEqual(self.told_to(1), f"2 2 - {boot_name()}")
 
     def test_a_run_ends_where_somebody_comes(self) -> None:
-        """Before any member is instructed to begin."""
+        """It ends before any member is instructed to begin."""
         self.all_begin()
         self.server.by_somebody("add", node=9, group=1)
         self.server.by_somebody("join", a=3, b=9)
@@ -403,12 +404,13 @@ class Gateways(Case):
         self.assertEqual(self.tags(), {None})
 
     def test_what_a_member_writes_brings_a_look(self) -> None:
-        """At once when it has begun, and soon when it has rejected a tag; the gateway's own writes wake nobody."""
+        """A look follows at once when the member has begun, and soon after it has refused a tag. The gateway's own writes wake
+        nobody."""
         self.look()
         self.assertEqual(self.gateway._sooner(7.0), math.inf)
         self.begin(1)
         now = time.monotonic()
-        self.assertTrue(now < self.gateway._sooner(7.0) < time.monotonic() + GATHER_SECONDS)  # the others are awaited
+        self.assertTrue(now < self.gateway._sooner(7.0) < time.monotonic() + GATHER_SECONDS)  # the gateway waits for the other members
         for node in (2, 3):
             self.begin(node)
         self.assertTrue(now < self.gateway._sooner(7.0) < time.monotonic())
@@ -422,7 +424,7 @@ class Gateways(Case):
         self.assertEqual(self.gateway._sooner(7.0), math.inf)
 
     def test_a_refused_tag(self) -> None:
-        """A reset is asked for if its sender was shown the same, and only then."""
+        """A reset is asked for only if the sender of the tag was shown the same view."""
         self.all_begin()
         served = Served(f"{self.folder}/members/2")
         own = served.tag() or ""
@@ -446,7 +448,7 @@ class Gateways(Case):
         self.assertEqual([self.begin(node) for node in (1, 2, 3)], [None] * 3)
 
     def test_a_reset_while_its_members_begin(self) -> None:
-        """It instructs them to begin the new epoch, though they have not begun the one before."""
+        """They are instructed to begin the new epoch, although they have not begun the previous one."""
         self.look()
         told = self.rows()[0][0]
         self.server.reset(1)
@@ -454,7 +456,7 @@ class Gateways(Case):
 
     @in_memory
     def test_it_looks_again_after_it_asked_for_a_reset(self) -> None:
-        """So its members are instructed to begin the new epoch by the same look."""
+        """So the same look instructs its members to begin the new epoch."""
         self.gateway.look()
         self.assertEqual([self.begin(node) for node in (1, 2, 3)], [1] * 3)
 
@@ -519,7 +521,7 @@ class Gateways(Case):
 
     @in_memory
     def test_it_rests_once_all_have_begun(self) -> None:
-        """What a member has written brings one look, and not one after the other."""
+        """A member's write causes one look, not repeated ones."""
         wakes = UntilEnded()
         thread = threading.Thread(target=self.gateway.follow, args=(wakes, 600.0), daemon=True)
         thread.start()
@@ -558,7 +560,7 @@ class Gateways(Case):
 
 
 class AtAFront(Case):
-    """A gateway whose orders, looks and wake-ups go over one connection."""
+    """A gateway with its orders, looks and wake-ups over one connection."""
 
     def setUp(self) -> None:
         super().setUp()
@@ -591,7 +593,7 @@ class AtAFront(Case):
         self.expect(lambda: len({each.tag() for each in served}) == 1 and served[0].tag() is not None)
 
     def test_resets(self) -> None:
-        """Its members are confirmed together, and their files cause no look at the server: the front pushes each change."""
+        """Its members are confirmed together, and their files cause no request to the server: the front pushes each change."""
         self.begin_all(1)
         shows = [request for request in self.server.seen if request["op"] == "show"]
         for epoch in (2, 3):
@@ -603,7 +605,7 @@ class AtAFront(Case):
         self.assertFalse(os.path.exists(f"{self.folder}/members/order.json"))
 
     def test_syncs_of_a_reset(self) -> None:
-        """Two for the instructions to begin, and one of the history; all members are instructed in two writes."""
+        """Two for the instructions to begin, and one for the history. All members are instructed in two writes."""
         self.begin_all(1)
         synced = list[int]()
         with mock.patch("os.fsync", side_effect=synced.append), mock.patch("os.fdatasync", side_effect=synced.append):

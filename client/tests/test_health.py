@@ -42,7 +42,7 @@ class Watching(Case):
         self.assertEqual(self.look(80), (Level.OK, ()))
 
     def test_what_has_passed_is_forgotten(self) -> None:
-        """If it comes again, it lasts from then on. A clock that was put back makes nothing last less than no time."""
+        """A condition that returns lasts from its return on. A clock that was set back makes no duration negative."""
         path = f"{self.folder}/since"
         for now, things, lasted in ((0, "ab", [0, 0]), (10, "a", [10]), (20, "ab", [20, 0]), (25, "ab", [25, 5]),
                                     (3, "ab", [3, 0]), (7, "ab", [7, 4])):
@@ -51,7 +51,7 @@ class Watching(Case):
             since.keep()
 
     def test_a_bound_is_the_least_that_is_told(self) -> None:
-        """Of steps that wait, of a wave that stands still, and of an epoch that nobody has confirmed."""
+        """The bounds of waiting steps, of a wave that does not move, and of an unconfirmed epoch."""
         bounds = Bounds(steps=5, wave=5, unconfirmed=60)
         rows = [[1, 1, "abort", 0, 4, 4], [2, 1, "ready", 0, 4, 3], [3, 1, "ready", 0, 4, 4]]
         for settled, expected in ((8, [0, 0, 1, 1, 2]), (9, [0, 0, 1, 1, 2])):
@@ -67,7 +67,7 @@ class Watching(Case):
                           ((1, 1), (2, 0), (3, 0))], [True] * 3)
 
     def test_what_is_not_taken_now(self) -> None:
-        """A server that has stopped has to be started again; one that lacks room has not."""
+        """A server that has stopped must be started again; one that lacks room must not."""
         for line, is_stopped in (('{"name":"Stopped","refused":1}', True), ('{"name":"PendingFull","refused":20}', False),
                                  ('{"fault":"OutOfMemory"}', False)):
             self.server.faults = [line]
@@ -76,8 +76,8 @@ class Watching(Case):
         self.assertEqual([int(level) for level in (Level.OK, Level.WARNING, Level.CRITICAL, Level.UNKNOWN)], [0, 1, 2, 3])
 
     def expect(self, folder: str, looks: list[tuple[float, int, int, int, list[str]]]) -> None:
-        """Looks at a row of two nodes, the first in a reset: each with its time, the steps accepted and settled, the second
-        node's epoch, and the expected findings."""
+        """Looks at a row of two nodes, the first in a reset. Each look has its time, the numbers of accepted and settled steps,
+        the second node's epoch, and the expected findings."""
         for now, accepted, settled, epoch, told in looks:
             rows = [[1, 1, "abort", 2, 0, 0], [2, 1, "ready", 0, epoch, epoch]]
             since = Since(f"{self.folder}/{folder}", now)
@@ -86,26 +86,26 @@ class Watching(Case):
             since.keep()
 
     def test_the_oldest_step_that_waits(self) -> None:
-        """The oldest step counts, and not the last flight that came back. A count that went back is another store's."""
+        """The oldest step counts, not the last flight that returned. A lower count means another store."""
         self.expect("since", [(0, 9, 7, 0, []), (4, 11, 8, 0, []), (6, 12, 8, 0, ["4 steps have waited for the disk for 6 s"]),
                               (8, 12, 9, 0, []), (9, 13, 10, 0, ["3 steps have waited for the disk for 5 s"]), (20, 9, 8, 0, []),
                               (30, 10, 9, 0, [])])
 
     def test_a_wave_that_moves_with_its_flights_is_not_still(self) -> None:
-        """While steps wait, the disk is reported and no wave; a wave whose look fell between two flights is not reported
-        either."""
+        """While steps wait, the disk is reported and no wave. A wave is not reported either if a look fell between two of its
+        flights."""
         self.expect("since", [(0, 9, 7, 0, []), (6, 9, 7, 0, ["2 steps have waited for the disk for 6 s"]), (7, 11, 9, 0, []),
                               (13, 12, 11, 0, []), (20, 12, 12, 0, []), (21, 13, 12, 0, []), (25.5, 13, 13, 0, []),
                               (30, 13, 13, 1, []), (34, 13, 13, 1, [])])
 
     def test_a_wave_that_stands_still(self) -> None:
-        """If nothing waits; or if very many steps were settled meanwhile, those of the wave among them."""
+        """A wave is reported if nothing waits, or if so many steps were settled meanwhile that its own must be among them."""
         told = "a wave has stood still at node 1 (abort) for {} s: resend"
         self.expect("idle", [(0, 9, 9, 0, []), (6, 9, 9, 0, [told.format(6)]), (7, 30, 30, 0, [told.format(7)])])
         self.expect("busy", [(0, 9, 8, 0, []), (1, 1_000, 999, 0, []), (2, 1_040, 1_039, 0, []), (5, 1_050, 1_040, 0, [told.format(5)])])
 
     def test_what_was_seen_in_another_boot_is_forgotten(self) -> None:
-        """The clock of ages restarts with the machine."""
+        """The clock for durations restarts with the machine."""
         for boot, now, lasted in (("one", 10, 0), ("one", 30, 20), ("two", 50, 0), ("two", 60, 10)):
             since = Since(f"{self.folder}/since", now, boot)
             self.assertEqual(since.seconds("thing"), lasted)
@@ -116,7 +116,7 @@ class Watching(Case):
             self.assertEqual(Since(f"{self.folder}/since", 70, "two").seconds("thing"), 0)
 
     def test_a_clock_that_is_set_makes_nothing_older(self) -> None:
-        """Nobody sets the clock of ages."""
+        """Nobody can set the clock for durations."""
         self.server.reset(1)
         with mock.patch("time.time", lambda: 1_000.0):
             self.assertEqual(self.run_words("health")[:2], (0, "resetd OK: well\n"))
@@ -135,13 +135,13 @@ class Watching(Case):
         self.assertIn('resetd_node_epoch{node="2",group="1"} 0\n', text)
         self.assertIn("resetd_up 1\n", text)
         self.assertIn("resetd_up 0\n", metrics(None, False))
-        stopped = metrics(None, True)  # it answers, and takes nothing
+        stopped = metrics(None, True)  # it answers, but accepts nothing
         self.assertIn("resetd_up 1\n", stopped)
         self.assertIn("resetd_stopped 1\n", stopped)
 
 
 class Lagging(Case):
-    """The file of signals beside the view."""
+    """The file of signals compared with the view."""
 
     def setUp(self) -> None:
         super().setUp()
@@ -194,7 +194,7 @@ class Lagging(Case):
         self.assertEqual((self.look(50), self.look(60)), ((), self.lag(1, 4, " and 1 more", 10)))
 
     def test_a_longer_file_in_its_place(self) -> None:
-        """It is another one, in which lines may be missing that were written before it was made."""
+        """Another file may lack lines that were written before it was created."""
         self.look(0)
         self.server.reset(1)
         with open(f"{self.path}.new", "w", encoding="utf-8") as file:
@@ -209,7 +209,7 @@ class Lagging(Case):
         self.assertEqual((self.look(10), self.look(20)), ((), self.lag(9, 1, "", 10)))
 
     def test_a_line_that_is_written_in_two_parts(self) -> None:
-        """A look between the two does not lose it."""
+        """A look between the two parts does not lose the line."""
         self.write("a", "sig")
         self.assertEqual(self.look(0), ())
         self.server.reset(1)
@@ -244,7 +244,7 @@ class SameStore(unittest.TestCase):
 
 @unittest.skipUnless(PROGRAM, "RESETD names no program that serves")
 class OtherStore(Case):
-    """What somebody does to the file of a server that runs."""
+    """Changes that somebody makes to the file of a running server."""
 
     is_real = True
     LOST = "resetd CRITICAL: that is not the store on this file: "
@@ -297,7 +297,7 @@ class OtherStore(Case):
         self.assertIn(f"the store can't be compared: {self.server.store}: Permission denied", health.findings)
 
     def test_a_store_that_is_at_work_is_the_one_on_its_file(self) -> None:
-        """With orders, waves and checkpoints meanwhile."""
+        """Orders, waves and checkpoints go on meanwhile."""
         self.server.ring(2)
         ended = threading.Event()
 
@@ -320,7 +320,7 @@ class OtherStore(Case):
 
 @unittest.skipUnless(PROGRAM, "RESETD names no program that serves")
 class FullDisk(Case):
-    """The program, whose file of signals may not grow."""
+    """The program, with a file of signals that can't grow."""
 
     is_real = True
     MOST = 400_000

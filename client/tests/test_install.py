@@ -1,4 +1,4 @@
-"""The library as one that is installed: by pip without a network, with types that mypy checks."""
+"""The installed library: by pip without a network, with types that mypy checks."""
 
 from __future__ import annotations
 

@@ -17,7 +17,7 @@ from resetd_client.member import MOST_REFUSED, is_one_run
 
 
 class MemberCase(Case):
-    """A ring of two, of which node 1 has a member."""
+    """A ring of two nodes, and a member of node 1."""
 
     def setUp(self) -> None:
         super().setUp()
@@ -31,7 +31,7 @@ class MemberCase(Case):
         return [(self.server.row(node)[1], self.server.row(node)[2]) for node in (1, 2)]
 
     def look(self, member: Member) -> None:
-        """Looks as often as a reset, which takes a while, asks for."""
+        """Looks as often as a reset, which takes a while, requires."""
         for _ in range(10):
             member.look()
             self.server.await_settled()
@@ -40,7 +40,7 @@ class MemberCase(Case):
         self.server.by_somebody("confirm", node=2, epoch=self.server.row(2)[1])
 
     def in_a_run(self) -> Member:
-        """A member that talks with the other one."""
+        """Returns a member that talks with the other one."""
         member = self.member()
         self.look(member)
         self.confirm_other()
@@ -51,12 +51,12 @@ class MemberCase(Case):
 
 class Members(MemberCase):
     def test_runs_of_two_epochs_are_two(self) -> None:
-        """Also if both have no tag."""
+        """Two runs differ even if both have no tag."""
         self.assertTrue(is_one_run(Run(1, ""), Run(1, "")))
         self.assertFalse(is_one_run(Run(1, ""), Run(2, "")))
 
     def test_it_looks_seldom_while_its_node_is_not_there(self) -> None:
-        """And often while others are not through."""
+        """It looks often while others are not through."""
         member = self.member()
         self.look(member)
         self.assertLess(member.wait_seconds(30), 3)
@@ -111,7 +111,7 @@ class Members(MemberCase):
 
     @in_memory
     def test_a_restored_store_is_reset_until_its_party_is_new(self) -> None:
-        """Over the program a look may fall into the midst of a wave, whose party is new: the member then begins there too."""
+        """If a look at the program falls into a wave, the party is new for that moment: the member then begins there too."""
         member = self.in_a_run()
         copy = self.server.copy()
         for _ in range(3):
@@ -124,7 +124,7 @@ class Members(MemberCase):
         self.assertEqual((self.begun, self.rows()), ([1, 2, 3, 4, 5], [(5, 5), (5, 1)]))
 
     def test_one_reset_where_no_run_is_forgotten(self) -> None:
-        """However far the epoch went back."""
+        """One reset is asked for, however far the epoch went back."""
         member = self.in_a_run()
         copy = self.server.copy()
         for _ in range(3):
@@ -185,7 +185,7 @@ class Members(MemberCase):
         self.assertEqual((self.begun, self.rows()[0]), ([1, 2], (2, 2)))
 
     def test_a_confirm_that_meets_another_node_of_the_same_number(self) -> None:
-        """Nothing is mixed: the start that it confirms has not talked."""
+        """No runs are mixed: the start that this confirms has not talked."""
         def begin(epoch: int) -> None:
             self.begun.append(epoch)
             if len(self.begun) == 2:
@@ -240,7 +240,7 @@ class Kept(MemberCase):
     """What a member has on the disk before it acts."""
 
     def test_with_whom_a_start_first_talked_outlives_the_process(self) -> None:
-        """Also if the next process finds that somebody has come meanwhile."""
+        """This is so even if the next process finds another party."""
         first = self.in_a_run()
         first.orders.close()
         for op, members in (("add", {"node": 3, "group": 1}), ("join", {"a": 2, "b": 3}), ("reset", {"node": 1}),
@@ -260,7 +260,7 @@ class Kept(MemberCase):
         self.assertIsNone(member.run)
 
     def test_no_confirm_before_the_begin_is_written_down(self) -> None:
-        """Else it would ask for a reset after a death after the confirm."""
+        """Otherwise a death after the confirm would cost a reset."""
         kept: list[str | None] = []
         orders = self.orders()
         member = Member(self.port, orders, 1, None, self.begun.append, told=self.told.append)
@@ -276,7 +276,8 @@ class Kept(MemberCase):
         self.assertEqual((found["begun"], found["party"], found["loaded"]), (None, None, 1))
 
     def test_a_death_in_a_begin(self) -> None:
-        """The old work is still there, with an epoch that comes again and that somebody else confirms: it is no work."""
+        """The old work is still there, with an epoch that is used again and that another client confirms: it does not count as
+        work."""
         def dies(epoch: int) -> None:
             raise ZeroDivisionError
 
@@ -298,7 +299,7 @@ class Refusals(MemberCase):
     """Tags of other runs."""
 
     def other(self, member: Member, is_shown_the_same: bool) -> str:
-        """The tag of a start that first talked with others than the member's."""
+        """Returns the tag of a start that first talked with a party that differs from the member's."""
         assert member.run
         shown = member.run.tag[33:] if is_shown_the_same else 32 * "e"
         return f"{32 * 'f'}-{shown}"
@@ -308,7 +309,8 @@ class Refusals(MemberCase):
             self.fail("it was taken")
 
     def test_the_tag_is_that_of_the_first_party(self) -> None:
-        """While others go: a message of one that was shown more, or less, is taken."""
+        """The member's messages are accepted while others leave, and so is a message from a member that was shown more or fewer
+        nodes."""
         self.server.by_somebody("add", node=3, group=1)
         self.server.by_somebody("join", a=2, b=3)
         member = self.member()
@@ -327,7 +329,7 @@ class Refusals(MemberCase):
         self.assertEqual(self.begun, [1])
 
     def test_who_is_alone_takes_no_message(self) -> None:
-        """And one of a member that is alone, too."""
+        """A member that is alone does not accept a message of another lone member either."""
         self.server.by_somebody("drop", a=1, b=2)
         member = self.member()
         self.look(member)
@@ -338,7 +340,7 @@ class Refusals(MemberCase):
             self.assertEqual(run.tag, "")
 
     def test_two_that_refuse_each_other_ask_for_a_reset(self) -> None:
-        """If the same is shown to both: so both are up to date."""
+        """If both are shown the same party, both are up to date."""
         member = self.in_a_run()
         for same, begun in ((False, [1]), (True, [1, 2])):
             self.refuse(member, self.other(member, same))
@@ -346,8 +348,8 @@ class Refusals(MemberCase):
             self.assertEqual(self.begun, begun)
 
     def test_a_resource_that_was_taken_by_its_own_group(self) -> None:
-        """One reset is asked for, and none if the members that took it are not connected with this one, or it may no longer
-        talk."""
+        """One reset is asked for, and none if the members that took the resource are not connected with this one, or it may no
+        longer talk."""
         member = self.in_a_run()
         for takers, begun in (({7, 9}, [1]), ({2, 9}, [1, 2]), ({2, 9}, [1, 2])):
             member.note_overtaken(takers, self.port.show().settled)
@@ -355,7 +357,8 @@ class Refusals(MemberCase):
             self.assertEqual(self.begun, begun)
 
     def test_a_resource_that_no_look_can_have_brought_so_far(self) -> None:
-        """The store went back: a message names the generation with which the members are to be started. A reset would not help."""
+        """The store went back: a message names the generation with which the members have to be started. A reset would not
+        help."""
         member = self.in_a_run()
         asked, settled = sum(order.get("op") == "reset" for order in self.server.seen), self.port.show().settled
         for count, words in ((settled + 1, f"--fence {settled + 1}`"), (3 << 40, "generation 3 were there, and this one has 0")):
@@ -420,7 +423,7 @@ class Lives(MemberCase):
         self.assertEqual((len(self.runs), self.runs[1], member.run), (2, None, None))
 
     def test_a_reset_from_another_thread(self) -> None:
-        """A reset is asked for at once, and once."""
+        """One reset is asked for at once."""
         with self.followed() as member:
             self.expect(lambda: self.begun == [1])
             self.confirm_other()
@@ -433,7 +436,7 @@ class Lives(MemberCase):
         self.assertEqual([run.epoch if run else None for run in self.runs], [1, None])
 
     def test_what_ends_its_thread_is_raised_at_the_end(self) -> None:
-        """And ends the run; what the body raises itself comes first."""
+        """The exception also ends the run. An exception that the body raises comes first."""
         def begin(epoch: int) -> None:
             raise ZeroDivisionError
 
@@ -460,7 +463,7 @@ class Lives(MemberCase):
             self.expect(lambda: self.looks() > looks)
 
     def test_a_run_is_told_once(self) -> None:
-        """However often it looks, and though others go."""
+        """It is called once, however often the member looks, and even if others leave."""
         with self.followed() as member:
             self.expect(lambda: self.begun == [1])
             self.confirm_other()
@@ -518,7 +521,7 @@ class Runs(MemberCase):
         self.assertEqual(self.begun, [1, 2])
 
     def test_a_begin_is_written_down_before_work_is_dropped(self) -> None:
-        """With nobody to talk with yet: so a death during it is detected."""
+        """The start has nobody to talk with yet, so a death during the begin is detected."""
         kept: list[str | None] = []
         orders = self.orders()
         member = Member(self.port, orders, 1, None, lambda epoch: kept.append(read(f"{orders.folder}/start-1.json")),
@@ -539,7 +542,7 @@ class Runs(MemberCase):
         looking.join()
 
     def test_how_often_it_looks_while_others_are_not_through(self) -> None:
-        """At first soon, and then less often; but never as seldom as while all is well."""
+        """At first it looks soon, and then less often, but never as seldom as when all are through."""
         member = self.member()
         self.look(member)
         waits = [member.wait_seconds(30.0) for _ in range(40)]

@@ -5,7 +5,7 @@ from __future__ import annotations
 import threading
 import unittest
 
-from case import Case  # first: it says where the library is
+from case import Case  # first: it adds the library to the path
 from fake import Fake
 from pushing import of_unix
 from resetd_client import AtFront, Due, Member, Orders, Past, Port, View, Wake, Watched
@@ -31,14 +31,14 @@ class Takes(unittest.TestCase):
         self.assertRaises(Past, newest.take, NEW, view(19))
 
     def test_one_address_may_go_back(self) -> None:
-        """Its store was put back; another one is now compared with its view."""
+        """Its store was restored; then another address is compared with its view."""
         newest = Newest()
         for steps in (20, 5):
             newest.take(NEW, view(steps))
         newest.take(OLD, view(5))
 
     def test_an_order_makes_an_address_count(self) -> None:
-        """If its step is a new one there: an old coordinator repeats an old reply."""
+        """It counts if the order's step is new at that address: an old coordinator repeats an old reply."""
         newest = Newest()
         newest.take(NEW, view(20))
         self.assertRaises(Past, newest.take, OLD, view(9, accepted=10))
@@ -56,7 +56,7 @@ class Takes(unittest.TestCase):
 
 
 class Ports(Case):
-    """A coordinator that was replaced answers looks, and no order."""
+    """A coordinator that was replaced answers looks, but no order."""
 
     def setUp(self) -> None:
         super().setUp()
@@ -71,7 +71,7 @@ class Ports(Case):
         self.old.respond = lambda line: respond(line) if b'"show"' in line else '{"name":"Stopped","refused":1}'
 
     def test_the_client_stays_with_the_one_that_answered_its_order(self) -> None:
-        """While that one is away, no look is answered by the old one."""
+        """While that address is away, no look is answered by the old one."""
         self.old_answers_looks_alone()
         port = Port(f"{self.old.address},{self.new.address}", 120)
         self.assertEqual(port.ask({"op": "confirm", "client": 3, "number": 1, "node": 2, "epoch": 1})["kind"], "done")
@@ -89,7 +89,7 @@ class Ports(Case):
         self.assertEqual(port.show().nodes[0].epoch, 1)
 
     def test_a_member_that_is_shown_a_past_for_long_finds_out(self) -> None:
-        """The coordinator is lost, and another one serves an older copy of its store: it carries out a reset, and so it counts."""
+        """The coordinator is lost, and another one serves an older copy of its store. It carries out a reset, and so it counts."""
         port = Port(f"{self.new.address},{self.old.address}", 120)
         member = Member(port, self.orders_of(port), 1, None, lambda epoch: None, told=self.told.append)
         member.look()
@@ -112,7 +112,7 @@ class Ports(Case):
 
 
 class Silent:
-    """No wake-up."""
+    """A source without wake-ups."""
 
     def wait(self, seconds: float) -> Wake:
         threading.Event().wait(seconds)
@@ -120,7 +120,7 @@ class Silent:
 
 
 class Fronts(Case):
-    """The same of fronts that push."""
+    """The same for fronts that push views."""
 
     def setUp(self) -> None:
         super().setUp()
@@ -141,11 +141,12 @@ class Fronts(Case):
         self.assertIs(watched.wait(60), Wake.CAME)
         self.assertEqual(epoch_of(watched.take()), 1)
         self.fronts[1].drop()
-        self.assertIs(watched.wait(60), Wake.CAME)  # it has passed over the old one
+        self.assertIs(watched.wait(60), Wake.CAME)  # it has skipped the old one
         self.assertEqual(epoch_of(watched.take()), 1)
 
     def test_a_look_is_no_older_than_a_view_that_was_pushed(self) -> None:
-        """They are judged by one count: the new front has pushed, and a look meets the old one, which comes up later."""
+        """Looks and pushed views share one count: after the new front has pushed a view, a look finds the old front, which
+        returned later."""
         self.fronts[0].close()
         with AtFront(Port(f"unix:{self.folder}/later,unix:{self.paths[1]}", 30), f"{self.folder}/m") as orders:
             self.assertIs(orders.wait(60), Wake.CAME)
@@ -160,10 +161,10 @@ def epoch_of(view: View | None) -> int:
 
 
 class Looks(unittest.TestCase):
-    """Two members by the rule, shown moments of one ledger; the second one loses its files once."""
+    """Two members that follow the rule are shown moments of one ledger; the second one loses its files once."""
 
     def views(self) -> tuple[View, View]:
-        """Before node 2 is confirmed, and after."""
+        """The views before and after node 2 is confirmed."""
         before, after = (View.of({"accepted": 9 + confirmed, "settled": 9 + confirmed, "links": [[1, 2, 3]],
                                   "nodes": [[node, 1, "ready", 0, 1, confirmed] for node in (1, 2)]}) for confirmed in (0, 1))
         return before, after
@@ -196,7 +197,7 @@ class Looks(unittest.TestCase):
 
 
 class Judged:
-    """What a member keeps by the rule alone."""
+    """The values that a member keeps by the rule alone."""
 
     def __init__(self) -> None:
         self.kept, self.history, self.tag = Kept(), set[str](), ""

@@ -77,7 +77,7 @@ class Numbers(Case):
         orders.order("reset", node=1)
         for fault in Fault:
             self.server.faults = [f'{{"fault":"{fault.value}"}}']
-            is_not_now = fault is Fault.OUT_OF_MEMORY  # which may stand for an order that was carried out
+            is_not_now = fault is Fault.OUT_OF_MEMORY  # it may replace the reply to an order that was carried out
             self.assertRaises(NotNow if is_not_now else Faulted, orders.order, "reset", node=2)
             self.assertEqual(len(orders.unanswered), int(is_not_now))
         self.server.faults = ['{"fault":"Later"}']
@@ -91,7 +91,7 @@ class Numbers(Case):
         self.assertEqual((orders.unanswered, orders.number), ([], 1))
 
     def test_numbers_out_of_their_range_are_told_before_anything_is_sent(self) -> None:
-        """Nothing is written down either, and of several orders that are sent together none is sent."""
+        """Nothing is stored either, and none of several orders that are sent together is sent."""
         orders = self.orders()
         orders.order("reset", node=1)
         wrong: list[Any] = [{"node": 0}, {"node": 65}, {"node": -1}, {"node": 10 ** 5_000}, {"node": True}, {"node": 1.0}, {"node": "1"},
@@ -163,7 +163,7 @@ class Numbers(Case):
         self.assertLess(self.server.connections - before, 20)
 
     def test_a_count_that_was_found_is_kept(self) -> None:
-        """The next process has not to look for the count."""
+        """So the next process need not look for the count."""
         first = self.orders()
         first.order("reset", node=1)
         self.server.await_settled()
@@ -177,14 +177,14 @@ class Numbers(Case):
         self.assertEqual((len(self.server.seen) - before, self.server.last(1)), (1, 2))
 
     def test_a_refusal_of_another_kind_ends_the_search(self) -> None:
-        """Such a refusal says nothing of the count."""
+        """Such a refusal implies nothing about the count."""
         self.server.faults = ["", '{"name":"Exhausted","refused":3}']
         with self.assertRaises(Refused) as caught:
             find_count(self.port, 3)
         self.assertEqual(caught.exception.name, "Exhausted")
 
     def test_a_count_that_is_lost_again_and_again(self) -> None:
-        """As if others order as the same client: it is looked for three times, and then that is reported."""
+        """This happens if others order as the same client. The count is looked for three times, and then the loss is reported."""
         orders = self.orders(recovers=True)
         orders.order("reset", node=1)
         with mock.patch.object(orders, "_send", side_effect=CountLost(4, "OutOfTurn")) as send, \
@@ -193,7 +193,7 @@ class Numbers(Case):
         self.assertEqual((send.call_count, recover.call_count), (4, 3))
 
     def test_an_earlier_order_that_is_refused_is_told(self) -> None:
-        """One without an answer comes first, and is given up if it is refused."""
+        """An order without an answer is sent first, and is dropped if it is refused."""
         orders = self.orders()
         orders.recover()
         self.server.faults = ["lose"]
@@ -214,7 +214,7 @@ class Numbers(Case):
 
     def test_a_lost_folder_does_not_repeat_an_old_order(self) -> None:
         self.orders().order("reset", node=1)
-        self.server.await_settled()  # a reset that still runs would be joined
+        self.server.await_settled()  # another reset would join one that still runs
         self.orders(name="other").order("reset", node=1)
         self.assertEqual(self.server.row(1)[1], 2)
 
@@ -271,7 +271,7 @@ class Together(Case):
         self.assertEqual([type(outcome) for outcome in outcomes], [*[Reply] * 58, Refused])
         self.assertEqual((self.nodes(), self.server.last(2)), (list(range(1, 60)), 58))
         flights = [batch for batch in read_store(self.server.store).batches if accepted < batch.first <= accepted + 58]
-        self.assertLess(len(flights), 12)  # the first order has one, and the others arrive together
+        self.assertLess(len(flights), 12)  # the first order has an answer, and the others arrive together
 
     def test_more_than_one_part(self) -> None:
         pairs = [(3, 4), *[(a, b) for a in range(1, 13) for b in range(a + 1, 13)]]
@@ -297,7 +297,7 @@ class Together(Case):
         self.assertEqual((self.nodes(), self.book.number, self.book.unanswered), ([1, 2, 3, 4], 2, []))
 
     def test_a_connection_that_is_lost_at_any_line(self) -> None:
-        """An answer is lost at one line, and at another one of the repeated lines; the orders are carried out once."""
+        """One answer is lost, and then another one when the lines are repeated. Each order is carried out once."""
         self.book.order("reset", node=1)
         fresh = iter(range(3, 64))
         for fault in ("mute", "lose", STOPPED, '{"fault":"OutOfMemory"}'):
@@ -322,7 +322,7 @@ class Together(Case):
         self.server.faults = ["mute"]
         orders = self.adds(3, 4)
         self.assertRaises(Away, self.book.order_all, orders)
-        self.server.respond(muted[1].encode() + b"\n")  # the second has come to the coordinator too
+        self.server.respond(muted[1].encode() + b"\n")  # the second order has reached the coordinator too
         outcomes = self.patient(orders)
         self.assertEqual(outcomes[0], CARRIED_OUT)
         self.assertEqual((self.nodes(), self.server.last(1)), ([1, 2, 3, 4], 3))

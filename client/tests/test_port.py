@@ -1,4 +1,4 @@
-"""What a port does with addresses, with servers that do not answer as one should, and while it waits."""
+"""What a port does with its addresses, with servers that do not answer properly, and while it waits."""
 
 from __future__ import annotations
 
@@ -24,7 +24,7 @@ class Addresses(Case):
         self.both = Port(f"{self.server.address},{self.other.address}", 120)
 
     def test_it_begins_with_the_one_that_answered_last(self) -> None:
-        """Be the answer a refusal or not, and until that one gives none."""
+        """The answer may be a refusal. Another address is tried only if that one gives no answer."""
         self.server.is_stopped = True
         self.assertRaises(NotNow, self.port.show)
         self.both.show()
@@ -44,7 +44,7 @@ class Addresses(Case):
         self.assertEqual((self.both.ask({"op": "resend"}), len(self.server.seen), len(self.other.seen)), (RESENT, 1, 2))
 
     def test_not_now_counts_more_than_no_answer(self) -> None:
-        """One that is there, and says why it takes nothing, is what a person has to look at."""
+        """A person should look first at the server that answers why it accepts nothing."""
         self.server.is_stopped = True
         for addresses in (f"{self.server.address},127.0.0.1:1", f"127.0.0.1:1,{self.server.address}"):
             self.assertRaises(NotNow, Port(addresses, 120).show)
@@ -62,7 +62,7 @@ class Lines(unittest.TestCase):
 
 
 class Strange(unittest.TestCase):
-    """Servers that are no coordinators."""
+    """Servers that are not coordinators."""
 
     def port(self, serve: Callable[[socket.socket], None], seconds: float) -> Port:
         listener = socket.create_server(("127.0.0.1", 0))
@@ -81,7 +81,7 @@ class Strange(unittest.TestCase):
         return Port("127.0.0.1:{}".format(listener.getsockname()[1]), seconds)
 
     def test_one_that_says_something_without_end(self) -> None:
-        """A byte at a time, and never a line: it is left in time."""
+        """The server sends a byte at a time and never a whole line. The port gives up in time."""
         ended = threading.Event()
 
         def trickle(connection: socket.socket) -> None:
@@ -93,7 +93,7 @@ class Strange(unittest.TestCase):
             self.within(20, self.port(trickle, 0.5).show)
 
     def within(self, seconds: float, call: Callable[[], object]) -> None:
-        """Makes a call that has to be over in time."""
+        """Makes a call that has to return in time."""
         raised: list[BaseException] = []
 
         def caller() -> None:
@@ -110,7 +110,7 @@ class Strange(unittest.TestCase):
             raise each
 
     def test_one_that_is_silent_and_one_that_leaves(self) -> None:
-        """The two are distinguished, since another client may keep the one connection of a server."""
+        """The two are distinguished, because another client may have the server's only connection."""
         ended = threading.Event()
         self.addCleanup(ended.set)
 
@@ -132,7 +132,7 @@ class Strange(unittest.TestCase):
 
 class Patience(unittest.TestCase):
     def test_waits_grow_up_to_a_bound(self) -> None:
-        """And each receiver gets the message once."""
+        """Each receiver gets the message once."""
         waits: list[float] = []
         told: list[Away] = []
 

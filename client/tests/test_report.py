@@ -1,4 +1,4 @@
-"""`resetctl report`: one file for whoever looks into a fault."""
+"""`resetctl report`: one file for the person who investigates a fault."""
 
 from __future__ import annotations
 
@@ -15,7 +15,7 @@ from resetd_client.device import devices_of, kernel_lines, mount_of
 from resetd_client.processes import checksum_of
 from test_store_file import APPENDED
 
-# Prints its words, and lines of two devices.
+# Prints its arguments, and lines of two devices.
 JOURNAL = """#!/bin/sh
 echo "words: $*"
 echo "kernel: I/O error, dev vdz9, sector 7"
@@ -42,7 +42,7 @@ class Report(Case):
         self.out = f"{self.folder}/report.tar.gz"
 
     def report(self, *words: str) -> dict[str, bytes]:
-        """What the report has, by name."""
+        """Returns the parts of the report by their names."""
         status, told, complained = self.run_words("report", "--store", self.store, "--memory", f"{self.folder}/none", *words, self.out,
                                                   address=self.server.behind)
         self.assertEqual((status, complained), (0, ""))
@@ -83,7 +83,7 @@ class Report(Case):
             self.assertEqual(file.read(), before)
 
     def test_a_server_that_is_down_and_a_store_that_does_not_read(self) -> None:
-        """A part that can't be found says why, and the rest of the store is there."""
+        """A part that can't be found has the reason instead, and the rest of the store's part is there."""
         self.server.end()
         with open(self.store, "wb") as file:
             file.write(APPENDED[:50])

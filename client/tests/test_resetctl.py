@@ -1,4 +1,4 @@
-"""`resetctl`, by its words."""
+"""`resetctl`, tried by its command lines."""
 
 from __future__ import annotations
 
@@ -62,7 +62,7 @@ class Controls(Case):
                       f"confirm 1 {1 << 64}", "drop 1 65"):
             self.expect_wrong(*words.split())
         self.assertEqual(self.run_words("reset", "2")[0], 0)
-        self.server.await_settled()  # a reset that still runs would be joined
+        self.server.await_settled()  # another reset would join one that still runs
         self.assertEqual(self.run_words("reset", "2")[2], "")
         self.server.await_settled()
         self.assertEqual(self.server.row(1)[1], 3)
@@ -77,7 +77,7 @@ class Controls(Case):
         self.assertEqual(self.run_words("reset", "1")[2], "")
 
     def test_numbers_out_of_their_range(self) -> None:
-        """The words are wrong, and nothing is asked."""
+        """The arguments are refused, and no request is sent."""
         for words in ("--seconds 0", "--seconds -1", "--seconds nan", "--seconds inf", "--seconds 1e300", "--patience -1",
                       "--patience nan", "--client 0", "--client 17", "--client x"):
             self.expect_wrong(*words.split(), "show")
@@ -94,7 +94,7 @@ class Controls(Case):
         self.assertEqual((ended.exception.code, len(self.server.seen)), (2, seen))
 
     def test_variables_of_the_environment(self) -> None:
-        """One that is empty is as good as absent; one that names no client is a wrong word."""
+        """An empty variable counts as absent, and an invalid client as a wrong argument."""
         names = ("RESETD_ADDRESS", "RESETD_CLIENT", "RESETCTL_STATE", "STATE_DIRECTORY", "XDG_STATE_HOME")
         with mock.patch.dict(os.environ, {"HOME": self.folder}):
             for name in names:
@@ -156,7 +156,7 @@ class Controls(Case):
         self.assertEqual(status, 3)
         self.assertEqual(told, "resetctl: no answer: 127.0.0.1:1: Connection refused; tried again for 0.5 s\n"
                                "resetctl: no answer: 127.0.0.1:1: Connection refused\n")
-        self.assertLess(time.monotonic() - began, 25)  # without the words: 30
+        self.assertLess(time.monotonic() - began, 25)  # without the arguments: 30
 
     def test_what_looks_waits_two_seconds(self) -> None:
         with socket.create_server(("127.0.0.1", 0)) as silent:
@@ -166,7 +166,7 @@ class Controls(Case):
                 out, err = io.StringIO(), io.StringIO()
                 with redirect_stdout(out), redirect_stderr(err):
                     main(["--address", address, "--state", self.folder, *words])
-                self.assertTrue(1.5 < time.monotonic() - began < 19, words)  # of an order: 20 and more
+                self.assertTrue(1.5 < time.monotonic() - began < 19, words)  # for an order: 20 and more
                 if words[0] == "show":
                     self.assertEqual(err.getvalue(), f"resetctl: waits for an answer of {address}\nresetctl: no answer: {address}: "
                                      "connected, and no answer for 2 s: another client may keep the one connection\n")
@@ -210,7 +210,7 @@ class Controls(Case):
         with open(path, "w", encoding="utf-8") as file:
             file.write("".join(f"[[node]]\nid = {n}\ngroup = 1\n" for n in (1, 2, 3, 4)))
         self.run_words("reset", "1")
-        for before in (1, 2):  # show; the order without an answer, and show
+        for before in (1, 2):  # show; then the order without an answer, and show
             self.server.faults = [*[""] * before, "mute"]
             self.assertEqual(self.run_words("apply", path)[0], 3)
         status, _, told = self.run_words("apply", path)

@@ -1,4 +1,4 @@
-"""`resetctl` for scripts and for whoever looks back: JSON, topologies without a server, measures, the front's audit file."""
+"""`resetctl` for scripts and for looking back: JSON, topologies without a server, measures, the front's audit file."""
 
 from __future__ import annotations
 
@@ -40,7 +40,7 @@ class Audit(Case):
         return out.splitlines()
 
     def test_who_asked_for_which_reset(self) -> None:
-        """Those that were carried out, or may have been: none that was refused or denied."""
+        """Resets that were carried out, or may have been, are shown; refused and denied ones are not."""
         self.assertEqual(self.printed("--reset")[:-1], [
             "2026-01-30T12:00:00.214Z  alice (pid 42)  reset 3  started 17; as client 15, number 8; 0.004 s",
             "2026-01-31T08:00:01.000Z  bob (pid 6)  reset 4  no answer: perhaps carried out; 30.0 s"])
@@ -61,7 +61,7 @@ class Audit(Case):
         self.assertEqual(lines[-1], '? {"time":"2026-01-31T08:0')
 
     def test_who_is_a_principal(self) -> None:
-        """As `resetd-proxy` writes it."""
+        """As written by `resetd-proxy`."""
         line = {**LINES[2], "who": "certificate:service3"}
         with open(self.path, "w", encoding="utf-8") as file:
             file.write(json.dumps(line) + "\n")
@@ -84,7 +84,7 @@ class Audit(Case):
 
 
 class Json(Case):
-    """Each is one line, whatever it says."""
+    """Each answer is one line, whatever it contains."""
 
     def setUp(self) -> None:
         super().setUp()

@@ -40,7 +40,7 @@ class Restored(Case):
         self.assertEqual((status, out, self.epochs()), (0, "a reset in each of 3 groups: all 6 nodes have a new epoch\n", [1] * 6))
 
     def test_the_generation_is_named(self) -> None:
-        """One above that of the count, so that no member of before has a greater fence."""
+        """It is one above that of the count, so that no earlier member has a greater fence."""
         for count, generation in ((0, 1), ((1 << 40) - 1, 1), (1 << 40, 2), ((8_388_607 << 40) - 1, 8_388_607)):
             status, out, _ = self.run_words("--patience", "300", "restored", "--fence", str(count))
             self.assertEqual((status, out.splitlines()[1:]), (0, [

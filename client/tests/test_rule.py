@@ -1,4 +1,4 @@
-"""The rule of a member, by its table: stored and shown values, the due action, and the values to store. Nothing is read or
+"""The rule of a member, as a table: stored and shown values, the due action, and the values to store. Nothing is read or
 written."""
 
 from __future__ import annotations
@@ -14,14 +14,14 @@ from resetd_client.rule import Judged, Kept, judge, shown_to
 
 
 def view_of(*rows: tuple[int, int, int]) -> View:
-    """A view of nodes, each with its epoch and confirmed epoch, in a row of links of steps 1 and so on."""
+    """Returns a view of nodes, each with its epoch and confirmed epoch, in a row whose links were made by steps 1 and so on."""
     nodes = tuple(Node(node, 1, "ready", 0, epoch, confirmed) for node, epoch, confirmed in rows)
     return View.of({"accepted": 9, "settled": 9, "nodes": nodes,
                     "links": [[a.node, b.node, step] for step, (a, b) in enumerate(zip(nodes, nodes[1:]), 1)]})
 
 
 def judged(view: View, kept: Kept = Kept(), history: Container[str] = ()) -> Judged:
-    """The due action for node 1."""
+    """Returns the due action for node 1."""
     row = view.node(1)
     assert row
     return judge(kept, history, shown_to(view, row))
@@ -39,7 +39,7 @@ DIGEST = digest_of(PARTY)
 
 class Table(unittest.TestCase):
     def test_an_epoch_above_the_confirmed_is_begun(self) -> None:
-        """Whatever the epoch was before, and whatever is kept: of that nothing stays."""
+        """It is begun whatever the epoch was before, and whatever is stored. Nothing stored remains."""
         for kept in (Kept(), Kept(4), Kept(5, PARTY), Kept(9, PARTY)):
             for view in (view_of((1, 5, 4), (2, 8, 7)), in_reset(view_of((1, 5, 4), (2, 8, 7)), 2)):
                 self.assertEqual(judged(view, kept, {DIGEST}), Judged(Due.BEGIN, Kept()))
@@ -61,7 +61,7 @@ class Table(unittest.TestCase):
         self.assertEqual(judged(THROUGH, Kept(4), {DIGEST}), Judged(Due.RESET, Kept(4)))
 
     def test_it_talks_on_while_others_go(self) -> None:
-        """By its first party, which is in its history."""
+        """It keeps talking by its first party, which is in its history."""
         first = view_of((1, 4, 4), (2, 7, 7), (3, 1, 1))
         kept = Kept(4, first.party(1))
         for view in (first, THROUGH, view_of((1, 4, 4))):
@@ -80,7 +80,7 @@ class Table(unittest.TestCase):
         self.assertEqual(judged(THROUGH, Kept(4, alone.party(1))).due, Due.RESET)
 
     def test_work_that_is_not_what_is_shown(self) -> None:
-        """None at all; of another epoch; of one that somebody else confirmed."""
+        """There is no work, work of another epoch, or work of an epoch that another client confirmed."""
         for view, begun in ((view_of((1, 0, 0)), None), (THROUGH, None), (THROUGH, 5), (THROUGH, 3), (view_of((1, 6, 6)), 5)):
             for party in (None, PARTY):
                 kept = Kept(begun, party)
@@ -92,7 +92,7 @@ class Tags(unittest.TestCase):
     FIRST, LESS, OTHER = (frozenset(lines) for lines in (("1 4", "10 2", "2 7", "1 2 3"), ("1 4", "2 7", "1 2 3"), ("1 5", "2 8", "1 2 3")))
 
     def test_the_text(self) -> None:
-        """Lines in the order of their bytes, each with a line feed, and the group's word in front."""
+        """Its lines are sorted by their bytes, each with a line feed, after the group's word."""
         text = b"1 2 3\n1 4\n10 2\n2 7\n"
         self.assertEqual(digest_of(self.FIRST), hashlib.sha256(text).hexdigest())
         self.assertEqual(digest_of(self.FIRST, "word"), hashlib.sha256(b"word\n" + text).hexdigest())
@@ -113,7 +113,7 @@ class Tags(unittest.TestCase):
             self.assertEqual((is_same_run(own, other), is_same_run("", other)), (is_same, False))
 
     def test_two_that_refuse_each_other_for_ever(self) -> None:
-        """In two runs, and the same is shown to both."""
+        """They talk in two runs, and both are shown the same party."""
         own = tag_of(self.FIRST, self.LESS)
         for other, parted in ((tag_of(self.LESS, self.LESS), True), (tag_of(self.LESS, self.FIRST), False), (own, False),
                               (tag_of(self.FIRST, self.FIRST), False), ("", False)):

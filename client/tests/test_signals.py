@@ -1,4 +1,4 @@
-"""What wakes a service: lines of a stream, and a file of signals as it grows, is cut and is replaced."""
+"""Wake-ups of a service: lines of a stream, and a file of signals that grows, is truncated and is replaced."""
 
 from __future__ import annotations
 
@@ -23,7 +23,7 @@ class Streams(unittest.TestCase):
         self.stream = Stream(self.reader)
 
     def test_all_that_came_is_one_wake(self) -> None:
-        """However much that is."""
+        """This holds for any number of lines."""
         self.assertEqual(self.stream.wait(0), Wake.QUIET)
         for size in (1, 300_000):
             os.write(self.writer, b"x" * size)

@@ -20,7 +20,7 @@ UNCONFIRMED = view_of((1, 4, 3), (2, 7, 7))
 
 
 class Cut(Exception):
-    """The power is cut here."""
+    """Raised when the power is cut."""
 
 
 class Case(unittest.TestCase):
@@ -38,7 +38,7 @@ class Case(unittest.TestCase):
 
 class Kept(Case):
     def begun(self, epoch: int) -> tuple[Shelf, Starts]:
-        """A start of this epoch, which has not talked."""
+        """Returns a start of this epoch that has not talked."""
         shelf = Shelf(self.path)
         starts = Starts(shelf, 1, None)
         starts.note_begin()
@@ -57,7 +57,7 @@ class Kept(Case):
         self.assertEqual(read(f"{self.folder}/start.history"), f"{DIGEST}\n")
 
     def test_a_party_comes_only_once(self) -> None:
-        """A later start asks for a reset if an earlier one talked with this party: it doesn't talk, and nothing is begun."""
+        """If an earlier start talked with this party, a later one asks for a reset: it doesn't talk, and nothing is begun."""
         shelf, starts = self.begun(4)
         self.due(starts, THROUGH)
         shelf.keep()
@@ -101,7 +101,7 @@ class Kept(Case):
             self.assertRaises(Unreadable, Shelf, self.path)
 
     def test_nothing_is_written_where_nothing_is_due(self) -> None:
-        """A start waits: the stored state is unchanged, though its work is gone meanwhile."""
+        """A waiting start leaves the stored state unchanged, although its work has been lost meanwhile."""
         self.begun(4)
         before = read(self.path)
         shelf = Shelf(self.path)
@@ -110,7 +110,7 @@ class Kept(Case):
         self.assertEqual(read(self.path), before)
 
     def test_the_history_grows_by_each_party(self) -> None:
-        """Also by one process."""
+        """Several parties of one process are added too."""
         shelf, _ = self.begun(4)
         digests = [f"{number:064}" for number in range(3)]
         for digest in digests:
@@ -127,7 +127,7 @@ class Kept(Case):
         self.assertEqual(starts.tag(THROUGH, "w"), f"{digest_of(first.party(1), 'w')[:32]}-{digest_of(PARTY, 'w')[:32]}")
 
     def test_work_that_is_not_that_of_the_start(self) -> None:
-        """None, of another epoch, or of a begin that was not kept."""
+        """There is no work, or it is of another epoch, or of a begin that was not stored."""
         self.begun(4)
         for work in (None, 3, 5):
             self.assertEqual(self.due(Starts(Shelf(self.path), 1, work), THROUGH), Due.RESET)
@@ -135,7 +135,7 @@ class Kept(Case):
         self.assertEqual(self.due(Starts(Shelf(f"{self.folder}/none.json"), 1, 4), THROUGH), Due.RESET)
 
     def test_what_a_gateway_tells_again_is_written(self) -> None:
-        """Also if nothing else changes."""
+        """It is written even if nothing else changes."""
         shelf = Shelf(self.path)
         for told in ("1 1\n", "1 2\n"):
             Starts(shelf, 1, None).note_begin(told)
@@ -163,10 +163,10 @@ class Kept(Case):
 
 
 class Cuts(Case):
-    """The power is cut at each call that puts something on the disk."""
+    """The power is cut at each call that writes something to the disk."""
 
     def steps(self, cut: int) -> Callable[..., mock.Mock]:
-        """Calls that pass until one of this number is cut."""
+        """Counts the calls until the one that is cut."""
         self.left = cut
 
         def made(call: Callable[..., object]) -> mock.Mock:
@@ -179,7 +179,7 @@ class Cuts(Case):
         return made
 
     def test_no_party_without_its_history(self) -> None:
-        """At a first talk: either no party is kept, or its digest is in the history."""
+        """At a first talk, either no party is stored, or its digest is in the history."""
         outcomes = set()
         for cut in range(20):
             folder = tempfile.mkdtemp(dir=self.folder)
@@ -203,7 +203,7 @@ class Cuts(Case):
         self.assertIn((False, True), outcomes)
 
     def test_a_line_that_was_torn(self) -> None:
-        """A torn line is skipped, and the next one takes its place; a whole one that does not read is reported."""
+        """A torn line is skipped, and the next one overwrites it. A complete line that can't be parsed is reported."""
         path = f"{self.folder}/a.history"
         lines = [digest_of(frozenset({str(place)})) for place in range(3)]
         for torn in ("", lines[1][:20], lines[1], "\0" * 200):
@@ -228,7 +228,7 @@ class Cuts(Case):
         self.assertEqual((read(f"{self.folder}/a.history"), DIGEST in history), (f"{DIGEST}\n", True))
 
     def test_a_new_history_stands_in_its_folder(self) -> None:
-        """The folder is synced, once, before anything rests on the file."""
+        """The folder is synced once, before anything depends on the file."""
         history = History(f"{self.folder}/a.history")
         for digest, syncs in ((DIGEST, (2, 0)), (digest_of(frozenset({"1 9"})), (0, 1))):
             history.add(digest)
@@ -246,8 +246,8 @@ class Fences(Case):
         return starts
 
     def test_it_is_of_the_look_in_which_the_party_was_fixed(self) -> None:
-        """It does not depend on later looks, or on a new process; and there is one name for all members of a run, by the group's
-        word."""
+        """It does not depend on later looks or on a new process. All members of a run have the same name for it, which includes
+        the group's word."""
         starts = self.begun()
         self.assertIsNone(starts.fence())
         self.due(starts, THROUGH)
@@ -266,7 +266,7 @@ class Fences(Case):
         self.assertEqual((earlier.fence(), self.due(earlier, THROUGH)), (None, Due.TALK))
 
     def test_two_that_were_alone_differ(self) -> None:
-        """Though the party is the same: a node that was removed and added again."""
+        """They differ although the party is the same, after a node was removed and added again."""
         fences = []
         for settled in (9, 20):
             starts = Starts(Shelf(f"{self.folder}/{settled}.json"), 1, None)
@@ -277,7 +277,7 @@ class Fences(Case):
         self.assertEqual(fences, [Fence(settled, tag, frozenset({1})) for settled, tag in zip((9, 20), tags)])
 
     def test_what_a_resource_accepts(self) -> None:
-        """The same run, if it is above the floor; and any later one."""
+        """It accepts the same run if the count is above the floor, and any later run."""
         fence = Fence(12, "a", frozenset())
         for kept, passes in (((0, 0, ""), True), ((0, 12, "a"), True), ((11, 30, "a"), True), ((12, 30, "a"), False), ((0, 11, "b"), True),
                              ((0, 12, "b"), False)):
@@ -295,15 +295,15 @@ class Fences(Case):
 
 
 class Versions(Case):
-    """Files of the version before this one, and of one that comes later."""
+    """Files of the previous version, and of a later one."""
 
     def test_a_start_that_had_not_talked_goes_on(self) -> None:
-        """The file is replaced, and that is on the disk: an earlier text that says "begun, no party" must not come back once the
-        start has talked."""
+        """The file is replaced and synced: an earlier text that says "begun, no party" must not return once the start has
+        talked."""
         keep(self.path, '{"1": {"begun": 4, "party": null}}\n')
         with mock.patch("os.fsync", side_effect=os.fsync) as synced:
             starts = Starts(Shelf(self.path), 1, 4)
-        self.assertEqual((synced.call_count, json.loads(read(self.path) or "")["1"]["loaded"]), (3, 4))  # the text, and its folder twice
+        self.assertEqual((synced.call_count, json.loads(read(self.path) or "")["1"]["loaded"]), (3, 4))  # the text, and twice its folder
         self.assertEqual(self.due(starts, THROUGH), Due.TALK)
 
     def test_a_start_that_talked_goes_on(self) -> None:
@@ -312,7 +312,8 @@ class Versions(Case):
         self.assertEqual(self.due(Starts(Shelf(self.path), 1, 4), THROUGH), Due.TALK)
 
     def test_what_the_version_before_reads_of_this_one(self) -> None:
-        """A start that has not talked reads as nothing begun there, so that a downgrade costs one reset; one that talked goes on."""
+        """It reads a start that has not talked as nothing begun, so a downgrade costs one reset. A start that has talked
+        continues."""
         starts = Starts(Shelf(self.path), 1, None)
         starts.note_begun(4)
         starts._shelf.keep()
@@ -329,7 +330,7 @@ class Versions(Case):
             Shelf(self.path)
 
     def test_what_was_read_is_synced_before_it_counts(self) -> None:
-        """Both files and the folder, also if a file does not exist: it may have been removed and come back."""
+        """Both files and the folder are synced, even if a file is missing: it may have been removed and may return."""
         both: tuple[list[str], ...] = ([], ["start.json", "start.history"])
         for names in both:
             for name in names:
@@ -350,7 +351,7 @@ class Written(Case):
     """Which files are synced, and which are only written."""
 
     def test_nothing_begun_is_on_the_disk_where_it_has_to_be(self) -> None:
-        """Also if it was written before, and not synced."""
+        """It is synced even if it was written before without a sync."""
         shelf = Shelf(self.path)
         starts = Starts(shelf, 1, None)
         starts.note_begun(4)
@@ -376,7 +377,8 @@ class Written(Case):
         self.assertFalse(shelf.may_say_begun(0))
 
     def test_a_party_that_was_foreseen(self) -> None:
-        """It is in the history before the start talks, which then waits for no disk; and another start does not talk by it."""
+        """It is in the history before the start talks, so the start does not wait for the disk. Another start does not talk by
+        it."""
         shelf = Shelf(self.path)
         starts = Starts(shelf, 1, None)
         starts.note_begun(4)
@@ -384,7 +386,7 @@ class Written(Case):
         shelf.write()
         shelf.keep()
         self.assertEqual(read(f"{self.folder}/start.history"), f"{DIGEST}\n")
-        again = Starts(Shelf(self.path), 1, 4)  # a new process, in the same boot
+        again = Starts(Shelf(self.path), 1, 4)  # a new process in the same boot
         with mock.patch("os.fdatasync") as synced, mock.patch("os.fsync") as whole:
             self.assertEqual(self.due(again, THROUGH), Due.TALK)
             again._shelf.keep()
@@ -394,7 +396,7 @@ class Written(Case):
         self.assertEqual(self.due(again, THROUGH), Due.RESET)
 
     def test_that_it_is_begun_counts_in_one_boot(self) -> None:
-        """Until its start has talked."""
+        """It counts until the start has talked."""
         shelf = Shelf(self.path)
         starts = Starts(shelf, 1, None)
         starts.note_begun(4)
@@ -407,7 +409,7 @@ class Written(Case):
             self.assertEqual(Shelf(self.path).get(1).begun, 4)
 
     def test_what_is_not_foreseen(self) -> None:
-        """A party during a reset, of a node that is alone, and of another epoch than the start's."""
+        """A party during a reset, of a node that is alone, and of another epoch than the start's is not foreseen."""
         shelf = Shelf(self.path)
         starts = Starts(shelf, 1, None)
         starts.note_begun(4)
@@ -428,7 +430,7 @@ class Written(Case):
 
 
 class Earlier(Case):
-    """The file of an earlier version, which had the greatest epoch and the party of that start."""
+    """The file of an earlier version, which has the greatest epoch and the party of that start."""
 
     def of(self, epoch: int, party: View | None) -> Starts:
         keep(self.path, json.dumps({"1": {"epoch": epoch, "party": sorted(party.party(1)) if party else None}}) + "\n")
@@ -444,12 +446,12 @@ class Earlier(Case):
         self.assertEqual(self.due(self.of(3, view_of((1, 3, 3), (2, 6, 6))), UNCONFIRMED), Due.BEGIN)
 
     def test_the_epoch_that_it_knows_is_not_begun_again(self) -> None:
-        """Without a reset: though nobody has confirmed it, and others are connected."""
+        """It asks for no reset, although nobody has confirmed the epoch and others are connected."""
         other = view_of((1, 4, 3), (9, 7, 7))
         self.assertEqual([self.due(self.of(4, THROUGH), other), self.due(self.of(3, THROUGH), other)], [Due.RESET, Due.BEGIN])
 
     def test_its_party_does_not_come_again(self) -> None:
-        """And by no other start of this version."""
+        """No other start of this version talks with it either."""
         for starts in (self.of(3, THROUGH), Starts(Shelf(self.path), 1, None)):
             self.assertEqual(self.due(starts, UNCONFIRMED), Due.RESET)
 
@@ -463,7 +465,7 @@ class Earlier(Case):
         self.assertEqual(read(f"{self.folder}/start.history"), None)
 
     def test_what_it_knew_counts_no_more_once_a_greater_epoch_is_shown(self) -> None:
-        """Though the store goes back after that."""
+        """This holds although the store goes back after that."""
         starts = self.of(6, view_of((1, 6, 6), (2, 6, 6)))
         self.assertEqual([self.due(starts, view) for view in (view_of((1, 7, 6), (2, 7, 7)), UNCONFIRMED)], [Due.BEGIN, Due.BEGIN])
 

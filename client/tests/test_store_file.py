@@ -1,4 +1,4 @@
-"""What a store's file reads as, by its format and beside the program."""
+"""Reading a store's file: by its format, and compared with the program."""
 
 from __future__ import annotations
 
@@ -82,10 +82,10 @@ class Formats(unittest.TestCase):
 
 
 class Moments(unittest.TestCase):
-    """A store that is read while it is written reads as it stood at one moment of the reading."""
+    """A store that is read while it is written reads as it was at one moment of the reading."""
 
     def attempt(self, seed: int, most_checkpoints: int) -> bool:
-        """One journal and one pass over it. Whether the pass was good."""
+        """Makes one journal and one pass over it. Returns whether the pass was good."""
         choice = random.Random(seed)
         journal = Journal(choice, choice.choice([40, 60, 90, 200]), 40)
         start = choice.randrange(len(journal.states) // 2)
@@ -116,7 +116,7 @@ class Moments(unittest.TestCase):
 
 @unittest.skipUnless(PROGRAM, "RESETD names no program to compare with")
 class BesideTheProgram(unittest.TestCase):
-    """The program and this reader find the same fault of a damaged store."""
+    """The program and this reader find the same fault in a damaged store."""
 
     BY_BYTES = ("NoMagic", "BadRecord", "BadSnapshot", "BadBatch")
 
@@ -155,7 +155,7 @@ class BesideTheProgram(unittest.TestCase):
 
 
 def served_stores() -> list[bytes]:
-    """Stores that the program has made: with links, resets on their way, sessions, and a checkpoint."""
+    """Yields stores that the program has made: with links, resets in progress, sessions, and a checkpoint."""
     stores = []
     with tempfile.TemporaryDirectory() as folder:
         for name, lines in (("ring", 0), ("used", 900)):

@@ -1,4 +1,4 @@
-"""Several threads at one `Orders`: each gets the answers to its own orders, and each order is carried out once."""
+"""Several threads that share one `Orders`: each gets the answers to its own orders, and each order is carried out once."""
 
 from __future__ import annotations
 
@@ -12,11 +12,11 @@ from resetd_client.answers import CARRIED_OUT
 from resetd_client.port import Request
 
 ROUNDS = 40
-SECONDS = 120.0  # in which all of a test's threads end, on any machine
+SECONDS = 120.0  # seconds in which all threads of a test end, on any machine
 
 
 class Held(Port):
-    """A port that waits for a word before it asks."""
+    """A port that sends requests only once the test allows it."""
 
     def __init__(self, address: str) -> None:
         super().__init__(address, 10)
@@ -36,7 +36,7 @@ class Threads(Case):
         self.book.recover()
 
     def in_threads(self, *calls: Callable[[], object]) -> None:
-        """Makes calls at once, each in its own thread, and raises an exception of one of them."""
+        """Makes calls at the same time, each in its own thread, and raises the exception of one of them."""
         raised: list[BaseException] = []
 
         def caller(call: Callable[[], object]) -> None:
@@ -55,7 +55,7 @@ class Threads(Case):
             raise fault
 
     def test_each_gets_its_own_answers(self) -> None:
-        """A confirm of epoch 0 is always refused, an addition never, a removal of a node that is not there always."""
+        """A confirm of epoch 0 is always refused, an addition never, and the removal of a missing node always."""
         def confirm() -> None:
             for _ in range(ROUNDS):
                 with self.assertRaises(Refused) as caught:
@@ -86,7 +86,7 @@ class Threads(Case):
         self.assertEqual((len(self.server.nodes), self.server.last(1)), (62, 60))
 
     def test_one_without_an_answer_goes_on_behind_what_another_ordered(self) -> None:
-        """Be it carried out or not: its own thread calls again, and it is carried out once."""
+        """Whether it was carried out or not, its own thread calls again, and it is carried out once."""
         for node, fault in ((3, "mute"), (4, "lose")):
             self.server.faults = [fault]
             self.assertRaises(Away, self.book.order, "add", node=node, group=1)
@@ -99,7 +99,7 @@ class Threads(Case):
 
     def test_several_of_which_the_first_alone_was_answered(self) -> None:
         wanted = [{"op": "add", "node": node, "group": 1} for node in (3, 4, 5)]
-        self.book.order("reset", node=1)  # so that they go out together
+        self.book.order("reset", node=1)  # so that they are sent together
         self.server.await_settled()
         self.server.faults = ["", "mute", "lose"]
         self.assertRaises(Away, self.book.order_all, wanted)
@@ -116,7 +116,7 @@ class Threads(Case):
         self.assertTrue(port.is_asked.wait(SECONDS))
         closer = threading.Thread(target=book.close, daemon=True)
         closer.start()
-        closer.join(0.5)  # never long enough for it, since the other thread holds on
+        closer.join(0.5)  # never long enough for it, because the other thread holds the lock
         self.assertTrue(closer.is_alive(), "the folder was let go in the midst of an order")
         port.may_ask.set()
         for thread in (asker, closer):

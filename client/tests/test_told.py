@@ -1,4 +1,5 @@
-"""The library's messages for a person: to the logger, or to a function that a caller passes; and the page that `help` begins with."""
+"""The library's messages for a person, to the logger or to a function that a caller passes; and the page that `help` begins
+with."""
 
 from __future__ import annotations
 
@@ -7,7 +8,7 @@ import re
 import unittest
 from contextlib import redirect_stderr
 
-from case import Case  # first: it says where the library is
+from case import Case  # first: it adds the library to the path
 
 import resetd_client
 from resetd_client import Away, Orders
@@ -15,7 +16,7 @@ from resetd_client import Away, Orders
 
 class Told(Case):
     def overtaken(self, orders: Orders) -> None:
-        """Has an order refused that had no answer, which is reported to a person."""
+        """Makes an order without an answer be refused, which is reported to a person."""
         self.server.faults = ["lose"]
         self.assertRaises(Away, orders.order, "remove", node=2)
         orders.order("reset", node=1)

@@ -54,7 +54,7 @@ class Topologies(unittest.TestCase):
         self.assertEqual(now.links, want.links)
 
     def test_what_a_network_may_have(self) -> None:
-        """As much as the program takes, and not one more."""
+        """A network at the program's limits is accepted, and one beyond them is refused."""
         def written(groups: dict[int, int], links: list[tuple[int, int]]) -> bytes:
             return ("".join(f"[[node]]\nid = {node}\ngroup = {group}\n" for node, group in groups.items()) +
                     "".join(f"[[link]]\na = {a}\nb = {b}\n" for a, b in links)).encode()

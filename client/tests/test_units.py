@@ -1,4 +1,4 @@
-"""The files for a person on call beside the program: units, the rotation of the file of signals, alert rules."""
+"""The files shipped for operation: units, the rotation of the file of signals, alert rules."""
 
 from __future__ import annotations
 
@@ -15,7 +15,7 @@ from resetd_client import View
 from resetd_client.health import metrics
 
 EXAMPLES = os.path.join(ROOT, "examples")
-# What the rules are to say of ten minutes of metrics: each alert fires in its own case, and none in the last ones.
+# The alerts that the rules should raise for ten minutes of metrics: each alert fires in its own case, and none in the last cases.
 CASES: tuple[tuple[str | None, dict[str, str]], ...] = (
     ("ResetdAbsent", {}),
     ("ResetdAbsent", {"resetd_up": "0x10"}),
@@ -96,7 +96,7 @@ class Units(unittest.TestCase):
         self.assertEqual(proxy["Sockets"].split(), ["resetd-proxy-order.socket", "resetd-proxy-look.socket"])
 
     def test_the_folder_of_signals_is_roots(self) -> None:
-        """The manager opens the file there as root: whoever owns the folder could lead it to any other file."""
+        """The manager opens the file as root: the owner of the folder could otherwise redirect it to any other file."""
         for name in ("examples/resetd.service", "docs/OPERATING.md", "docs/TAKEOVER.md", "tools/deb"):
             with open(os.path.join(ROOT, name), encoding="utf-8") as file:
                 made = re.findall(r"^.*install -d.*/var/log/resetd.*$", file.read(), re.MULTILINE)
@@ -120,7 +120,7 @@ class Units(unittest.TestCase):
 
     @unittest.skipUnless(shutil.which("logrotate"), "it needs logrotate: nothing is rotated")
     def test_the_file_of_signals_is_rotated(self) -> None:
-        """In place, as the server keeps it open; the lines are in the file before."""
+        """It is truncated in place, because the server keeps it open; the lines are in the previous file."""
         signals = os.path.join(self.folder, "signals")
         with open(os.path.join(self.folder, "conf"), "w", encoding="utf-8") as file:
             file.write(shipped("resetd.logrotate").replace("/var/log/resetd/signals", signals).replace("su resetd resetd\n", "\n"))
@@ -142,7 +142,7 @@ class Units(unittest.TestCase):
 
     @unittest.skipUnless(shutil.which("logrotate"), "it needs logrotate: nothing is rotated")
     def test_the_audit_is_rotated(self) -> None:
-        """By its name: the front opens it again when it is signalled, the proxy by itself."""
+        """It is renamed: the front opens it again when it is signalled, the proxy does so by itself."""
         audit, told = (os.path.join(self.folder, name) for name in ("audit", "told"))
         text = shipped("resetd.logrotate").replace("/var/log/resetd-front/audit", audit).replace("su resetd resetd\n", "\n")
         proxys = os.path.join(self.folder, "proxy", "audit")
@@ -189,8 +189,8 @@ class Alerts(unittest.TestCase):
 
 
 def case_of(names: list[str], fires: str | None, series: dict[str, str]) -> str:
-    """A test for promtool: ten minutes of these series, and in the tenth which alert fires, if any. Annotations are not
-    compared, so the labels of an alert are counted by an expression."""
+    """Returns a test for promtool: ten minutes of these series, and the alert that fires in the tenth, if any. Annotations are
+    not compared, so the labels of an alert are counted by an expression."""
     rows = "".join(f"      - series: '{name}'\n        values: '{values}'\n" for name, values in series.items()) or (
         "      - series: 'other'\n        values: '1x10'\n")
     fired = "[{labels: '{}', value: 1}]"

@@ -1,4 +1,4 @@
-"""What of two neighbouring versions works together: each row of the table of docs/DEPLOYING.md, "Upgrading", has a test."""
+"""Which parts of two neighbouring versions work together: each row of the table in docs/DEPLOYING.md, "Upgrading", has a test."""
 
 from __future__ import annotations
 
@@ -9,7 +9,7 @@ import unittest
 from case import ROOT, Case
 from resetd_client import Gateway, keep
 
-# The first two columns of a row, and the tests of it: a file, and the names in it.
+# The first two columns of a row, and its tests: a file, and the names in it.
 ROWS = {
     ("server, front", "library"): ("client/tests_front/test_orders.py", "test_the_library_orders_through_it"),
     ("library", "server, front"): ("client/tests/test_at_front.py", "test_a_front_of_an_earlier_version"),
@@ -23,7 +23,7 @@ ROWS = {
     ("server 0.9.0 and later", "store of version 1 or 2"): (
         "tests/test_stores.py", "test_a_store_of_version_1", "test_one_of_version_2_in_a_reset_is_migrated"),
 }
-# Rows about programs that are in no test: they were tried when those were current.
+# Rows about programs that no test runs: they were tried when those programs were current.
 OF_EARLIER_PROGRAMS = {("tags since 0.16", "tags before 0.16"), ("server before 0.9.0", "store of version 2")}
 
 
@@ -44,7 +44,8 @@ class Table(unittest.TestCase):
 
 class Gateways(Case):
     def test_a_gateway_whose_members_are_of_before(self) -> None:
-        """They read the files that an earlier gateway wrote for each: these are taken away, and that is said in one line."""
+        """They read the files that an earlier gateway wrote for each member. These are removed, and that is reported in one
+        line."""
         self.server.ring(2)
         for node in (1, 2):
             os.makedirs(f"{self.folder}/members/{node}")

@@ -1,4 +1,4 @@
-"""One version stands everywhere."""
+"""The same version is named everywhere."""
 
 from __future__ import annotations
 

@@ -39,7 +39,7 @@ class Views(Case):
 
 class Parts(unittest.TestCase):
     def test_who_is_connected(self) -> None:
-        """Over random links, as following them one by one says; links name nodes that are not there too."""
+        """Random links give the same parts as following them one by one. Links may name nodes that do not exist."""
         chance = random.Random(7)
         for _ in range(200):
             nodes = sorted(chance.sample(range(1, 65), chance.randrange(1, 20)))
@@ -58,7 +58,7 @@ class Parts(unittest.TestCase):
             self.assertEqual((view.part(64 if 64 not in nodes else 99), view.party(99)), (Part(), frozenset()))
 
     def test_many_members_ask_a_view_once(self) -> None:
-        """The due actions at 64 nodes cost the calls of a few, since the common parts are computed once."""
+        """The due actions at 64 nodes need as many calls as those at a few, because common parts are computed once."""
         links = tuple(Link(node, (node + far - 1) % 64 + 1, far) for node in range(1, 65) for far in (1, 2))
         view = View(9, 9, tuple(Node(node, 1, "ready", 0, 2, 2) for node in range(1, 65)), links)
         calls = 0

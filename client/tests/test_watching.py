@@ -11,7 +11,7 @@ from pushing import of_unix
 from resetd_client import (
     Away, BadWords, Clock, Faulted, Follower, Garbled, Member, Port, Wake, Watched, views, wakes_of)
 
-SECONDS = 60.0  # for what happens in milliseconds
+SECONDS = 60.0  # for events that take milliseconds
 
 
 class Told(Case):
@@ -26,7 +26,7 @@ class Told(Case):
         self.addCleanup(self.watched.close)
 
     def test_it_wakes_at_once_and_at_each_change(self) -> None:
-        """And not when the same view comes again."""
+        """It does not wake when the same view is pushed again."""
         self.assertIs(self.watched.wait(SECONDS), Wake.CAME)
         self.front.push()
         self.assertIs(self.watched.wait(0.3), Wake.QUIET)
@@ -109,7 +109,7 @@ class Told(Case):
         self.assertIsInstance(wakes_of(self.port), Watched)
 
     def test_a_member_is_told(self) -> None:
-        """Of a reset that comes in while it looks only once an hour."""
+        """It learns of a reset at once, although it looks only once an hour."""
         begun: list[int] = []
         is_begun = threading.Condition()
 
@@ -135,7 +135,7 @@ class Told(Case):
         self.assertFalse(following.is_alive())
 
     def test_resetctl_watch(self) -> None:
-        """A member looks when the front reports a change, and not at intervals."""
+        """It looks when the front reports a change, and not at intervals."""
         pictures: list[str] = []
 
         def note(picture: list[str]) -> None:

@@ -35,7 +35,7 @@ class Files(Case):
         return path
 
     def move_to_all(self) -> None:
-        """The folder is where every user may come: TMPDIR may be this user's alone."""
+        """Makes the folder accessible to every user: TMPDIR may belong to this user alone."""
         folder = tempfile.TemporaryDirectory(dir="/tmp")
         self.addCleanup(folder.cleanup)
         self.folder = folder.name
@@ -98,7 +98,7 @@ class Files(Case):
 
     @unittest.skipUnless(os.geteuid() == 0, "it needs root: it acts as another user")
     def test_the_user_of_the_server(self) -> None:
-        """Root sees the faults of that user: by default the owner of the folder."""
+        """Root sees the faults for that user, which is by default the owner of the folder."""
         self.move_to_all()
         store = self.put(FRESH)
         os.chmod(store, 0o600)
@@ -118,7 +118,7 @@ class Files(Case):
 
     @unittest.skipUnless(os.geteuid() == 0, "it needs root: it acts as another user")
     def test_a_folder_of_a_lost_machine(self) -> None:
-        """Its owner has no name here, which is reported; whoever may open the file as that number, may."""
+        """The owner has no name here, which is reported. A process with that number may still open the file."""
         self.move_to_all()
         store = self.put(FRESH)
         for path in (store, self.folder):
@@ -129,14 +129,14 @@ class Files(Case):
         self.assertEqual(self.why("--user", "nobody", store)[0], 1)
 
     def test_who_can_not_try(self) -> None:
-        """Only root can act as another user. An untried check is not reported as passed."""
+        """Only root can act as another user. A check that was not made is not reported as passed."""
         store = self.put(FRESH)
         with mock.patch("resetd_client.access.os.geteuid", return_value=12_345):
             status, lines = self.why("--user", "54321", store)
         self.assertEqual((status, lines[-1]), (0, "nothing found here prevents a start; not checked: whether 54321 may open it"))
 
     def test_a_disk_that_hangs(self) -> None:
-        """A sync that does not come back holds nothing up here."""
+        """A sync that never returns blocks nothing here."""
         with mock.patch("resetd_client.access.os.fdatasync", lambda _: time.sleep(3_600)):
             trial = tried_as(account_of(os.geteuid()), self.put(FRESH), 1.0)
         self.assertEqual(trial, Trial("", None))
@@ -158,7 +158,7 @@ class Files(Case):
             self.assertTrue(lines[-1].startswith(f"a start now would end with {name}: address: "), lines)
 
     def test_for_whom_a_group_waits(self) -> None:
-        """By name, since when, and with the last sign of life; all are through, and nothing is said."""
+        """The members are named, with the time since when and the last sign of life. If all are through, nothing is reported."""
         self.server.ring(3)
         store = self.put(FRESH)
         quiet = self.why(store, self.server.address)[1]
@@ -188,7 +188,7 @@ class Files(Case):
 
 
 class Conditions(unittest.TestCase):
-    """What keeps a process from its work."""
+    """The reasons why a process makes no progress."""
 
     def started(self, *words: str) -> int:
         process = subprocess.Popen([sys.executable, "-c", *words], stdout=subprocess.PIPE)
@@ -222,7 +222,7 @@ class Conditions(unittest.TestCase):
 
 
 class Connections(unittest.TestCase):
-    """Who has the one connection of a server."""
+    """Which client has a server's only connection."""
 
     def test_the_one_that_is_served_and_those_that_wait(self) -> None:
         with socket.create_server(("127.0.0.1", 0)) as server:
@@ -269,7 +269,7 @@ class Networks(unittest.TestCase):
 
 
 class BesideTheProgram(Case):
-    """The word that it foretells is the one of the program."""
+    """The predicted fault is the one that the program reports."""
 
     is_real = True
 
@@ -279,7 +279,7 @@ class BesideTheProgram(Case):
         return told[0].split()[6].rstrip(":") if told else ""
 
     def ended(self, path: str, address: str) -> str:
-        """The fault with which a start ends; nothing if it listens."""
+        """Returns the fault with which a start ends, or nothing if the server listens."""
         with subprocess.Popen([PROGRAM, "serve", path, address], stdout=subprocess.PIPE, stderr=subprocess.PIPE,
                               encoding="utf-8") as process:
             assert process.stdout and process.stderr
@@ -297,7 +297,7 @@ class BesideTheProgram(Case):
                            ("later", FRESH[:17] + b"\3" + FRESH[18:]), ("batch", APPENDED[:48] + b"\7" + APPENDED[49:])):
             with open(f"{self.folder}/{name}", "wb") as file:
                 file.write(data)
-        # bound, so that nobody else gets it, and not listened at
+        # bound, so that nobody else gets it, but not listening
         held = self.enterContext(socket.socket())
         held.setsockopt(socket.SOL_SOCKET, socket.SO_REUSEADDR, 1)
         held.bind(("127.0.0.1", 0))
@@ -318,7 +318,7 @@ class BesideTheProgram(Case):
         self.assertNotIn("that is not the store on this file", out)
 
     def test_which_program_it_runs(self) -> None:
-        """One that was replaced under a server is reported."""
+        """A program that was replaced while the server runs is reported."""
         assert isinstance(self.server, Real)
         program = f"{self.folder}/resetd"
         shutil.copy(PROGRAM, program)
@@ -337,7 +337,7 @@ class BesideTheProgram(Case):
         host, port = self.server.behind.split(":")
         with socket.create_connection((host, int(port))) as client:
             client.sendall(b'{"op":"show"}\n')
-            self.assertTrue(client.recv(1))  # it is this one that is served
+            self.assertTrue(client.recv(1))  # this client is the one that is served
             lines = self.run_words("why", self.server.store, self.server.behind)[1].splitlines()
         keeps = "a running server will meet a client that keeps the one connection: client: process "
         self.assertTrue(any(line.startswith(f"{keeps}{os.getpid()} (") for line in lines), lines)
@@ -356,13 +356,13 @@ class BesideTheProgram(Case):
         self.expect_the_reader_told(*os.pipe())
 
     def test_a_fifo_that_nobody_reads(self) -> None:
-        """A pipe with a name, which its reader has opened for both, as a shell's `<>` does."""
+        """The reader of a named pipe has opened it for reading and writing, like a shell's `<>`."""
         os.mkfifo(f"{self.folder}/fifo")
         reader = os.open(f"{self.folder}/fifo", os.O_RDWR)
         self.expect_the_reader_told(reader, os.open(f"{self.folder}/fifo", os.O_WRONLY))
 
     def expect_the_reader_told(self, reader: int, writer: int) -> None:
-        """The process that has the pipe is named, and once it is full that is the finding for a running server."""
+        """The process that has the pipe is named, and once the pipe is full that is a finding about the running server."""
         self.addCleanup(os.close, reader)
         fcntl.fcntl(writer, fcntl.F_SETPIPE_SZ, 4_096)
         assert isinstance(self.server, Real)

@@ -1,4 +1,4 @@
-"""A port that answers lines, one connection after the other, and fails in the ways that a test asks for."""
+"""A port that answers lines, one connection after another, and fails in the ways that a test asks for."""
 
 from __future__ import annotations
 
@@ -8,13 +8,13 @@ import threading
 from typing import IO, Any
 
 MOST_BYTES = 512
-SOMEBODY = 15  # the client of orders that a test has made by somebody else
+SOMEBODY = 15  # the client of the orders that a test makes in somebody else's place
 
 
 class Wire:
-    """Serves on its own port. `faults` say how the next lines fail: `lose` (nothing of it happens, and no answer comes), `mute`
-    (it happens, and no answer comes), `` (no fault), or a text to be answered instead. `seen` are the received requests;
-    `lines_each` is how many lines of one connection are answered."""
+    """Serves on its own port. `faults` determine how the next lines fail: `lose` (the line is dropped, without an answer),
+    `mute` (the line is carried out, without an answer), `` (no fault), or a text to be sent as the answer. `seen` are the
+    received requests; `lines_each` is the number of lines answered in one connection."""
 
     def __init__(self) -> None:
         self.is_stopped, self.lines_each = False, 1 << 30
@@ -26,11 +26,11 @@ class Wire:
         threading.Thread(target=self._serve, daemon=True).start()
 
     def respond(self, line: bytes) -> str:
-        """The answer to a line, without its line feed."""
+        """Returns the answer to a line, without its line feed."""
         raise NotImplementedError
 
     def by_somebody(self, op: str, **members: int) -> None:
-        """An order that somebody else has made, without the faults of a test."""
+        """Gives an order in somebody else's place, without the faults of a test."""
         request = {"op": op, "client": SOMEBODY, "number": self.last(SOMEBODY) + 1, **members}
         answer: dict[str, Any] = json.loads(self.respond(json.dumps(request).encode() + b"\n"))
         if "kind" not in answer:
@@ -38,15 +38,15 @@ class Wire:
         self.await_settled()
 
     def last(self, client: int) -> int:
-        """The number of a client's last order."""
+        """Returns the number of a client's last order."""
         raise NotImplementedError
 
     def await_settled(self) -> Any:
-        """Waits until no reset is at any node."""
+        """Waits until no node is in a reset."""
         raise NotImplementedError
 
     def close(self) -> None:
-        # a thread that accepts keeps the socket open: it is woken first
+        # a thread in `accept` keeps the socket open, so it is woken first
         self._listener.shutdown(socket.SHUT_RDWR)
         self._listener.close()
 

@@ -69,7 +69,7 @@ def main() -> None:
         print("kill the server", flush=True)
         until("that the server is away", lambda: "is away" in driver.execute_script(state))
         print("start the server", flush=True)
-        until("that it is back", lambda: "steps on the disk" in driver.execute_script(state))
+        until("that it is back", lambda: "steps on disk" in driver.execute_script(state))
     finally:
         driver.quit()
 

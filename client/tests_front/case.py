@@ -8,7 +8,6 @@ from __future__ import annotations
 import fcntl
 import json
 import os
-import pwd
 import signal
 import socket
 import struct
@@ -26,11 +25,10 @@ HERE = os.path.dirname(os.path.abspath(__file__))
 CLIENT = os.path.dirname(HERE)
 ROOT = os.path.dirname(CLIENT)
 sys.path.insert(0, CLIENT)
+from door import DOOR, OPS, PROXY, USER  # noqa: E402
 
+__all__ = ["CLIENT", "DEADLINE", "DOOR", "OPS", "PROGRAM", "PROXY", "ROOT", "USER", "Case", "Client", "Front", "Server", "ring", "unix", "unread", "until"]
 PROGRAM = os.path.abspath(os.environ["RESETD"]) if os.environ.get("RESETD") else ""
-PROXY = os.path.abspath(os.environ["RESETD_PROXY"]) if os.environ.get("RESETD_PROXY") else ""  # tried in the place of the front
-USER = pwd.getpwuid(os.getuid()).pw_name
-OPS = ["add", "remove", "join", "drop", "reset", "confirm", "show", "watch", "resend", "close"]
 DEADLINE = 120.0  # seconds, which only a hang takes
 T = TypeVar("T")
 
@@ -118,15 +116,8 @@ class Front:
 
     def __init__(self, folder: str, address: str, *words: str, before: tuple[str, ...] = (), python: str = sys.executable) -> None:
         self.folder = folder
-        self.path, self.audit, self.errors = f"{folder}/front.socket", f"{folder}/audit", f"{folder}/front.errors"
-        if PROXY:
-            program = [PROXY, "serve", "--listen", f"{USER}={self.path}"]
-            if "--policy" not in words:
-                with open(f"{folder}/everything.toml", "w", encoding="ascii") as file:
-                    file.write(f"[[allow]]\nprincipals = ['{USER}']\nops = {OPS}\n")
-                program += ["--policy", f"{folder}/everything.toml"]
-        else:
-            program = [python, f"{CLIENT}/resetd-front", "serve", "--socket", self.path, "--state", f"{folder}/front", "--audit", self.audit]
+        self.path, self.audit, self.errors = DOOR.path(folder), f"{folder}/audit", f"{folder}/front.errors"
+        program = DOOR.command(folder, words, python)
         usual = {"--patience": "600", "--stuck": "600", "--server-silent": "600"}
         self._words = [*before, *program, "--server", address,
                        *(word for flag, value in usual.items() if flag not in words for word in (flag, value)), *words]
@@ -141,7 +132,7 @@ class Front:
         def began() -> bool:
             if self.has_ended():
                 raise AssertionError(f"the front ended: {self.said()}")
-            return (f"listening {USER}" if PROXY else "listening unix:") in self.said(begin) and self.listens(begin)
+            return DOOR.listening() in self.said(begin) and self.listens(begin)
         until("a front that listens", began)
 
     def spawn(self, errors: int) -> None:

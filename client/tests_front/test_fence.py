@@ -30,6 +30,7 @@ MEMBERS, ITEMS = 8, 200_000
 PATIENCE = 900.0  # seconds: on a busy machine the workers take items slowly
 PAUSED = (3, 7)  # while the store goes back
 LOST = 2  # resets of which the copy of the store knows nothing
+MOST_IDLE = 10_000  # milliseconds that a transaction waits for its worker, which may be paused, or only slow on a busy machine
 SPARE, SPARE_STEPS = 60, 200  # a node that nobody is connected with, and steps at it of which the copy knows nothing either
 TABLES = ("CREATE TABLE items (id INTEGER PRIMARY KEY)", "CREATE TABLE taken (item INTEGER NOT NULL, node INTEGER NOT NULL)",
           "CREATE INDEX taken_items ON taken (item)")
@@ -260,7 +261,8 @@ class OverPostgres(Workers):
         self.addCleanup(shutil.rmtree, self.data, True)
         os.chmod(self.data, 0o777)
         self.ran([f"{self.binaries}/initdb", "-D", f"{self.data}/data", "-A", "trust", "-U", "resetd", "-N"])
-        words = f"-c listen_addresses='' -c unix_socket_directories={self.data} -c fsync=off -c idle_in_transaction_session_timeout=500"
+        words = (f"-c listen_addresses='' -c unix_socket_directories={self.data} -c fsync=off -c idle_in_transaction_session_timeout="
+                 f"{MOST_IDLE}")
         self.ran([f"{self.binaries}/pg_ctl", "-D", f"{self.data}/data", "-w", "-l", f"{self.data}/log", "-o", words, "start"])
         self.addCleanup(self.ran, [f"{self.binaries}/pg_ctl", "-D", f"{self.data}/data", "-m", "immediate", "stop"])
         self.database = f"postgresql:host={self.data} user=resetd dbname=postgres"

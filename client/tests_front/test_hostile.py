@@ -7,6 +7,7 @@ import itertools
 import json
 import os
 import resource
+import select
 import signal
 import socket
 import struct
@@ -16,7 +17,7 @@ import time
 import unittest
 from typing import Any
 
-from case import USER, Case, Client, Front, unread, until
+from case import PROXY, USER, Case, Client, Front, unread, until
 
 SHOW = b'{"op":"show"}\n'
 
@@ -48,8 +49,7 @@ class Beside(Case):
             while True:
                 client.socket.send(SHOW * 1_000)
         self.others_are_served()
-        line = self.front.await_audited("its end", lambda line: line["event"] == "ends" and "took no answer" in line.get("why", ""))
-        self.assertEqual(line["connection"], 1)
+        until("its end", lambda: is_ended(client))
         self.others_are_served()
 
     def test_one_that_does_not_read_is_read_no_further(self) -> None:
@@ -100,6 +100,30 @@ class Beside(Case):
             client.close()
         self.others_are_served()
 
+    def test_ones_that_connect_and_close_on_and_on(self) -> None:
+        client, enough, ended = self.client(), threading.Event(), list[int]()
+
+        def come_and_go() -> None:
+            count = 0
+            while not enough.is_set():
+                with socket.socket(socket.AF_UNIX) as connection, contextlib.suppress(BlockingIOError):
+                    connection.setblocking(False)
+                    connection.connect(self.front.path)
+                    count += 1
+            ended.append(count)
+        coming = [threading.Thread(target=come_and_go) for _ in range(3)]
+        for each in coming:
+            each.start()
+        try:
+            for _ in range(30):
+                self.assertIn("nodes", client.ask(op="show"))
+        finally:
+            enough.set()
+            for each in coming:
+                each.join()
+        self.assertGreater(min(ended), 0)
+
+    @unittest.skipIf(PROXY, "the order of the audit's lines shows it, and connections leave no line in the proxy's")
     def test_one_that_connects_and_closes(self) -> None:
         """However many connections wait to be accepted, whoever is connected is served in between."""
         client, number = self.client(), 0
@@ -139,6 +163,13 @@ class Beside(Case):
         self.assertEqual(client.line(), b"")
 
 
+def is_ended(client: Client) -> bool:
+    """Whether the other end is closed, whatever of its answers is unread."""
+    poller = select.poll()
+    poller.register(client.socket, 0)
+    return any(event & select.POLLHUP for _, event in poller.poll(0))
+
+
 def connected_and_closed(path: str) -> int:
     """How many connections it took until a listener that accepts none had no room for more; each is closed at once."""
     for count in itertools.count():
@@ -151,6 +182,7 @@ def connected_and_closed(path: str) -> int:
     raise AssertionError
 
 
+@unittest.skipIf(PROXY, "the proxy's audit has tests of its own")
 class Lookers(Case):
     """Clients that may only look."""
 
@@ -189,7 +221,7 @@ class Lookers(Case):
         self.assertLess(self.lines_of("begins", "ends")[0], 200 + 20 * (time.monotonic() - began + 2))
 
 
-class FewDescriptors(Case):
+class Limited(Case):
     """A front that may open few files."""
 
     nodes = 2
@@ -197,13 +229,35 @@ class FewDescriptors(Case):
 
     def started(self, *words: str, **how: Any) -> Front:
         def limited() -> Front:
-            return super(FewDescriptors, self).started(*words, before=("prlimit", f"--nofile={self.most}:{self.most}"), **how)
+            return super(Limited, self).started(*words, before=("prlimit", f"--nofile={self.most}:{self.most}"), **how)
         try:
             subprocess.run(["prlimit", "--version"], check=True, capture_output=True)
         except FileNotFoundError:
             self.skipTest("it needs prlimit")
         return limited()
 
+
+@unittest.skipUnless(PROXY, "the front makes room, as the next class says")
+class NoMoreDescriptors(Limited):
+    """Nobody is ended for a newcomer, and the server is still reached."""
+
+    def test_more_connections_than_descriptors(self) -> None:
+        """Those that wait for a place are served once others leave."""
+        clients = [self.client() for _ in range(self.most + 30)]
+        served = clients[:self.most // 2]
+        for client in served:
+            self.assertIn("nodes", client.ask(op="show"))
+        self.server.kill()
+        self.server.start()
+        for client in served:
+            self.assertIn("nodes", client.ask(op="show"))
+        for client in served:
+            client.close()
+        self.assertIn("nodes", clients[-1].ask(op="show"))
+
+
+@unittest.skipIf(PROXY, "the proxy ends nobody for a newcomer")
+class FewDescriptors(Limited):
     def test_more_connections_than_descriptors(self) -> None:
         """The longest silent one makes room, and the server is still reached."""
         clients = [self.client() for _ in range(3 * self.most)]

@@ -18,7 +18,7 @@ import time
 import unittest
 from typing import Any
 
-from case import DEADLINE, USER, Case, Client, until
+from case import DEADLINE, DOOR, PROXY, USER, Case, Client, until
 from resetd_front.access_list import let_in
 
 POLICY = """
@@ -80,6 +80,36 @@ class Ruled(Case):
             file.write(text)
 
 
+class Rights(Ruled):
+    """Whatever stands before the server."""
+
+    def setUp(self) -> None:
+        super().setUp()
+        self.write(DOOR.policy((USER, ["show", "close"]), ("certificate:service2", ["show"])))
+
+    def test_rights_are_judged_line_by_line(self) -> None:
+        self.front = self.started("--policy", self.policy)
+        with self.front.connect() as client:
+            self.assertIn("nodes", client.ask(op="show"))
+            self.assertEqual(client.ask(op="reset", node=1), {"fault": "NotAllowed"})
+            self.assertIn("nodes", client.ask(op="show"))
+
+    def test_a_policy_that_allows_nothing(self) -> None:
+        self.write("")
+        self.front = self.started("--policy", self.policy)
+        for op in ("show", "watch", "resend", "close"):
+            self.assertEqual(self.front.ask(op=op), {"fault": "NotAllowed"})
+
+    def test_it_does_not_begin_with_a_broken_policy(self) -> None:
+        whole = DOOR.policy((USER, ["show"]))
+        for text in ("[[allow]]\n", "[[allow]\n", whole + "days = 3\n", whole.replace("show", "fly"), "all = 1\n" + whole,
+                     whole + "nodes = [65]\n", whole + "clients = [0]\n", whole + "nodes = []\n", whole.replace(USER, "")):
+            self.write(text)
+            with self.subTest(text), self.assertRaisesRegex(AssertionError, "the front ended: "):
+                self.started("--policy", self.policy)
+
+
+@unittest.skipIf(PROXY, "the proxy knows a user by the socket that it could open")
 @unittest.skipUnless(os.getuid() == 0 and shutil.which("setpriv"), "it needs root and setpriv: to be other users")
 class Users(Ruled):
     parent = "/tmp"
@@ -109,13 +139,6 @@ class Users(Ruled):
         self.assertEqual(len(denied), 8)
         self.assertIn(("mail", "close"), denied)
 
-    def test_rights_are_judged_line_by_line(self) -> None:
-        self.front = self.started("--policy", self.policy)
-        with self.front.connect() as client:
-            self.assertIn("nodes", client.ask(op="show"))
-            self.assertEqual(client.ask(op="reset", node=1), {"fault": "NotAllowed"})
-            self.assertIn("nodes", client.ask(op="show"))
-
     def test_without_a_policy_the_group_looks_and_others_stay_out(self) -> None:
         self.open_folder()
         self.front = self.started("--group", "games", "--mode", "660")
@@ -139,6 +162,7 @@ class Users(Ruled):
             self.started("--group", "games,no-such")
 
 
+@unittest.skipIf(PROXY, "the proxy reads its policy again by itself (test_proxy.py), and listens at no loopback address")
 class Reloads(Ruled):
     def setUp(self) -> None:
         super().setUp()
@@ -180,11 +204,6 @@ class Reloads(Ruled):
             pass
         until("a reload", lambda: self.front.has_ended() or any(line["event"] == "policy" for line in self.front.audited()))
         self.assertFalse(self.front.has_ended(), "the signal ended it")
-
-    def test_it_does_not_begin_with_a_broken_policy(self) -> None:
-        self.write("[[allow]]\n")
-        with self.assertRaisesRegex(AssertionError, "(?s)the front ended: .*rule 1"):
-            self.started("--policy", self.policy)
 
     def test_the_loopback_counts_as_nobody(self) -> None:
         self.front = self.started("--policy", self.policy, "--tcp", "127.0.0.1:0")
@@ -237,6 +256,7 @@ def certificates() -> tempfile.TemporaryDirectory[str]:
     return folder
 
 
+@unittest.skipIf(PROXY, "certificates come to the proxy through HAProxy")
 @unittest.skipUnless(shutil.which("openssl"), "it needs openssl: for certificates")
 class Certificates(Ruled):
     def setUp(self) -> None:
@@ -368,6 +388,7 @@ class Certificates(Ruled):
         self.assertEqual(self.connected("service2").ask(op="show"), {"fault": "NotAllowed"})
 
 
+@unittest.skipIf(PROXY, "certificates come to the proxy through HAProxy")
 @unittest.skipUnless(shutil.which("prlimit"), "it needs prlimit")
 class Strangers(Certificates):
     """A front that may open a hundred descriptors, and strangers whose handshakes don't end."""
@@ -412,7 +433,8 @@ connection.sendall(line.encode() + b"\\n"); print(connection.makefile("rb").read
 """
 
 
-@unittest.skipUnless(namespaces(), "optional: it needs network namespaces: with veth devices")
+@unittest.skipIf(PROXY, "certificates come to the proxy through HAProxy")
+@unittest.skipUnless(PROXY or namespaces(), "optional: it needs network namespaces: with veth devices")
 class Hosts(Certificates):
     """Two hosts, as network namespaces: the server and the front on one, a service on the other."""
 

@@ -1,1 +1,1 @@
-"""What the tests of the program share."""
+"""The common parts of the tests of the program."""

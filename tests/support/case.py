@@ -12,13 +12,14 @@ from typing import Literal, TypeVar
 from .program import PROGRAM, ROOT, ran
 
 T = TypeVar("T")
-OPTIONAL = "optional: "  # how the reason begins of what may be skipped in CI too
-LACK = re.compile(rf"(?:{OPTIONAL})?it needs ([^:]+)")  # the reason of a skipped test: the missing thing, and after a colon more
+OPTIONAL = "optional: "  # how the reason begins if the test may be skipped in CI too
+LACK = re.compile(rf"(?:{OPTIONAL})?it needs ([^:]+)")  # the reason of a skipped test: the missing requirement, and after a colon the details
 SKIPPED = re.compile(r"""\.\.\. skipped (['"])(.*)\1$""", re.MULTILINE)  # the line of a skipped test in the output of unittest -v
 
 
 def until(what: str, holds: Callable[[], T | Literal[False] | None], seconds: float = 300.0) -> T:
-    """Waits until a call gives something true, and answers that. It looks often, so nothing waits on a clock."""
+    """Calls `holds` repeatedly until its result is true, and returns that result. It looks often, so that the end does not
+    depend on a clock."""
     end = time.monotonic() + seconds
     while not (found := holds()):
         if time.monotonic() > end:
@@ -28,8 +29,9 @@ def until(what: str, holds: Callable[[], T | Literal[False] | None], seconds: fl
 
 
 class Case(unittest.TestCase):
-    """`takes` is about how many seconds it takes: the longest test begins first. Within `most` seconds it must end, even on a
-    busy machine. `program` is what it runs, and `programs` are the variables that name the required builds."""
+    """A test with a scratch folder. `takes` is about the number of seconds that it takes: the longest test begins first. It
+    must end within `most` seconds, even on a busy machine. `program` is the program that it runs, and `programs` are the
+    variables that name the required builds."""
 
     maxDiff = 2_000
     takes = 1
@@ -49,7 +51,7 @@ class Case(unittest.TestCase):
         return os.path.join(self.folder, name)
 
     def write(self, name: str, text: str | bytes) -> str:
-        """Writes a file, and answers its path."""
+        """Writes a file, and returns its path."""
         with open(self.path(name), "wb") as file:
             file.write(text if isinstance(text, bytes) else text.encode())
         return self.path(name)
@@ -59,23 +61,24 @@ class Case(unittest.TestCase):
             return file.read()
 
     def made(self, topology: str, name: str = "store") -> str:
-        """Makes a store of a topology, and answers its path."""
+        """Creates a store from a topology, and returns its path."""
         ended = ran("init", self.path(name), self.write(f"{name}.toml", topology), program=self.program)
         self.assertEqual((ended.status, ended.told), (0, ""))
         return self.path(name)
 
     def needs(self, what: str, has: bool, is_optional: bool = False) -> None:
-        """What a test can't do without: without it the test is skipped, which fails in CI unless it is optional."""
+        """Requires something. If it is missing, the test is skipped, which counts as a failure in CI unless the requirement is
+        optional."""
         if not has:
             self.skipTest(f"{OPTIONAL if is_optional else ''}it needs {what}")
 
     def note_skipped(self, printed: str) -> None:
-        """Notes the skipped tests in the output of `unittest -v`."""
+        """Records the skipped tests in the output of `unittest -v`."""
         self.skipped_within += [reason for _, reason in SKIPPED.findall(printed)]
 
 
 def lacking(reasons: Iterable[str]) -> list[str]:
-    """The missing things of these reasons, one for each skipped test."""
+    """Returns the missing requirement in each of these reasons, one for each skipped test."""
     return [lack[1] for reason in reasons if (lack := LACK.match(reason))]
 
 

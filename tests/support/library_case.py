@@ -1,4 +1,4 @@
-"""A test of the members' library for C, and that library with its allocations counted."""
+"""A test of the members' library for C, and the library with counted allocations."""
 
 import ctypes
 import os
@@ -8,7 +8,7 @@ from .case import Case
 from .memberlib import PATH, Library
 
 ARCHIVE = PATH.removesuffix(".so") + ".a"
-# The library takes memory by these three functions alone. Linked with --wrap, its calls of them come here.
+# The library allocates by these three functions alone. With --wrap, the linker directs the calls to the functions below.
 COUNTING = r"""
 #include <stdlib.h>
 void *__real_malloc(size_t), *__real_realloc(void *, size_t);
@@ -34,7 +34,7 @@ WRAPPED = [f"-Wl,--wrap={name}" for name in ("malloc", "realloc", "free")]
 
 
 class OfLibrary(Case):
-    """It needs the library that RESETD_MEMBER names."""
+    """A test that needs the library that RESETD_MEMBER names."""
 
     programs: tuple[str, ...] = ("RESETD_MEMBER",)
 
@@ -44,7 +44,7 @@ class OfLibrary(Case):
 
 
 class CountedLibrary(Library):
-    """The library, whose allocations are counted and of which one may be refused."""
+    """The library with counted allocations, any one of which can be refused."""
 
     def __init__(self, folder: str) -> None:
         source, made = f"{folder}/counting.c", f"{folder}/counted.so"
@@ -58,14 +58,14 @@ class CountedLibrary(Library):
 
     @property
     def allocations(self) -> int:
-        """The number of allocations since the last call of `count_from_here`."""
+        """Returns the number of allocations since the last call of `count_from_here`."""
         return self._allocations.value
 
     @property
     def kept(self) -> int:
-        """The number of allocations that were never freed."""
+        """Returns the number of allocations that were never freed."""
         return self._kept.value
 
     def count_from_here(self, refused: int = 0) -> None:
-        """Counts allocations from 1 again, and refuses the one with this number; 0 refuses none."""
+        """Restarts the count of allocations at 1, and refuses the allocation with this number; 0 refuses none."""
         self._allocations.value, self._refused.value = 0, refused

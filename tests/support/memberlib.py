@@ -1,4 +1,5 @@
-"""The library of the members' rule for C, as Python calls it: what RESETD_MEMBER names, else the proved one (`make lib`)."""
+"""Calls the library of the members' rule for C from Python: the file that RESETD_MEMBER names, else the proved library (`make
+lib`)."""
 
 import ctypes
 import os
@@ -31,8 +32,8 @@ class Orders(ctypes.Structure):
 
 
 class Told(NamedTuple):
-    """A judgement: the due action, its epoch, the text for the file of the start, the line for the history, and the line's
-    offset."""
+    """A judgement: the due action, its epoch, the text for the start file, the line for the history, and the offset of that
+    line."""
 
     due: str
     epoch: int
@@ -42,7 +43,7 @@ class Told(NamedTuple):
 
 
 class Refused(Exception):
-    """A call gave nothing; `status` says why."""
+    """A call failed; `status` has the reason."""
 
     def __init__(self, status: int) -> None:
         super().__init__(f"status {status}")
@@ -50,7 +51,7 @@ class Refused(Exception):
 
 
 def text_and_size(text: bytes) -> tuple[ctypes.c_void_p, ctypes.c_size_t]:
-    """A text as a pointer and a count."""
+    """Converts a text to a pointer and a length."""
     return ctypes.cast(ctypes.c_char_p(text), ctypes.c_void_p), ctypes.c_size_t(len(text))
 
 
@@ -86,7 +87,7 @@ class Library:
         return self._text(self._calls.resetd_carried, word(node), *text_and_size(start), *text_and_size(boot))
 
     def fence(self, node: int, start: bytes, generation: int = 0, word_of_group: bytes = b"") -> tuple[int, bytes]:
-        """The count and the tag."""
+        """Returns the count and the tag of a fence."""
         count = ctypes.c_uint64()
         tag = self._text(self._calls.resetd_fence, word(node), *text_and_size(start), ctypes.c_uint32(generation), *text_and_size(word_of_group), ctypes.byref(count))
         return count.value, tag

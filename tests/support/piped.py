@@ -1,4 +1,4 @@
-"""A server whose output is a pipe that hardly takes anything."""
+"""A server whose output is a pipe with little room."""
 
 import fcntl
 import os
@@ -8,7 +8,7 @@ from .serving import Serving
 
 
 class Piped(Serving):
-    """A server whose output is a pipe of one page, which nobody reads but for its first line."""
+    """A server whose output is a pipe of one page. Only its first line is read."""
 
     def __init__(self, store: str, program: str | None = None, env: Mapping[str, str] | None = None) -> None:
         self.reader: int | None
@@ -23,7 +23,7 @@ class Piped(Serving):
         self.leave()
 
     def first_line(self) -> str:
-        """Read byte by byte, so that nothing after it is taken out of the pipe."""
+        """Reads the first line byte by byte, so that nothing after it is taken from the pipe."""
         assert self.reader is not None
         while not self.printed.endswith(b"\n"):
             if not (byte := os.read(self.reader, 1)):
@@ -37,7 +37,7 @@ class Piped(Serving):
             self.printed += more
 
     def leave(self) -> None:
-        """Reads no more."""
+        """Closes the reading end."""
         if self.reader is not None:
             os.close(self.reader)
         self.reader = None

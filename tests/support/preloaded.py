@@ -1,4 +1,4 @@
-"""A library that stands ahead of the C library in a program, and changes what a few calls of the system answer."""
+"""A library that is loaded before the C library, and changes the results of a few system calls."""
 
 import os
 import shutil
@@ -243,7 +243,7 @@ def has_compiler() -> bool:
 
 
 def compile_library(folder: str) -> str:
-    """The library, in this folder, where it is from the first time on."""
+    """Compiles the library in this folder, unless it is already there. Returns its path."""
     if os.path.exists(f"{folder}/preloaded.so"):
         return f"{folder}/preloaded.so"
     with open(f"{folder}/preloaded.c", "w", encoding="ascii") as file:
@@ -253,10 +253,10 @@ def compile_library(folder: str) -> str:
 
 
 def environment(folder: str, **settings: str | int) -> dict[str, str]:
-    """What a program's environment is to have, so that its calls are changed in this way."""
+    """Returns the environment with which a program's calls are changed in this way."""
     return {"LD_PRELOAD": compile_library(folder), **{name: str(value) for name, value in settings.items()}}
 
 
 def both(first: dict[str, str], second: dict[str, str]) -> dict[str, str]:
-    """What a program's environment is to have, so that two libraries stand ahead of the C library."""
+    """Returns the environment with which two libraries are loaded before the C library."""
     return {**first, **second, "LD_PRELOAD": f"{first['LD_PRELOAD']}:{second['LD_PRELOAD']}"}

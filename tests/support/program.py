@@ -1,4 +1,4 @@
-"""The program as a command that ends: its words and input, and how it ended."""
+"""Runs the program as a command that ends: its arguments, its input, and how it ended."""
 
 import os
 import subprocess
@@ -6,14 +6,14 @@ from collections.abc import Mapping
 from typing import NamedTuple
 
 ROOT = os.path.dirname(os.path.dirname(os.path.dirname(os.path.abspath(__file__))))
-# The program, and one whose instances have few steps. `tests/run` makes both, where they are not given.
+# The program, and one whose instances have few steps. `tests/run` builds both unless they are given.
 PROGRAM = os.environ.get("RESETD", "")
 SHORT = os.environ.get("RESETD_SHORT", "")
 SHORT_STEPS = 32
-TIMEOUT = 600  # seconds within which a command has to end, on a busy machine too
+TIMEOUT = 600  # seconds within which a command has to end, even on a busy machine
 
 class Ended(NamedTuple):
-    """How a command ended: its exit status, its output, and its fault."""
+    """How a command ended: its exit status, its output, and the fault that it printed."""
 
     status: int
     printed: str
@@ -29,5 +29,5 @@ def ran(*words: str | bytes, given: bytes = b"", program: str | None = None, sec
 
 
 def faulted(status: int, name: str) -> Ended:
-    """How a command ends with this fault: nothing is printed but one line with its name."""
+    """Returns the expected end of a command with this fault: it prints only one line, with the fault's name."""
     return Ended(status, "", f"resetd: {name}\n")

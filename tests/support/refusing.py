@@ -1,10 +1,10 @@
-"""A program to which chosen allocations are refused.
+"""Refuses chosen allocations to a program.
 
-All that the program allocates goes through two functions of its runtime, `rattle_alloc` and `rattle_realloc`, which call
-those of the C library, and all that it gives back through `rattle_dealloc`. A library that is loaded with the program leads
-these calls to its own, which count, and refuse the allocations from one number on, as many as are named. Which ones, a test
-may change while the program runs. It may count those of some threads alone, whose numbers are 0 of the first one, and 1, 2
-and so on in the order in which they were started. The places of the functions are read from the program's file.
+Everything that the program allocates goes through two functions of its runtime, `rattle_alloc` and `rattle_realloc`, which
+call those of the C library, and everything that it frees through `rattle_dealloc`. A library that is loaded with the program
+redirects these calls to its own functions, which count, and refuse a given number of allocations from a given one on. A test
+may change these numbers while the program runs. It may count only the allocations of some threads; threads are numbered from
+0, in the order in which they were started. The addresses of the functions are read from the program's file.
 """
 
 import os
@@ -14,8 +14,8 @@ import subprocess
 from .program import Ended, ran
 
 ALL_THREADS = range(1_000)
-FIRST_THREAD, FLUSHER, WORKERS = range(1), range(2, 3), range(3, 11)  # of a server; its printer is 1
-# Leads a call in a function of the program to another function.
+FIRST_THREAD, FLUSHER, WORKERS = range(1), range(2, 3), range(3, 11)  # numbers of a server's threads; its printer is 1
+# Redirects a call in a function of the program to another function.
 LEAD = r"""
 #include <link.h>
 #include <string.h>
@@ -116,7 +116,7 @@ __attribute__((constructor)) static void begin(void) {
 
 
 def places(program: str, names: list[str]) -> list[int]:
-    """The addresses of these functions in a program, by the symbol table of its file."""
+    """Returns the addresses of these functions, from the symbol table of the program's file."""
     with open(program, "rb") as file:
         text = file.read()
     at, size, count = struct.unpack_from("<Q", text, 40)[0], *struct.unpack_from("<HH", text, 58)
@@ -133,7 +133,7 @@ def places(program: str, names: list[str]) -> list[int]:
 
 
 class Refusing:
-    """The library, for one program, in this folder."""
+    """The library for one program, in this folder."""
 
     def __init__(self, program: str, folder: str) -> None:
         self.program, self.folder = program, folder
@@ -143,8 +143,8 @@ class Refusing:
         subprocess.run(["cc", "-O1", "-shared", "-fPIC", "-o", f"{folder}/refusing.so", f"{folder}/refusing.c"], check=True)
 
     def environment(self, first: int = 0, many: int = 1, threads: range = ALL_THREADS) -> dict[str, str]:
-        """The variables of a program's environment with which this many allocations are refused from this number on, of those of
-        these threads."""
+        """Returns the environment with which the program is refused this many allocations from this number on, counting only
+        those of these threads."""
         settings = {"COUNTED_FROM": threads[0], "COUNTED_TO": threads[-1] + 1,
                     "ALLOC_AT": self.alloc, "REALLOC_AT": self.realloc, "DEALLOC_AT": self.dealloc,
                     "ALLOCATIONS": f"{self.folder}/allocations", "LD_PRELOAD": f"{self.folder}/refusing.so"}
@@ -153,15 +153,15 @@ class Refusing:
         return {name: str(value) for name, value in settings.items()}
 
     def count(self) -> int:
-        """How many allocations the program of that environment has asked for."""
+        """Returns the number of allocations that the program of that environment has requested."""
         return self.counts()[0]
 
     def kept(self) -> int:
-        """How many of them it has not given back."""
+        """Returns the number of allocations that it has not freed."""
         return self.counts()[1]
 
     def kept_bytes(self) -> int:
-        """How many bytes it has not given back."""
+        """Returns the number of bytes that it has not freed."""
         return self.counts()[4]
 
     def counts(self) -> tuple[int, ...]:
@@ -169,13 +169,13 @@ class Refusing:
             return struct.unpack("=5q", file.read())
 
     def refuse(self, first: int, many: int) -> None:
-        """From now on refuses this many allocations from this number on to the program of that environment."""
+        """From now on, refuses this many allocations from this number on to the program of that environment."""
         with open(f"{self.folder}/allocations", "r+b") as file:
             file.seek(16)
             file.write(struct.pack("=2q", first, many))
 
     def ran(self, *words: str, first: int = 0, many: int = 1, given: bytes = b"") -> tuple[Ended, int]:
-        """Runs the program and refuses this many of its allocations from this number on: how it ended, and how many allocations
-        it asked for."""
+        """Runs the program, and refuses this many of its allocations from this number on. Returns how it ended, and the number
+        of allocations that it requested."""
         environment = {**os.environ, **self.environment(first, many)}
         return ran(*words, program=self.program, env=environment, given=given), self.count()

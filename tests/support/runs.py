@@ -27,7 +27,7 @@ class Run(NamedTuple):
 
 
 def runs_in(text: str) -> Iterator[Run]:
-    """The runs of one file."""
+    """Returns the runs in the text of a file."""
     for block in re.split("^== ", text, flags=re.MULTILINE)[1:]:
         name, _, lines = block.partition("\n")
         given = wanted = ""
@@ -42,7 +42,7 @@ def runs_in(text: str) -> Iterator[Run]:
 
 
 def worked_runs() -> dict[str, Run]:
-    """All runs by their names."""
+    """Returns all runs by their names."""
     runs = {}
     for path in sorted(glob.glob(f"{FOLDER}/*.runs")):
         with open(path, encoding="utf-8", newline="\n") as file:

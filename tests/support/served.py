@@ -21,7 +21,7 @@ def expected_signals(shown: Answer) -> set[tuple[int, int]]:
 
 class Served(Case):
     def expect_each_signal_once(self, server: Serving) -> None:
-        """As many signals as the epochs say, each once, those of a node in the order of its epochs."""
+        """Checks that each node was signalled as often as its epoch says, each epoch once and in order."""
         shown = server.show()
         wanted = expected_signals(shown)
         signals = server.await_signals(len(wanted))
@@ -30,7 +30,8 @@ class Served(Case):
             self.assertEqual([epoch for node, epoch in signals if node == row[0]], list(range(1, row[4] + 1)))
 
     def expect_closed(self, server: Serving, signals: int) -> None:
-        """The server ends in order, having printed its first line and this many signals, and leaves a store that opens."""
+        """Checks that the server ends in order after it has printed its first line and this many signals, and that its store
+        opens."""
         ended = server.close()
         self.assertEqual((ended.status, ended.told, len(ended.printed.splitlines())), (0, "", 1 + signals))
         checked = ran("check", server.store)

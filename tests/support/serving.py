@@ -12,13 +12,13 @@ from .case import until
 from .program import TIMEOUT, PROGRAM, SHORT, Ended
 
 
-# A value sent over a connection: a line that is read as JSON, and one that is written as JSON, or unchanged.
+# A value sent over a connection: a line that is parsed as JSON, and a value that is written as JSON, or text sent unchanged.
 Answer = dict[str, Any]
 Request = Answer | bytes
 
 
 class Connection:
-    """A connection of a client."""
+    """A client's connection."""
 
     def __init__(self, address: str, buffer: int | None = None) -> None:
         host, port = address.rsplit(":", 1)
@@ -33,7 +33,7 @@ class Connection:
         self.socket.sendall(b"".join(map(spelled, requests)))
 
     def line(self) -> bytes:
-        """The next line, unchanged: nothing if the server has ended the connection."""
+        """Returns the next line, unchanged, or an empty text if the server has ended the connection."""
         while b"\n" not in self.came:
             if not (more := self.socket.recv(65_536)):
                 return b""
@@ -46,7 +46,7 @@ class Connection:
         return answer
 
     def rest(self) -> list[bytes]:
-        """All lines up to the end of the connection. One that is torn off raises ConnectionResetError."""
+        """Returns all lines up to the end of the connection. Raises ConnectionResetError if the connection was reset."""
         lines = []
         while line := self.line():
             lines.append(line)
@@ -64,14 +64,15 @@ def spelled(request: Request) -> bytes:
 
 
 def processor_seconds(process: int) -> float:
-    """What a process has used of the processors."""
+    """Returns the processor seconds that a process has used."""
     with open(f"/proc/{process}/stat", encoding="ascii") as file:
         words = file.read().rsplit(")", 1)[1].split()
     return (int(words[11]) + int(words[12])) / os.sysconf("SC_CLK_TCK")
 
 
 def sleeps(process: int) -> bool:
-    """Whether each thread of a process sleeps. A thread that waits for a processor does not. False if the process has ended."""
+    """Returns whether each thread of a process sleeps. A thread that waits for a processor does not. False if the process has
+    ended."""
     folder, states = f"/proc/{process}/task", set[str]()
     with contextlib.suppress(FileNotFoundError, ProcessLookupError):
         for thread in os.listdir(folder):
@@ -82,9 +83,9 @@ def sleeps(process: int) -> bool:
 
 
 class Serving:
-    """`resetd serve` over a store, whose output goes to a file. It is killed at the end, unless it has ended. One whose instances
-    are short may end a connection before a line is answered, since workers make an instance old too: a request over its own
-    connection is then sent again."""
+    """`resetd serve` over a store, with its output in a file. It is killed at the end of the test, unless it has ended. A
+    program with short instances may end a connection before it answers a line, because its workers make an instance old too;
+    a request on its own connection is then sent again."""
 
     def __init__(self, store: str, program: str | None = None, address: str = "127.0.0.1:0",
                  env: Mapping[str, str] | None = None, before: Sequence[str] = (), output: str | None = None,
@@ -116,30 +117,30 @@ class Serving:
         return lines[0] if lines else None
 
     def await_rest(self) -> bool:
-        """Waits until all its threads sleep. False if it has ended."""
+        """Waits until all threads sleep. Returns False if the process has ended."""
         until("the server rests", lambda: self.process.poll() is not None or sleeps(self.process.pid))
         return self.process.poll() is None
 
     def lines(self) -> list[str]:
-        """The whole lines that it has printed."""
+        """Returns the complete lines that the server has printed."""
         with open(self.output, "rb") as file:
             file.seek(self.begin)
             return file.read().decode().split("\n")[:-1]
 
     def signals(self) -> list[tuple[int, int]]:
-        """The node and the epoch of each signal that it has printed."""
+        """Returns the node and the epoch of each printed signal."""
         rows = [line.split() for line in self.lines() if line.startswith("signal ")]
         return [(int(node), int(epoch)) for _, node, epoch in rows]
 
     def await_signals(self, count: int) -> list[tuple[int, int]]:
-        """As many signals as asked for, or more, once they are printed."""
+        """Waits until at least this many signals are printed, and returns them."""
         return until(f"signal {count}", lambda: len(found := self.signals()) >= count and found)
 
     def connect(self, buffer: int | None = None) -> Connection:
         return Connection(self.address, buffer)
 
     def ask(self, request: Request) -> Answer:
-        """The answer to one request, over a new connection."""
+        """Returns the answer to one request, over a new connection."""
         return until("an answer", lambda: self.answer_in_instance(request)) if self.has_short_instances else self.answer(request)
 
     def answer(self, request: Request) -> Answer:
@@ -148,7 +149,8 @@ class Serving:
             return connection.reply()
 
     def answer_in_instance(self, request: Request) -> Answer | None:
-        """The same of one connection: None where an instance that ended has ended it without an answer."""
+        """Returns the answer over one connection, or None if the end of an instance has ended that connection without an
+        answer."""
         try:
             with self.connect() as connection:
                 connection.send(request)
@@ -175,14 +177,14 @@ class Serving:
         until(f"the end of a reset, epoch {epoch}", quiet)
 
     def close(self) -> Ended:
-        """Ends it in order: how it ended."""
+        """Closes the server in order, and returns how it ended."""
         answer = self.ask({"op": "close"})
         if answer != {"kind": "closed"}:
             raise AssertionError(f"a close was answered {answer}")
         return self.ended()
 
     def ended(self, seconds: float = TIMEOUT) -> Ended:
-        """Waits for its end: its status, its output, and its fault."""
+        """Waits for the end of the process. Returns its status, its output, and its fault."""
         status = self.process.wait(timeout=seconds)
         with open(self.errors, encoding="utf-8") as errors:
             return Ended(status, "".join(f"{line}\n" for line in self.lines()), errors.read())

@@ -1,4 +1,4 @@
-"""Stores and topologies as bytes, by docs/FORMATS.md."""
+"""Makes stores and topologies as bytes, by docs/FORMATS.md."""
 
 from collections.abc import Callable, Iterable, Sequence
 
@@ -6,10 +6,10 @@ HALF = 32_768
 MOST_STEPS = 1 << 40
 HEADER = 17
 READY, ABORT, CONVERGE = 0, 1, 2
-# How much of a lane was cleared, how much of it was taken, and the messages on their way.
+# The number of cleared messages of a lane, the number of taken ones, and the messages in transit.
 Lane = tuple[int, int, Sequence[bytes]]
 NO_LANE: Lane = (0, 0, ())
-# Messages of a queue, in version 1 and as those of version 2 that carry no distance.
+# Messages of a queue, in version 1 and as the messages of version 2 that carry no distance.
 ACK, IS_READY = b"\1", b"\2"
 
 
@@ -18,21 +18,21 @@ def wide(number: int) -> bytes:
 
 
 def topology(nodes: Iterable[tuple[int, int]], links: Iterable[tuple[int, int]] = (), half: int | None = None) -> str:
-    """The text of a topology: nodes as (id, group), links as (a, b)."""
+    """Returns the text of a topology with nodes as (id, group) and links as (a, b)."""
     return "".join([f"half = {half}\n" if half else "",
                     *(f"[[node]]\nid = {node}\ngroup = {group}\n" for node, group in nodes),
                     *(f"[[link]]\na = {a}\nb = {b}\n" for a, b in links)])
 
 
 def ring(nodes: int, half: int = HALF) -> str:
-    """The text of a ring of this many nodes of one group."""
+    """Returns the text of a ring of this many nodes of one group."""
     return topology([(node, 1) for node in range(1, nodes + 1)],
                     [(node, node % nodes + 1) for node in range(1, nodes + 1)], half)
 
 
 def node(number: int, mode: int = READY, parent: int = 0, awaits: Iterable[int] = (), epoch: int = 0,
          confirmed: int = 0, distance: int = 0, version: int = 1) -> bytes:
-    """The row of a node of group 1."""
+    """Returns the row of a node of group 1."""
     awaited = sum(1 << other - 1 for other in awaits)
     row = bytes([number, 1, mode, parent]) + wide(awaited) + wide(epoch) + wide(confirmed)
     return row + (wide(distance) if version == 2 else b"")
@@ -47,17 +47,17 @@ def lane(base: int, got: int, queue: Sequence[bytes]) -> bytes:
 
 
 def link(a: int, b: int, incarnation: int, there: Lane = NO_LANE, back: Lane = NO_LANE) -> bytes:
-    """The row of a link: its lane from a to b, and the one back, each as (base, got, queue)."""
+    """Returns the row of a link: its lane from a to b, and the lane back, each as (base, got, queue)."""
     return bytes([a, b]) + wide(incarnation) + lane(*there) + lane(*back)
 
 
 def client(number: int, last: int, command: bytes, step: int, kind: int = 0) -> bytes:
-    """The row of a client: the number of its last order, the bytes of its command, and its reply's step and kind."""
+    """Returns the row of a client: the number of its last order, the bytes of its command, and the step and kind of its reply."""
     return bytes([number]) + wide(last) + command + wide(step) + bytes([kind])
 
 
 def world(count: int, nodes: Sequence[bytes], links: Sequence[bytes] = (), clients: Sequence[bytes] = ()) -> bytes:
-    """A world of this many steps."""
+    """Returns the bytes of a world with this many steps."""
     return wide(count) + b"".join(bytes([len(rows)]) + b"".join(rows) for rows in (nodes, links, clients))
 
 
@@ -65,33 +65,33 @@ EMPTY_WORLD = world(0, [])
 
 
 def order(number: int, *command: int, client: int = 1) -> bytes:
-    """An order of a client: the bytes of its command."""
+    """Returns the bytes of a client's order, up to its command."""
     return b"\0" + bytes([client]) + wide(number) + bytes(command)
 
 
 def add(node: int, client: int = 1, number: int = 1) -> bytes:
-    """An order of a client that adds a node to group 1."""
+    """Returns the bytes of a client's order to add a node to group 1."""
     return order(number, 0, node, 1, client=client)
 
 
 def take(sender: int, taker: int, incarnation: int, number: int, message: bytes) -> bytes:
-    """A data packet is taken."""
+    """Returns the bytes of a step that takes a data packet."""
     return b"\1" + bytes([sender, taker]) + wide(incarnation) + wide(number) + message
 
 
 def clear(sender: int, taker: int, incarnation: int, number: int) -> bytes:
-    """A receipt clears a message."""
+    """Returns the bytes of a step in which a receipt clears a message."""
     return b"\2" + bytes([sender, taker]) + wide(incarnation) + wide(number)
 
 
 def batch(first: int, *steps: bytes) -> bytes:
-    """The body of a batch."""
+    """Returns the body of a batch."""
     return wide(first) + len(steps).to_bytes(2, "big") + b"".join(steps)
 
 
 def at_the_limits(version: int, nodes: Sequence[bytes], queue: Callable[[int, int], Sequence[bytes]]) -> bytes:
-    """A world of as many steps, nodes, links and clients as possible: a ring of which each node is linked to the next and the
-    next but one. Of each lane one more message was taken than its base."""
+    """Returns a world with as many steps, nodes, links and clients as possible: a ring in which each node is also linked to the
+    next but one. On each lane one more message was taken than cleared."""
     links = []
     for a in range(1, 65):
         for b in range(a, 65):
@@ -104,7 +104,8 @@ def at_the_limits(version: int, nodes: Sequence[bytes], queue: Callable[[int, in
 
 
 def longest_world() -> bytes:
-    """The longest legal world: all nodes are in a reset, and on each lane are an Abort that was taken, a Ready and an Abort."""
+    """Returns the longest legal world: all nodes are in a reset, and each lane has an Abort that was taken, a Ready and an
+    Abort."""
     rows = []
     for number in range(1, 65):
         awaited = [(number - 1 + way) % 64 + 1 for way in (1, 2, 62, 63)]
@@ -113,7 +114,7 @@ def longest_world() -> bytes:
 
 
 def store(snapshot: bytes = EMPTY_WORLD, version: int = 1, bodies: Iterable[bytes] = (), half: int = HALF) -> bytes:
-    """A store whose first half has a snapshot and the bodies of batches."""
+    """Returns a store whose first half has a snapshot and the bodies of batches."""
     text = bytes([version]) + len(snapshot).to_bytes(4, "big") + snapshot
     for body in bodies:
         text += b"\1" + len(body).to_bytes(4, "big") + body
@@ -121,7 +122,7 @@ def store(snapshot: bytes = EMPTY_WORLD, version: int = 1, bodies: Iterable[byte
 
 
 def version_of(path: str) -> int:
-    """The version of the half that a store selects."""
+    """Returns the version of the half that a store selects."""
     with open(path, "rb") as file:
         selector, half = file.read(1)[0], int.from_bytes(file.read(16)[8:], "big")
         file.seek(HEADER + selector % 2 * half)

@@ -1,4 +1,5 @@
-"""The file calls and the sent lines of a program, by strace, and the files that a power cut between two of them may leave."""
+"""Records the file calls and the sent lines of a program with strace, and computes the files that a power cut between two of
+them may leave."""
 
 import ast
 import os
@@ -13,12 +14,12 @@ TEXT = re.compile(r'"((?:[^"\\]|\\.)*)"')
 
 
 def words(trace: str) -> list[str]:
-    """The arguments before those of the program. Its calls go to the file `trace`."""
+    """Returns the arguments before those of the program. Its calls are written to the file `trace`."""
     return ["strace", "-y", "-s", "9999", "-o", trace, "-e", f"trace={CALLS}"]
 
 
 class Call(NamedTuple):
-    """A call: its name, the name of the file (`.` for the folder), the bytes or the other name, and the offset."""
+    """A call: its name, the name of the file (`.` for the folder), the bytes or the second name, and the offset."""
 
     name: str
     file: str
@@ -27,7 +28,7 @@ class Call(NamedTuple):
 
 
 def calls(trace: str, folder: str) -> Iterator[Call]:
-    """The calls of a trace about the files of a folder, and the lines that were sent."""
+    """Returns the calls in a trace that concern the files of a folder, and the lines that were sent."""
     with open(trace, encoding="ascii") as file:
         for line in file:
             if found := LINE.match(line.rstrip("\n")):
@@ -49,7 +50,7 @@ def call_of(name: str, arguments: str, folder: str) -> Iterator[Call]:
 
 
 class File:
-    """A file: its bytes for the program, and its bytes at the last sync."""
+    """A file: its bytes as the program sees them, and its bytes at the last sync."""
 
     def __init__(self) -> None:
         self.text = self.synced = b""
@@ -60,7 +61,7 @@ class Disk:
 
     def __init__(self) -> None:
         self._files, self._synced = dict[str, File](), dict[str, File]()
-        self._later = dict[str, set[bytes]]()  # of each name, the texts that it has had since it was synced
+        self._later = dict[str, set[bytes]]()  # for each name, the texts that it has had since it was synced
 
     def take(self, call: Call) -> None:
         """Carries out a call."""
@@ -87,13 +88,13 @@ class Disk:
         self._later.setdefault(name, set()).add(self._files[name].text)
 
     def text(self, name: str) -> bytes:
-        """The bytes of a file for the program."""
+        """Returns the bytes of a file as the program sees them."""
         return self._files[name].text
 
     def synced(self, name: str) -> bytes:
-        """The bytes of a file after a power cut that keeps no unsynced change."""
+        """Returns the bytes of a file after a power cut that keeps no unsynced change."""
         return self._synced[name].synced if name in self._synced else b""
 
     def possible(self, name: str) -> set[bytes]:
-        """All texts that a power cut may leave of a file."""
+        """Returns all texts that a power cut may leave of a file."""
         return {self.synced(name)} | self._later.get(name, set())

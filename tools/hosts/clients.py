@@ -1,4 +1,4 @@
-"""Clients of a coordinator that is to be found on one of several hosts: they try the addresses in turn."""
+"""Clients of a coordinator that may be on any of several hosts: they try its addresses in turn."""
 
 from __future__ import annotations
 
@@ -15,14 +15,14 @@ if TYPE_CHECKING:
     from .network import Host
     from .records import Records
 
-# bytes of a line that are read
+# maximum number of bytes in a line
 Json = dict[str, Any]
 STOPPED, OLD_EPOCH = 1, 15
 TIMEOUT = 2  # seconds for one answer, before the next address is tried
 
 
 class Lost(Exception):
-    """Something that was promised does not hold."""
+    """A promise was violated."""
 
 
 class Away(Exception):
@@ -30,7 +30,7 @@ class Away(Exception):
 
 
 def ask(host: Host, address: str, request: Json, seconds: float = TIMEOUT) -> Json:
-    """One request to an address, from the network of a host, and its reply."""
+    """Sends one request to an address, from the network of a host, and returns the reply."""
     name, port = address.rsplit(":", 1)
     try:
         with host.network():
@@ -50,25 +50,25 @@ def ask(host: Host, address: str, request: Json, seconds: float = TIMEOUT) -> Js
 
 
 class Site:
-    """Where the clients are, and the addresses that they try; the last one that served is tried first. A coordinator that says
-    Stopped is sent a close: it serves nobody, and keeps the lock of the file while it runs."""
+    """The place of the clients, and the addresses that they try, beginning with the last one that served. A coordinator that
+    answers Stopped is sent a close: it serves nobody, and holds the lock of the file while it runs."""
 
     def __init__(self, host: Host, keepers: list[Keeper]) -> None:
         self.host, self.keepers, self.present = host, keepers, keepers[0]
 
     def next_after(self, keeper: Keeper) -> None:
-        """To the next address, unless another client went there already."""
+        """Changes to the next address, unless another client already has."""
         if self.present is keeper:
             self.present = self.keepers[(self.keepers.index(keeper) + 1) % len(self.keepers)]
 
     def ask(self, request: Json, seconds: float) -> tuple[Json, Keeper]:
-        """Sends a request until somebody carries it out: the reply and who gave it."""
+        """Sends a request until a coordinator carries it out. Returns the reply, and the address that gave it."""
         met = self.ask_while(lambda: True, request, seconds)
         assert met
         return met
 
     def ask_while(self, is_wanted: Callable[[], bool], request: Json, seconds: float) -> tuple[Json, Keeper] | None:
-        """The same of a request that may be wanted no more: None then."""
+        """Like `ask`, but returns None once the request is no longer wanted."""
         until = time.monotonic() + seconds
         while time.monotonic() < until and is_wanted():
             keeper = self.present
@@ -87,7 +87,7 @@ class Site:
 
 
 class Client:
-    """One client's orders: the last one that was answered with its reply, and one that waits for its answer."""
+    """The orders of one client: the last one with a reply, and one that waits for its answer."""
 
     def __init__(self, number: int, site: Site, records: Records) -> None:
         self.number, self.site, self.records = number, site, records
@@ -95,11 +95,11 @@ class Client:
         self.reply: Json | None = None
         self.unanswered: Json | None = None
         self.refused = ""
-        self.drops = 0  # one answer in this many is dropped, to see that it is found
+        self.drops = 0  # one answer in this many is dropped, to see that this is noticed
 
     def order(self, op: str, seconds: float = 120, is_wanted: Callable[[], bool] = lambda: True,
               **members: int) -> Json | None:
-        """Carries out an order; if one still waits for its answer, that one. Its reply or its refusal."""
+        """Carries out an order, or the one that still waits for its answer. Returns its reply or its refusal."""
         if self.unanswered is None:
             number = self.answered["number"] + 1 if self.answered else 1
             self.unanswered = {"op": op, "client": self.number, "number": number, **members}
@@ -112,7 +112,7 @@ class Client:
             self.note(order, reply, keeper)
         else:
             self.refused = f"{order} was answered {reply} by {keeper.host.name}, after {self.answered}: {self.reply}"
-        self.unanswered = None  # the last call: without one, the answer is noted
+        self.unanswered = None  # the last call; without this, the answer is recorded
         return reply
 
     def note(self, order: Json, reply: Json, keeper: Keeper) -> None:
@@ -121,7 +121,7 @@ class Client:
             self.answered, self.reply = order, reply
 
     def repeat(self) -> None:
-        """The last answered order again: it gives the same answer."""
+        """Sends the last answered order again, which must get the same answer."""
         if self.answered is None:
             return
         reply, keeper = self.site.ask(self.answered, 60)
@@ -131,7 +131,7 @@ class Client:
 
 
 class Load:
-    """Clients that ask for resets of members at random, each as soon as it has its answer."""
+    """Clients that ask for resets of random members, each as soon as it has its answer."""
 
     def __init__(self, clients: list[Client], members: list[int]) -> None:
         self.clients, self.members = clients, members
@@ -156,7 +156,7 @@ class Load:
             self.fault = fault
 
     def stop(self) -> None:
-        """No further order; one without an answer is sent again by `finish`."""
+        """Stops giving orders. `finish` sends an order without an answer again."""
         self.is_on = False
         for thread in self.threads:
             thread.join()

@@ -1,4 +1,4 @@
-"""What an order costs on the volume, beside a raw write and sync on it."""
+"""Measures the cost of an order on the volume, compared with a raw write and sync on it."""
 
 import time
 from collections.abc import Iterable
@@ -20,7 +20,7 @@ os.remove(sys.argv[1])
 """
 
 LARGE = 65536
-# What a start does before it serves, with a file of some length: nanoseconds.
+# Prints the nanoseconds of the work that a start does before it serves, for a file of some length.
 REWRITE = r"""
 head -c "$2" /dev/zero > "$1"
 for time in $(seq "$3"); do
@@ -38,8 +38,8 @@ def half_and_most(seconds: Iterable[float]) -> tuple[float, float]:
 
 
 def measure(trial: Trial) -> None:
-    """Resets of a member without links, of which each is one step: from the coordinator's own host and from another
-    one; beside them pairs of a write of 512 bytes and a sync by a program on the coordinator's host."""
+    """Measures resets of a member without links, each of which is one step, from the coordinator's own host and from another
+    one; and pairs of a write of 512 bytes and a sync by a program on the coordinator's host."""
     print(f"What an order costs, {COUNT} of each, one after the other:", flush=True)
     host = trial.present.host
     client = trial.load.clients[0]

@@ -77,7 +77,7 @@ class Machine(Host):
         return told.strip() in ("running", "degraded")
 
     def unit(self, property_: str) -> str:
-        """What systemd says of the coordinator's unit."""
+        """Returns the properties that systemd has for the coordinator's unit."""
         return self.run("systemctl", "show", "--value", "-p", property_, "resetd", is_checked=False)[1].strip()
 
     def listens(self) -> bool:
@@ -88,14 +88,14 @@ class Machine(Host):
 
 
 def blocks() -> list[tuple[tuple[int, ...], str]]:
-    """The hosts and the words of each block, in order."""
+    """Yields the hosts and the commands of each block, in order."""
     with open(f"{ROOT}/docs/TAKEOVER.md", encoding="utf-8") as file:
         section = file.read().split(SECTION + "\n")[1].split("\n## ")[0]
     return [(ON[met["hosts"]], met["words"]) for met in TYPED.finditer(section)]
 
 
 def try_words(program: str, folder: str) -> None:
-    """Types the words, and then loses the host that serves."""
+    """Types the commands, and then loses the host that serves."""
     make_switch(folder)
     os.makedirs(f"{folder}/{GROUPS}")
     run(["mount", "-t", "cgroup2", "groups", f"{folder}/{GROUPS}"])
@@ -113,7 +113,7 @@ def try_words(program: str, folder: str) -> None:
 
 
 def wait_standby(machine: Machine) -> float:
-    """Until the unit tried, and was refused by the lock."""
+    """Waits until the unit has tried to start, and was refused by the lock."""
     try:
         return wait_for("a refused try", 60, lambda: machine.unit("ExecMainStatus") == "3", 0.5)
     except Failed as late:
@@ -123,7 +123,7 @@ def wait_standby(machine: Machine) -> float:
 
 
 def check_held_in(machine: Machine) -> None:
-    """Looks whether what the unit denies its process is denied, by the kernel's account."""
+    """Checks with the kernel that the process is denied what its unit denies."""
     _, told = machine.run("sh", "-c", "cat /proc/$(systemctl show --value -p MainPID resetd)/status")
     status = dict(line.split(":\t", 1) for line in told.splitlines() if ":\t" in line)
     if (int(status["CapBnd"], 16), status["NoNewPrivs"], status["Seccomp"]) != (0, "1", "2"):
@@ -156,7 +156,7 @@ def lose_one(machines: list[Machine]) -> None:
 
 
 def late_mount(machine: Machine) -> None:
-    """A standby whose volume is not there, and comes late: nothing is made in its place."""
+    """Tries a standby whose volume is mounted late: nothing is created in its place."""
     machine.run("sh", "-c", "systemctl mask --runtime --now srv-resetd.mount; mountpoint /srv/resetd", is_checked=False)
     before = int(machine.unit("NRestarts"))
     wait_for("tries without a mount", 30, lambda: int(machine.unit("NRestarts")) > before + 2)

@@ -1,4 +1,4 @@
-"""The sixth part of the trial: the last byte of an order reaches one brick alone, and is read there."""
+"""The sixth part of the trial: the last byte of an order reaches only one brick, and is read there."""
 
 import json
 import subprocess
@@ -9,7 +9,7 @@ from .keeper import STORE, Keeper
 from .network import Failed, Host, wait_for
 from .trial import Trial, tell
 
-LOAD = 2  # seconds of orders upon the byte
+LOAD = 2  # seconds of orders after the byte
 
 # Takes the place of a coordinator and appends one order as docs/FORMATS.md says, with the file's lock: the body after the closed
 # gate, and a sync; then the gate. Before the gate is opened it is written unchanged, so that the volume has noted already that a
@@ -66,7 +66,7 @@ def write_half(trial: Trial) -> None:
 
 
 def end_all(trial: Trial, keeper: Keeper) -> None:
-    """No coordinator and no standby runs."""
+    """Ends every coordinator and every standby."""
     for each in trial.keepers:
         each.pause()
     before = len(keeper.ends())
@@ -75,7 +75,7 @@ def end_all(trial: Trial, keeper: Keeper) -> None:
 
 
 def append_half(trial: Trial, host: Host, order: Json) -> list[str]:
-    """The other two bricks stop just before the gate is opened, and come again: the gate in each brick."""
+    """Stops the other two bricks just before the gate is opened, and restarts them. Returns the gate in each brick."""
     volume, others = trial.volume, [other for other in trial.hosts if other is not host]
     writer = subprocess.Popen(host.inside("python3", "-c", APPEND, STORE, json.dumps(order)), encoding="utf-8",
                               stdin=subprocess.PIPE, stdout=subprocess.PIPE, stderr=subprocess.DEVNULL)

@@ -1,4 +1,4 @@
-"""A coordinator or a standby on one host: `serve` started again and again, as by examples/resetd-standby.service."""
+"""A coordinator or a standby on one host: `serve`, started again and again like by examples/resetd-standby.service."""
 
 import os
 import subprocess
@@ -10,7 +10,7 @@ from .volume import MOUNT
 PORT, STORE, TURN, AGAIN = 4170, f"{MOUNT}/store", f"{MOUNT}/turn", 1
 REFUSED = "3 resetd: Device"
 
-# Only if the volume is mounted and has the file: `serve` would create an absent one.
+# Only if the volume is mounted and has the file, because `serve` would create a missing one.
 KEEP = r"""
 store=$1 folder=$2 again=$3
 shift 3
@@ -35,7 +35,7 @@ exec "$0" serve "$1" "$2"
 
 
 class Keeper:
-    """Its output is in files of its host, one list of lines over all its starts."""
+    """The coordinator or standby. Its output is in files of its host, one list of lines over all its starts."""
 
     process: subprocess.Popen[bytes]
 
@@ -61,7 +61,7 @@ class Keeper:
         self.process = subprocess.Popen(words, stdin=subprocess.DEVNULL)
 
     def pause(self) -> None:
-        """No further start, until `go_on`."""
+        """Prevents further starts, until `go_on`."""
         with open(self.path("paused"), "w", encoding="utf-8"):
             pass
 
@@ -69,23 +69,23 @@ class Keeper:
         os.remove(self.path("paused"))
 
     def wait_over(self) -> None:
-        """After the end of its host."""
+        """Waits for the end of the process after the end of its host."""
         self.process.wait()
 
     def starts(self) -> int:
-        """How often it came to listen."""
+        """Returns how many times it came to listen."""
         return sum(line.startswith("listening ") for line in self.lines("signals"))
 
     def ends(self) -> list[str]:
-        """The status and the words of each end."""
+        """Returns the status and the messages of each end."""
         return [line.strip() for line in self.lines("ended")]
 
     def gave_up(self) -> str | None:
-        """The end after which there is no further start, if there was one: the store was refused."""
+        """Returns the end after which there is no further start, if there was one: the store was refused."""
         return next((end for end in self.ends() if end.split()[0] in ("1", "2")), None)
 
     def wait_refused(self) -> int:
-        """A standby tries, and is refused by a lock: its status."""
+        """Waits until a standby has tried to start, and was refused by a lock. Returns its status."""
         before = len(self.ends())
         wait_for(f"a try of the standby on {self.host.name}", 30, lambda: len(self.ends()) > before)
         if self.ends()[-1] not in ("3", REFUSED):
@@ -93,19 +93,19 @@ class Keeper:
         return 3
 
     def serve_by_hand(self) -> str:
-        """`serve` typed where another host has the file: it is refused by the lock of the file."""
+        """Runs `serve` by hand while another host has the file: the lock of the file refuses it."""
         status, printed = self.command("serve", self.address)
         if f"{status} {printed.strip()}" != REFUSED:
             raise Lost(f"beside another coordinator, serve on {self.host.name} ended with {status}: {printed}")
         return REFUSED
 
     def command(self, word: str, *words: str) -> tuple[int, str]:
-        """Another command of the program on the volume's file, on this host."""
+        """Runs another command of the program on the volume's file, on this host."""
         return self.host.run(self.program, word, STORE, *words, is_checked=False)
 
 
 def look_into(program: str, held: bytes, folder: str) -> tuple[int, str, list[list[str]]]:
-    """What `check` and `show` say of the bytes of a brick, on a copy."""
+    """Returns the output of `check` and `show` for the bytes of a brick, on a copy."""
     path = os.path.join(folder, "copy")
     with open(path, "wb") as file:
         file.write(held)

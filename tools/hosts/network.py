@@ -1,7 +1,7 @@
-"""Hosts of the trial: namespaces with a separate network, mounts, name and processes, joined by one switch.
+"""The hosts of the trial: namespaces, each with its own network, mounts, name and processes, joined by one switch.
 
-All of it stands inside the namespaces that tools/takeover began, so that nothing is bound or mounted outside, and
-the end of its first process ends everything in it.
+All of them are inside the namespaces that tools/takeover began, so nothing is bound or mounted outside, and the end of the
+first process in there ends everything.
 """
 
 import contextlib
@@ -22,7 +22,7 @@ NEW_NETWORK = 0x40000000
 GET_FLAGS, SET_FLAGS, UP = 0x8913, 0x8914, 1
 SWITCH = "switch"
 
-# The first process of a host. It starts with its own folders in the place of the machine's, and an empty /run.
+# The first process of a host. It starts with its own folders in place of the machine's, and an empty /run.
 BOOT = r"""
 set -e
 hostname "$1"
@@ -45,11 +45,11 @@ while True:
 
 
 class Failed(Exception):
-    """A step of the trial's own setting could not be made; it says nothing of the coordinator."""
+    """A step in the trial's own setup failed; this implies nothing about the coordinator."""
 
 
 def run(words: list[str], seconds: float = 60, is_checked: bool = True) -> tuple[int, str]:
-    """Runs a command to its end: its status, and its output."""
+    """Runs a command to its end. Returns its status and its output."""
     try:
         done = subprocess.run(words, stdin=subprocess.DEVNULL, stdout=subprocess.PIPE, stderr=subprocess.STDOUT,
                               encoding="utf-8", errors="replace", timeout=seconds, check=False)
@@ -61,7 +61,7 @@ def run(words: list[str], seconds: float = 60, is_checked: bool = True) -> tuple
 
 
 def make_switch(folder: str) -> None:
-    """What joins the hosts, and the file that has their names."""
+    """Creates the switch that joins the hosts, and the file with their names."""
     with open(f"{folder}/names", "w", encoding="utf-8") as names:
         names.write("127.0.0.1 localhost\n" + "".join(f"10.77.0.{n} host{n}\n" for n in (1, 2, 3)))
     run(["ip", "link", "set", "lo", "up"])
@@ -70,7 +70,7 @@ def make_switch(folder: str) -> None:
 
 
 class Host:
-    """One machine, on or off. Its folder is its disk and outlives it; its processes and its mounts don't."""
+    """One machine, on or off. Its folder is its disk and outlives it; its processes and mounts don't."""
 
     process: subprocess.Popen[str]
 
@@ -85,7 +85,7 @@ class Host:
         self.boot_by(BOOT)
 
     def boot_by(self, script: str, *more: str, group: str | None = None) -> None:
-        """In a separate control group, if one is named: systemd wants to be the only one in its group."""
+        """Starts the host, in a separate control group if one is named: systemd must be the only one in its group."""
         words = ["sh", "-c", 'echo $$ > "$0/cgroup.procs"; exec "$@"', group] if group else []
         words += ["unshare", "--net", "--mount", "--pid", "--uts", "--ipc", "--cgroup", "--fork", "--kill-child",
                   "--mount-proc", "sh", "-c", script, "boot", self.name, self.folder, self.address,
@@ -114,7 +114,8 @@ class Host:
         return self.first is not None
 
     def kill(self) -> None:
-        """Signal 9 to the first process, and so to all: none can send a last word, since the link goes down first."""
+        """Kills the first process by signal 9, and so all of them. No process can send anything more, because the link is cut
+        first."""
         assert self.first and self.process.stdin and self.process.stdout
         self.cut()
         os.kill(self.first, 9)
@@ -131,7 +132,7 @@ class Host:
         set_link(self.port, True)
 
     def inside(self, *words: str) -> list[str]:
-        """The words that run a command on this host."""
+        """Returns the arguments that run a command on this host."""
         return ["nsenter", f"--target={self.first}", "--mount", "--net", "--pid", "--uts", "--ipc", "--cgroup",
                 "--wd=/", *words]
 
@@ -140,7 +141,7 @@ class Host:
 
     @contextlib.contextmanager
     def network(self) -> Iterator[None]:
-        """Within it the calling thread has this host's network: its connections are the host's."""
+        """Gives the calling thread this host's network within the body: its connections are the host's."""
         with open(f"/proc/{self.first}/ns/net", "rb") as there, \
                 open(f"/proc/self/task/{threading.get_native_id()}/ns/net", "rb") as back:
             enter(there)
@@ -151,7 +152,7 @@ class Host:
 
 
 def set_link(name: str, is_up: bool) -> None:
-    """At once, without a command that would first have to start."""
+    """Sets a link up or down at once, without a command that would first have to start."""
     with socket.socket(socket.AF_INET, socket.SOCK_DGRAM) as any_socket:
         asked = fcntl.ioctl(any_socket, GET_FLAGS, struct.pack("16sh22x", name.encode(), 0))
         flags = struct.unpack("16sh22x", asked)[1] & ~UP | (UP if is_up else 0)
@@ -164,7 +165,7 @@ def enter(namespace: IO[bytes]) -> None:
 
 
 def wait_for(what: str, seconds: float, is_so: Callable[[], object], pause: float = 0.05) -> float:
-    """Waits until something is so, and answers how long that took."""
+    """Waits until `is_so` returns a true value. Returns the seconds that it took."""
     begun = time.monotonic()
     while not is_so():
         if time.monotonic() - begun > seconds:

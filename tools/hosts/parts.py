@@ -1,4 +1,4 @@
-"""The parts of the trial: the loss in each, and who continues."""
+"""The parts of the trial: the loss in each, and which host continues."""
 
 import time
 from collections.abc import Callable
@@ -78,7 +78,7 @@ def cut_in_load(trial: Trial) -> float:
 
 
 def ask_linked_old(trial: Trial, old: Keeper, ends: int) -> None:
-    """The old coordinator, over a new connection, with an order of a client that nobody else is."""
+    """Asks the old coordinator, over a new connection, with an order of a client that nobody else uses."""
     request = {"op": "reset", "client": 15, "number": 1, "node": 1}
     tell(f"the old coordinator on {old.host.name} {trial.end_old(old, ends, request)}")
 
@@ -139,7 +139,7 @@ def bricks_in_turn(trial: Trial) -> float:
 
 
 def one_brick(trial: Trial, host: Host) -> float:
-    """Kills a brick and starts it again: the longest time without an answer."""
+    """Kills a brick and starts it again. Returns the longest time without an answer."""
     killed = time.monotonic()
     trial.volume.kill_brick(host)
     time.sleep(LATER)
@@ -149,7 +149,7 @@ def one_brick(trial: Trial, host: Host) -> float:
 
 
 def third_host_away(trial: Trial) -> float:
-    """The host without a coordinator: the longest time without an answer, to clients on the coordinator's host."""
+    """Cuts off the host without a coordinator. Returns the longest time without an answer to clients on the coordinator's host."""
     away, trial.site.host = trial.site.host, trial.present.host
     starts = trial.starts()
     time.sleep(LATER)

@@ -1,4 +1,4 @@
-"""All answers and signals over all hosts, and their invariants."""
+"""Records all answers and signals over all hosts, and checks their invariants."""
 
 import threading
 import time
@@ -15,7 +15,7 @@ class Records:
         self.epochs: dict[int, int] = {}
 
     def note_answer(self, order: Json, reply: Json, keeper: Keeper) -> None:
-        """A reply that came. No two orders have one step."""
+        """Records a reply. No two orders may have the same step."""
         with self.lock:
             other = self.steps.setdefault(reply["step"], order)
             self.answers.append((time.monotonic(), keeper))
@@ -23,7 +23,7 @@ class Records:
                 raise Lost(f"{other} and {order} were both answered as step {reply['step']}")
 
     def signals(self) -> list[tuple[int, int]]:
-        """Each signal that was printed, as its node and its epoch, over all hosts. None twice."""
+        """Returns each printed signal, as its node and its epoch, over all hosts. None may be printed twice."""
         seen: dict[str, str] = {}
         for keeper in self.keepers:
             for line in keeper.lines("signals"):
@@ -34,7 +34,7 @@ class Records:
         return [(int(node), int(epoch)) for _, node, epoch in map(str.split, seen)]
 
     def note_epochs(self, epochs: dict[int, int]) -> None:
-        """Epochs that were shown: none is below one that was signalled or shown before."""
+        """Records shown epochs. None may be below one that was signalled or shown before."""
         for node, epoch in [*self.signals(), *self.epochs.items()]:
             if epochs.get(node, 0) < epoch:
                 raise Lost(f"node {node} was in epoch {epoch}, and is in epoch {epochs.get(node)}")
@@ -44,12 +44,12 @@ class Records:
         return max(self.steps, default=0)
 
     def first_answer(self, keeper: Keeper, since: float) -> float | None:
-        """When this keeper first answered an order after a moment; none if it did not."""
+        """Returns when this coordinator first answered an order after a moment, or None if it did not."""
         with self.lock:
             return next((when for when, who in self.answers if who is keeper and when >= since), None)
 
     def longest_gap(self, since: float) -> float:
-        """The longest time without an answer from a moment until now."""
+        """Returns the longest time without an answer from a moment until now."""
         with self.lock:
             moments = [since, *(when for when, _ in self.answers if when >= since), time.monotonic()]
         return max(later - sooner for sooner, later in zip(moments, moments[1:]))

@@ -1,4 +1,4 @@
-"""Small services, one for each member: at a signal each begins again and confirms the epoch."""
+"""Small services, one for each member: at a signal, a service begins again and confirms the epoch."""
 
 import threading
 import time
@@ -10,8 +10,8 @@ LOOK = 2  # seconds between two looks at `show`
 
 
 class Service:
-    """Follows the lines that the coordinators of all hosts print, and looks at `show` after each `listening`, and
-    every few seconds, since a signal can go with a host."""
+    """Follows the lines that the coordinators of all hosts print. Looks at `show` after each `listening` and every few seconds,
+    because a signal can be lost with a host."""
 
     def __init__(self, node: int, client: Client, keepers: list[Keeper]) -> None:
         self.node, self.client, self.keepers = node, client, keepers
@@ -47,7 +47,7 @@ class Service:
         self.looked = time.monotonic()
 
     def begin(self, epoch: int) -> None:
-        """An epoch that was begun before is not begun again."""
+        """Begins an epoch, unless it was begun before."""
         if epoch <= self.begun:
             return
         self.begun = epoch

@@ -1,4 +1,4 @@
-"""The setting of the trial, and the checks after each of its parts."""
+"""The setup of the trial, and the checks after each of its parts."""
 
 import time
 
@@ -44,7 +44,7 @@ class Trial:
             self.load.clients[0].drops = 5
 
     def begin(self) -> None:
-        """Everything up to a coordinator on host 1 and a standby on host 2 that was refused."""
+        """Sets everything up: a coordinator on host 1, and a standby on host 2 that was refused."""
         make_switch(self.folder)
         for host in self.hosts:
             host.boot()
@@ -55,7 +55,7 @@ class Trial:
         status, printed = first.command("init", f"{self.folder}/ring.toml")
         if status != 0:
             raise Lost(f"resetd init: {printed}")
-        if self.planted == "page-cache":  # of a file that grows the kernel keeps no page
+        if self.planted == "page-cache":  # the kernel keeps no page of a file that grows
             first.host.run("truncate", f"--size={17 + 2 * HALF}", STORE)
         with open(f"{self.folder}/old", "wb") as old:
             old.write(self.volume.bytes()[0])
@@ -78,13 +78,13 @@ class Trial:
         return next(other for other in self.keepers if other is not keeper)
 
     def restart(self, keeper: Keeper) -> None:
-        """The host of a keeper is switched on again, with its brick, the volume and a standby."""
+        """Switches the host of a coordinator on again, with its brick, the volume and a standby."""
         keeper.host.boot()
         self.volume.join(keeper.host)
         keeper.start()
 
     def wait_takeover(self, keeper: Keeper, since: float) -> float:
-        """Waits until another host's coordinator has answered an order of the load: the seconds that it took."""
+        """Waits until another host's coordinator has answered an order of the load. Returns the seconds that it took."""
         wait_for(f"an answer of {keeper.host.name}", 90,
                  lambda: self.load.fault or keeper.gave_up() or self.records.first_answer(keeper, since), 0.01)
         answered = self.records.first_answer(keeper, since)
@@ -95,8 +95,8 @@ class Trial:
         return answered - since
 
     def wait_quiet(self, seconds: float = 60) -> tuple[Keeper, Json, dict[int, int]]:
-        """Until no reset is on its way, each member has confirmed, and each order has its answer: the epochs. (A
-        settled order is in `show` before its answer has come, and then the one before it is out of turn.)"""
+        """Waits until no reset is in progress, each member has confirmed, and each order has its answer. Returns the epochs. (A
+        settled order is in `show` before its answer has arrived; then the order before it would be out of turn.)"""
         keeper, until = self.present, time.monotonic() + seconds
         while time.monotonic() < until:
             view, keeper = self.site.ask({"op": "show"}, seconds)
@@ -112,7 +112,7 @@ class Trial:
         raise Lost(f"a reset did not end within {seconds} s: {rows}")
 
     def check(self) -> None:
-        """All that was promised, with no order on its way."""
+        """Checks everything that was promised, while no order is in progress."""
         keeper, view, epochs = self.wait_quiet()
         for client in self.clients:
             client.repeat()
@@ -132,7 +132,7 @@ class Trial:
              f"{took:.1f} s\n")
 
     def plant(self, keeper: Keeper) -> None:
-        """The planted faults, to see that they are found."""
+        """Plants the faults, to see that they are found."""
         if self.planted == "other-brick":
             with open(f"{self.hosts[2].folder}/srv/brick/resetd/store", "r+b") as file:
                 file.seek(20)
@@ -144,15 +144,15 @@ class Trial:
                 file.write(f"{self.keepers[0].lines('signals')[-1]}\n")
 
     def check_file(self, held: bytes, steps: int) -> None:
-        """The bytes are a legal store of just these steps, whose epochs are those that were shown."""
+        """Checks that the bytes are a legal store with exactly these steps, and with the epochs that were shown."""
         status, printed, rows = look_into(self.program, held, self.folder)
         if status != 0 or printed != f"legal {steps}":
             raise Lost(f"resetd check ended with status {status}: {printed}, and {steps} steps were shown")
         self.records.note_epochs({int(row[1]): int(row[5]) for row in rows})
 
     def end_old(self, keeper: Keeper, before: int, request: Json) -> str:
-        """An old coordinator, whose end is the one after this many, is queried: it must refuse, and ends by `close` with the
-        fault of its device. If a client of the load came to it first, and closed it, only its end is seen."""
+        """Sends a request to an old coordinator, whose end follows this number of earlier ones: it must refuse, and a close
+        ends it with the fault of its device. If a client of the load has already closed it, only its end is seen."""
         try:
             reply = ask(self.site.host, keeper.address, request, 30)
             if reply.get("name") != "Stopped":
@@ -174,8 +174,9 @@ class Trial:
         return sum(keeper.starts() for keeper in self.keepers)
 
     def hand_over(self) -> float:
-        """Ends the present coordinator in order, and waits for the next start, here or there: the seconds that it took. A
-        coordinator has the file open on the bricks that its host had when it opened it, so each must have all."""
+        """Ends the present coordinator in order, and waits for the next start on any host. Returns the seconds that it took. A
+        coordinator has the file open on the bricks that its host had when it opened the file, so each host must have all
+        bricks."""
         for keeper in self.keepers:
             wait_for(f"{keeper.host.name}: all bricks", 30, lambda: self.volume.is_connected(keeper.host), 0.2)
         starts, begun, keeper = self.starts(), time.monotonic(), self.present
@@ -188,7 +189,7 @@ class Trial:
         return time.monotonic() - begun
 
     def hand_over_to(self, keeper: Keeper) -> None:
-        """Closes until this one serves."""
+        """Closes coordinators until this one serves."""
         until = time.monotonic() + 60
         while self.present is not keeper:
             if time.monotonic() > until:
@@ -196,7 +197,7 @@ class Trial:
             self.hand_over()
 
     def tell_state(self) -> None:
-        """The state of each host, at a loss."""
+        """Prints the state of each host at a loss."""
         print(f"orders: {[(client.answered, client.reply, client.unanswered) for client in self.clients]}")
         for keeper in self.keepers:
             print(f"{keeper.host.name}: {keeper.starts()} starts; ends: {' | '.join(keeper.ends()[-5:])}")

@@ -1,4 +1,4 @@
-"""The replicated volume: made on three hosts, mounted on each, and looked into at its bricks."""
+"""The replicated volume: created on three hosts, mounted on each, and inspected at its bricks."""
 
 import hashlib
 
@@ -10,13 +10,13 @@ NAME, BRICK, MOUNT = "resetd", "/srv/brick/resetd", "/srv/resetd"
 DIRECT, FRESH = "direct-io-mode=enable", "attribute-timeout=0,entry-timeout=0"
 STRICT_LOCKS = "client.strict-locks"
 
-# docs/TAKEOVER.md has the reason of each.
+# docs/TAKEOVER.md gives the reason for each.
 OPTIONS = {
-    # the file's lock is the volume's, and one that lost it can't go on
+    # the volume has the file's lock, and a client that lost it can't continue
     STRICT_LOCKS: "on",
     # a write needs two of three bricks
     "cluster.quorum-type": "auto",
-    # no answer before the bricks have it, no read that a cache answers
+    # no answer before the bricks have the data, no read that a cache answers
     "performance.write-behind": "off",
     "performance.open-behind": "off",
     "performance.quick-read": "off",
@@ -33,7 +33,7 @@ OPTIONS = {
     "server.keepalive-time": "2",
     "server.keepalive-interval": "1",
     "server.keepalive-count": "2",
-    # how soon a brick that was away is looked at
+    # how soon a brick that was away is checked
     "cluster.heal-timeout": "5",
 }
 
@@ -46,7 +46,7 @@ class Volume:
         return host.run("gluster", "--mode=script", *words, seconds=seconds, is_checked=is_checked)
 
     def make(self) -> None:
-        """On hosts that are on: glusterd on each, one pool, the volume with its options, mounted on each."""
+        """Creates the volume on hosts that are on: glusterd on each, one pool, the volume with its options, mounted on each."""
         first = self.hosts[0]
         for host in self.hosts:
             self.manage(host)
@@ -72,25 +72,25 @@ class Volume:
                  lambda: self.gluster(host, "pool", "list", is_checked=False)[1].count("Connected") == len(self.hosts))
 
     def mount(self, host: Host, is_checked: bool = True) -> bool:
-        """Whether the volume is mounted now."""
+        """Mounts the volume. Returns whether it is mounted now."""
         words = ["mount", "-t", "glusterfs", "-o", self.mount_options, f"{host.name}:/{NAME}", MOUNT]
         return host.run(*words, is_checked=is_checked)[0] == 0
 
     def join(self, host: Host) -> None:
-        """A host that was switched on again: its glusterd starts its brick, and the volume is mounted."""
+        """Rejoins a host that was switched on again: its glusterd starts its brick, and the volume is mounted."""
         self.manage(host)
         wait_for(f"the brick of {host.name}", 30, lambda: self.brick_process(host) is not None)
         wait_for(f"the volume on {host.name}", 30, lambda: self.mount(host, is_checked=False), 0.5)
 
     def brick_process(self, host: Host) -> str | None:
-        """The number of the brick's process on its host, if there is one."""
+        """Returns the number of the brick's process on its host, or None if there is none."""
         _, printed = host.run("sh", "-c", "cat /run/gluster/vols/*/*.pid", is_checked=False)
         number = printed.strip()
         is_there = number.isdigit() and host.run("kill", "-0", number, is_checked=False)[0] == 0
         return number if is_there else None
 
     def present_brick(self, host: Host) -> str:
-        """The same of a brick that is there."""
+        """Like `brick_process`, for a brick that must be running."""
         number = self.brick_process(host)
         if number is None:
             raise Failed(f"{host.name} has no brick")
@@ -100,19 +100,19 @@ class Volume:
         host.run("kill", "-9", self.present_brick(host))
 
     def freeze_brick(self, host: Host) -> None:
-        """Messages to it are no longer processed. Its threads stop once the first of them has got the signal, on a busy machine
-        some time later, so that is waited for."""
+        """Stops a brick from processing messages. Its threads stop once the first of them has got the signal, on a busy machine
+        some time later; that is waited for."""
         number = self.present_brick(host)
         host.run("kill", "-STOP", number)
         wait_for(f"the brick of {host.name} to stop", 10, lambda: self.is_frozen(host, number), 0.01)
 
     def is_frozen(self, host: Host, number: str) -> bool:
-        """Whether each thread of a process has stopped."""
+        """Returns whether each thread of a process has stopped."""
         _, printed = host.run("sh", "-c", f"cat /proc/{number}/task/*/stat", is_checked=False)
         return {line.rsplit(") ", 1)[-1][:1] for line in printed.splitlines()} == {"T"}
 
     def set_healing(self, is_on: bool) -> None:
-        """Whether a brick that owes another one something is looked at."""
+        """Sets whether bricks are checked for writes that they owe another one."""
         self.gluster(self.hosts[0], "volume", "set", NAME, "cluster.self-heal-daemon", "on" if is_on else "off")
 
     def start_brick(self, host: Host) -> None:
@@ -120,18 +120,18 @@ class Volume:
         wait_for(f"the brick of {host.name}", 30, lambda: self.brick_process(host) is not None)
 
     def is_connected(self, host: Host) -> bool:
-        """Whether the volume's client on a host has all three bricks. After a loss it looks for them every 3 s."""
+        """Returns whether the volume's client on a host has all three bricks. After a loss it looks for them every 3 s."""
         _, printed = host.run("sh", "-c", f"cat {MOUNT}/.meta/graphs/active/{NAME}-client-*/private", is_checked=False)
         return printed.count("connected = 1") == len(self.hosts)
 
     def is_healed(self, host: Host) -> bool:
-        """Whether all three bricks are there and none owes another one anything."""
+        """Returns whether all three bricks are running and none owes another one a write."""
         status, printed = self.gluster(host, "volume", "heal", NAME, "info", seconds=120, is_checked=False)
         return status == 0 and printed.count("Number of entries: 0") == len(self.hosts)
 
     def wait_healed(self, host: Host, seconds: float = 60) -> tuple[bytes, float]:
-        """Waits until no brick owes another one anything and all have the same bytes: these bytes, and the seconds that it took.
-        The bytes count too, since a write of the last second may not be in the bricks' lists yet."""
+        """Waits until no brick owes another one a write and all have the same bytes. Returns these bytes, and the seconds that
+        it took. The bytes are compared too, because a write of the last second may not be in the bricks' lists yet."""
         try:
             took = wait_for("healing", seconds, lambda: self.is_healed(host) and len(set(self.bytes())) == 1, 0.5)
         except Failed as late:
@@ -141,7 +141,7 @@ class Volume:
         return self.bytes()[0], took
 
     def bytes(self, name: str = "store") -> list[bytes]:
-        """What each brick holds as a file of the volume, read below it on its host's disk."""
+        """Returns the content of a file of the volume in each brick, read from its host's disk."""
         held = []
         for host in self.hosts:
             with open(f"{host.folder}{BRICK}/{name}", "rb") as file:

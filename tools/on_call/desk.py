@@ -1,4 +1,4 @@
-"""What a trial of a row works with: a scratch folder, stores, servers, and what a person types."""
+"""The tools of a trial for a row: a scratch folder, stores, servers, and the commands that a person types."""
 
 from __future__ import annotations
 
@@ -25,14 +25,14 @@ class Typed(NamedTuple):
 
 
 class Trial(NamedTuple):
-    """A trial of a row, and whether it waits for minutes."""
+    """The trial of a row, and whether it waits for minutes."""
 
     call: Callable[[Desk], None]
     is_slow: bool
 
 
 TRIALS: dict[str, Trial] = {}  # by the words with which a row begins
-LEFT_OUT: dict[str, str] = {}  # why a row has none
+LEFT_OUT: dict[str, str] = {}  # the reason why a row has no trial
 
 
 class NotSeen(AssertionError):
@@ -40,7 +40,7 @@ class NotSeen(AssertionError):
 
 
 def row(beginning: str, is_slow: bool = False) -> Callable[[Callable[[Desk], None]], Callable[[Desk], None]]:
-    """The trial of the row whose first cell begins so."""
+    """Registers the trial of the row whose first cell begins with these words."""
     def take(call: Callable[[Desk], None]) -> Callable[[Desk], None]:
         TRIALS[beginning] = Trial(call, is_slow)
         return call
@@ -54,7 +54,7 @@ def see(where: str, *wanted: str) -> None:
 
 
 class Desk:
-    """One trial's own."""
+    """The folder and the processes of one trial."""
 
     def __init__(self, folder: str) -> None:
         self.folder = folder
@@ -68,25 +68,25 @@ class Desk:
         return self.path(name)
 
     def store(self, nodes: int = 2, name: str = "store") -> str:
-        """A store of a row of linked nodes."""
+        """Creates a store with a row of linked nodes."""
         text = topology([(node, 1) for node in range(1, nodes + 1)], [(node, node + 1) for node in range(1, nodes)], HALF)
         see(ran("init", self.path(name), self.write(f"{name}.toml", text.encode())).printed, "created")
         return self.path(name)
 
     def serve(self, store: str, **settings: str | int) -> Serving:
-        """A server, some of whose calls are changed."""
+        """Returns a server, some of whose calls may be changed."""
         return Serving(store, env=environment(self.folder, **settings) if settings else None)
 
     def start_ends(self, store: str, status: int, name: str, address: str = "127.0.0.1:0",
                    **settings: str | int) -> None:
-        """A start ends with this status and this fault."""
+        """Checks that a start ends with this status and this fault."""
         ended = ran("serve", store, address, env={**os.environ, **environment(self.folder, **settings)} if settings else None)
         if (ended.status, ended.told) != (status, f"resetd: {name}\n"):
             raise NotSeen(f"a start ended with {ended}, and not with {name}")
 
     def resetctl(self, *words: str, server: Serving | None = None, address: str | None = None, patience: float = LONG,
                  seconds: float = LONG) -> Typed:
-        """What `resetctl` prints for these words, with its status."""
+        """Runs `resetctl` with these arguments. Returns its output and its status."""
         at = address or (server.address if server else "127.0.0.1:1")
         return self.type_words(sys.executable, "-B", f"{ROOT}/client/resetctl", "--state", self.path("state"), "--address", at,
                           "--patience", str(patience), "--seconds", str(seconds), *words)
@@ -97,15 +97,15 @@ class Desk:
         return Typed(done.returncode, done.stdout)
 
     def health(self, server: Serving | None, *words: str, patience: float = LONG, seconds: float = LONG) -> Typed:
-        """What the monitoring check prints; an epoch may be unconfirmed meanwhile."""
+        """Returns the output of the monitoring check. An epoch may be unconfirmed meanwhile."""
         return self.resetctl("health", *(words or ("--unconfirmed", "1000000")), server=server, patience=patience, seconds=seconds)
 
     def await_health(self, server: Serving, wanted: str, *words: str) -> Typed:
-        """Looks until the check prints something."""
+        """Runs the check until it prints this."""
         return until(wanted, lambda: wanted in (told := self.health(server, *words)).text and told)
 
     def expect_served(self, store: str, *wanted: str) -> None:
-        """A start goes well, and the check finds all well; the network shows this."""
+        """Checks that a start succeeds, the check finds nothing, and the network shows this store."""
         with Serving(store) as server:
             see(self.health(server, "--store", store, "--unconfirmed", "1000000").text, "resetd OK: well")
             see(self.resetctl("show", server=server).text, *wanted)
@@ -113,5 +113,5 @@ class Desk:
                 raise NotSeen("the server did not end in order")
 
     def why(self, store: str, server: Serving | None = None, *words: str) -> str:
-        """What `why` prints; it waits 2 s for an answer."""
+        """Returns the output of `why`, which waits 2 s for an answer."""
         return self.resetctl("why", *words, store, *([server.address] if server else []), patience=0, seconds=2).text

@@ -54,7 +54,8 @@ def stop_meanwhile(server: Serving) -> Iterator[None]:
 
 @contextlib.contextmanager
 def held(server: Serving) -> Iterator[None]:
-    """A client of this process has the one connection. It asks each second, since a silent one would be ended."""
+    """A client of this process uses the only connection. It sends a request each second, because a silent client would be
+    ended."""
     host, port_number = server.address.split(":")
     has_asked, is_over = threading.Event(), threading.Event()
 
@@ -141,8 +142,8 @@ def a_file_of_signals_that_is_full(desk: Desk) -> None:
 
 @row("`N steps have waited for the disk`", is_slow=True)
 def a_slow_disk(desk: Desk) -> None:
-    """At 2, 4 and 7 seconds a sync, of which a flight has two. A flight that takes longer than 5 s is reported, and no wave as
-    one that stands still, since it moves with its flights."""
+    """A sync takes 2, 4 and 7 seconds, and a flight has two. A flight that takes longer than 5 s is reported, but no wave is
+    reported as still, because it moves with its flights."""
     for seconds in (2, 4, 7):
         store = desk.store(name=f"slow{seconds}")
         with desk.serve(store, SYNC_MILLIS=1_000 * seconds) as server:
@@ -155,7 +156,7 @@ def a_slow_disk(desk: Desk) -> None:
 
 
 def told_of_a_wave(server: Serving, memory: str) -> set[str]:
-    """What the check finds from the begin of a wave to its end, by looks that follow each other closely: words of it."""
+    """Returns what the check finds from the beginning of a wave to its end, by looks in quick succession."""
     port, told, words = Port(server.address, LONG), set[str](), {"stood still", "have waited for the disk"}
     while True:
         view = port.show()
@@ -168,7 +169,7 @@ def told_of_a_wave(server: Serving, memory: str) -> set[str]:
 
 @row("`a wave has stood still at node N`")
 def a_lost_packet(desk: Desk) -> None:
-    """The workers, which take the packets that a start sends again, find no memory, and so lose one."""
+    """The workers, which submit the packets that a start sends again, run out of memory, and so lose one."""
     store, refusing = desk.write("store", migrations.IN_A_RESET), Refusing(PROGRAM, desk.folder)
     with Serving(store, env=refusing.environment(1, 1_000_000, threads=WORKERS)) as server:
         desk.await_health(server, "a wave has stood still at node 1 (abort)")
@@ -201,7 +202,7 @@ def a_new_service(desk: Desk) -> None:
 
 @contextlib.contextmanager
 def service(desk: Desk, server: Serving) -> Iterator[Callable[[], str]]:
-    """The example, as member 1, and its output."""
+    """Starts the example as member 1. Returns it and its output."""
     said = desk.path("service.txt")
     with open(said, "wb") as out:
         process = subprocess.Popen([sys.executable, "-B", f"{ROOT}/examples/service", "1", server.address, desk.path("member"),
@@ -226,7 +227,7 @@ def a_lost_count(desk: Desk) -> None:
 
 @row("no answer to an order")
 def no_answer_to_an_order(desk: Desk) -> None:
-    """Killed with an order on its way: it is carried out once, however often it is sent."""
+    """The server is killed with an order in progress: the order is carried out once, however often it is sent."""
     store = desk.store(1)
     order = {"op": "reset", "client": 9, "number": 1, "node": 1}
     with desk.serve(store, SYNC_MILLIS=300) as server, server.connect() as connection:
@@ -241,7 +242,7 @@ def no_answer_to_an_order(desk: Desk) -> None:
 
 @row("the power failed, or the process was killed")
 def a_kill(desk: Desk) -> None:
-    """During a reset."""
+    """The server is killed during a reset."""
     store = desk.store(8)
     with desk.serve(store, SYNC_MILLIS=100) as server:
         server.order(1, "reset", node=1)

@@ -182,6 +182,6 @@ def who_asked(desk: Desk) -> None:
 
 
 def selector_of(store: str) -> int:
-    """Which half is selected: each checkpoint changes it."""
+    """Returns which half is selected. Each checkpoint changes it."""
     with open(store, "rb") as file:
         return file.read(1)[0] % 2

@@ -18,11 +18,11 @@ READY, ABORT, CONVERGE = 0, 1, 2
 class Node(NamedTuple):
     mode: int = READY
     parent: int = -1
-    awaited: int = 0  # the nodes whose Ack is awaited, a bit for each
+    awaited: int = 0  # the nodes whose Ack is awaited, one bit for each
     distance: int = 0
 
 
-# A message: its letter, and the distance that an Abort carries. A way has the messages on it, and is None once its link was dropped.
+# A message: its letter, and the distance that an Abort carries. A lane has its messages in transit, and is None once its link was dropped.
 Message = tuple[str, int]
 Way = tuple[Message, ...] | None
 ACK: Message = ("K", 0)
@@ -40,7 +40,7 @@ class Graph:
 
 
 class World:
-    """The nodes and the messages on the way over a graph, while one step is taken; `signalled` gets the nodes that it signals.
+    """The nodes and the messages in transit over a graph, while one step is taken; `signalled` gets the nodes that it signals.
     `rule` names a wrong rule (tools/overlap_search lists them), and is empty for the right ones."""
 
     def __init__(self, graph: Graph, nodes: Sequence[Node], ways: Sequence[Way], rule: str = "") -> None:
@@ -79,7 +79,7 @@ class World:
         self.send(u, parent, ACK)
 
     def reset(self, u: int) -> bool:
-        """Whether a reset is started."""
+        """Resets a node. Returns whether a reset was started."""
         mode = self.nodes[u].mode
         if mode == READY and self.rule == "joined_when_ready":
             return False

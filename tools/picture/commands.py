@@ -1,13 +1,13 @@
-"""Which command made which step: the input of a drill laid beside its output."""
+"""Finds which command made which step, by comparing a drill's input with its output."""
 
 import re
 from collections import deque
 
-# These are printed after an answer's first line, and answer nothing by themselves.
+# These lines are printed after an answer's first line, and are not answers themselves.
 FOLLOWS = ("receipt", "signal", "data", "node", "link")
-# These print no line of their own, or any number of lines that follow.
+# These commands print no line of their own, or any number of lines that follow.
 UNANSWERED = ("hold", "version", "resend")
-# What each kind of reply answers; a pending step may be any.
+# The commands that each kind of reply may answer; a pending step may be any.
 ANSWERED = {
     "done": r"(?:add|join|drop|confirm) \d+ \d+|remove \d+",
     "started": r"reset \d+", "finished": r"reset \d+", "joined": r"reset \d+",
@@ -18,11 +18,11 @@ ANSWERED["pending"] = "|".join(ANSWERED.values())
 
 
 class OtherRun(Exception):
-    """The input is not the one that this output answers."""
+    """The output does not belong to this input."""
 
 
 def commands_by_step(asked: list[str], printed: list[str]) -> dict[int, list[str]]:
-    """The words of the command of each step, from the lines of a drill's input and of its output."""
+    """Returns the command of each step, from the lines of a drill's input and of its output."""
     answers = deque(line for line in printed if line.split(" ")[0] not in FOLLOWS)
     commands: dict[int, list[str]] = {}
     for number, line in enumerate(asked, 1):
@@ -39,13 +39,13 @@ def commands_by_step(asked: list[str], printed: list[str]) -> dict[int, list[str
 
 
 def skip_flight(answers: deque[str]) -> None:
-    """The replies of a flush, up to the line that ends it: their steps were pending, and are known by then."""
+    """Skips the replies of a flush, up to the line that ends it: their steps were pending, and are already known."""
     while answers and not answers.popleft().startswith(("settled ", "commit ")):
         pass
 
 
 def note(commands: dict[int, list[str]], number: int, words: list[str], answer: str) -> None:
-    """Notes the step that line `number` of the input made, if it made one."""
+    """Records the step that line `number` of the input made, if it made one."""
     kind, _, step = answer.partition(" ")
     if kind not in ANSWERED or not step.isdigit():
         return

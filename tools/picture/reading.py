@@ -1,4 +1,4 @@
-"""What a run printed, as a wave to draw: a column for each step in which something is seen."""
+"""Reads a run's printed lines as a wave to draw, with a column for each step in which something visible happens."""
 
 from __future__ import annotations
 
@@ -9,12 +9,12 @@ from dataclasses import dataclass, field, replace
 
 
 class Unknown(Exception):
-    """A line that says nothing to a picture of a run."""
+    """A line that has no meaning for a picture of a run."""
 
 
 @dataclass
 class Cell:
-    """What a node does in a column."""
+    """The action of a node in a column."""
     asked: bool = False
     dropped: bool = False
     taken: str = ""
@@ -24,8 +24,8 @@ class Cell:
 
 @dataclass
 class Column:
-    """A step: its reply's kind, its command where that is known, and who is in a reset after it. A `signal` that
-    the server printed and a `start` of the program have a column too."""
+    """A step: the kind of its reply, its command if it is known, and the nodes that are in a reset after it. A `signal` that
+    the server printed, and a `start` of the program, have a column too."""
     index: int
     step: int
     kind: str
@@ -37,7 +37,7 @@ class Column:
 
 @dataclass
 class Message:
-    """A message, from the column in which it went out to the one in which it was taken, or lost with its link."""
+    """A message, from the column in which it was sent to the one in which it was taken, or lost with its link."""
     kind: str
     sender: int
     receiver: int
@@ -49,8 +49,8 @@ class Message:
 
 
 class Wave:
-    """Grows by one printed line after the other. A node is `reached` from the reset that it asks for, or the
-    first abort that it takes, and `acknowledged` once its ack went out to where that abort came from."""
+    """A wave, read line by line. A node is `reached` from the reset that it asks for, or from the first abort that it takes,
+    and `acknowledged` once it has sent its ack to the sender of that abort."""
 
     def __init__(self, commands: dict[int, list[str]] | None = None) -> None:
         self.commands = commands or {}
@@ -69,11 +69,11 @@ class Wave:
 
     @property
     def columns(self) -> list[Column]:
-        """The columns in which something is seen."""
+        """Returns the columns in which something visible happens."""
         return [column for column in self.all_columns if column.cells or column.kind == "start"]
 
     def signals(self) -> list[tuple[int, int]]:
-        """Each signal as its node and epoch, in the order in which they were printed."""
+        """Returns each signal as its node and epoch, in the order in which they were printed."""
         return [(node, cell.epoch) for column in self.columns for node, cell in column.cells.items()
                 if cell.epoch is not None]
 
@@ -110,7 +110,7 @@ class Wave:
             self.column.modes[node] = "reached"
 
     def ask_unless_known(self, kind: str, node: int) -> None:
-        """Without the input, the node that asked is the first to send or to be signalled."""
+        """Without the input, assumes that the node that asked is the first one to send or to be signalled."""
         if self.column.kind == kind and not any(cell.asked for cell in self.column.cells.values()):
             self.ask(node)
 
@@ -167,12 +167,13 @@ class Wave:
         self.parents.pop(node, None)
 
     def start(self) -> None:
-        """The program begins on what its disk kept. The first start has nothing before it, and is not drawn."""
+        """Records that the program begins with the content of its disk. The first start is not drawn, because nothing precedes
+        it."""
         if self.all_columns:
             self.begin(self.steps, "start")
 
     def nothing(self) -> None:
-        """A line that is known, and of which nothing is drawn."""
+        """Accepts a known line for which nothing is drawn."""
 
 
 ACTS: tuple[tuple[str, Callable[..., None]], ...] = (

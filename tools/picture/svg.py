@@ -25,13 +25,13 @@ MARKER = ('<marker id="{kind}" viewBox="0 0 10 10" refX="9" refY="5" markerWidth
 
 
 class Layout:
-    """Where columns and nodes stand."""
+    """The places of columns and nodes."""
 
     def __init__(self, wave: Wave) -> None:
         self.columns = [column.index for column in wave.columns]
         self.rows = {node: row for row, node in enumerate(sorted(wave.nodes))}
         labels = max((len(column.label) for column in wave.columns), default=0)
-        # labels rise at 45 degrees, and those of the last column need as much room at the right
+        # labels rise at 45 degrees, so those of the last column need the same room at the right
         self.top = 34 + round(5.4 * labels)
         right = 40 + round(5.4 * labels)
         widest = max((pill_width(epoch) for _, epoch in wave.signals()), default=0)
@@ -70,7 +70,7 @@ def label(x: float, y: float, text: str, style: str = "") -> str:
 
 
 def heading(column: Column, at: Layout) -> str:
-    """The step's number, and its command where that is known; or a line across all nodes, for a start."""
+    """Returns the step's number, and its command if it is known; for a start, a line across all nodes."""
     x = at.x(column)
     if column.kind == "start":
         return (label(x, at.top - 6, "start", ' text-anchor="middle" font-size="11"') + "\n"
@@ -89,7 +89,7 @@ def lifeline(node: int, at: Layout) -> str:
 
 
 def bars(wave: Wave, node: int, at: Layout) -> Iterator[str]:
-    """The stretches in which a node is in a reset."""
+    """Returns the stretches in which a node is in a reset."""
     mode, begin = "", 0.0
     for column in wave.columns:
         now = column.modes.get(node, "")
@@ -106,7 +106,7 @@ def bar(begin: float, end: float, y: float, mode: str) -> str:
 
 
 def arrow(message: Message, at: Layout) -> str:
-    """From the step that sent a message to the step that took it; dashed into the gap between if none did."""
+    """Returns an arrow from the step that sent a message to the step that took it; dashed into the gap if none took it."""
     x1, y1, y2 = at.x(message.sent), at.y(message.sender), at.y(message.receiver)
     x2 = at.x(message.end) if message.end else at.end
     style = f'class="{message.kind}" stroke="{COLOURS[message.kind]}" stroke-width="2"'
@@ -118,7 +118,7 @@ def arrow(message: Message, at: Layout) -> str:
 
 
 def marks(column: Column, at: Layout) -> Iterator[str]:
-    """Who asked for a reset, and who was signalled."""
+    """Returns the marks of the nodes that asked for a reset, and of those that were signalled."""
     for node, cell in column.cells.items():
         x, y = at.x(column), at.y(node)
         if cell.asked:
@@ -143,7 +143,7 @@ def pill(x: float, y: float, epoch: int | str) -> str:
 
 
 def legend(at: Layout) -> list[str]:
-    """What the marks mean, in two rows."""
+    """Returns the meanings of the marks, in two rows."""
     upper, lower = at.bottom + 30, at.bottom + 58
     parts = []
     for x, kind, text in ((20, "abort", "Abort: a reset goes out"), (245, "ack", "Ack: all beyond it were reached"),

@@ -1,8 +1,8 @@
-"""A wave as text: letters where messages are taken and go out, and a line for each node that shows its part."""
+"""Draws a wave as text: letters where messages are sent and taken, and a line for each node that shows its mode."""
 
 from .reading import Cell, Column, Wave
 
-# A printed text, and its kind, by which it is coloured.
+# A printed text, and its kind, which determines its colour.
 Mark = tuple[str, str]
 LETTERS = {"abort": "a", "ack": "k", "ready": "r"}
 COLOURS = {"abort": "31", "ack": "33", "ready": "32", "reached": "31", "acknowledged": "33", "signal": "1;32"}
@@ -11,7 +11,7 @@ FILLS = {"": "─", "reached": "━", "acknowledged": "═"}
 
 
 def draw(wave: Wave, width: int, coloured: bool) -> str:
-    """The picture, in blocks of at most `width` characters a line, and what its marks mean."""
+    """Returns the picture, in blocks of at most `width` characters a line, and the meanings of its marks."""
     if not wave.columns or not wave.nodes:
         return "nothing to draw: no message and no signal\n"
     names = {node: f"node {node}" for node in sorted(wave.nodes)}
@@ -29,7 +29,7 @@ def draw(wave: Wave, width: int, coloured: bool) -> str:
 
 
 def place_width(wave: Wave) -> int:
-    """How many characters a column takes: those of its longest entry and one."""
+    """Returns the width of a column: that of its longest entry plus one."""
     entries = [sum(len(text) for text, _ in marks(cell)) for column in wave.columns for cell in column.cells.values()]
     return 1 + max(entries + [len(heading(column)) for column in wave.columns])
 
@@ -39,7 +39,7 @@ def heading(column: Column) -> str:
 
 
 def cell(column: Column, node: int, place: int, coloured: bool) -> str:
-    """What a node does in a column, and after it the line of its mode."""
+    """Returns the action of a node in a column, followed by the line of its mode."""
     entry = marks(column.cells[node]) if node in column.cells else marks_between(column, node)
     mode = column.modes.get(node, "")
     rest = place - sum(len(text) for text, _ in entry)
@@ -47,7 +47,7 @@ def cell(column: Column, node: int, place: int, coloured: bool) -> str:
 
 
 def marks(cell: Cell) -> list[Mark]:
-    """The marks of what a node does, each with its kind."""
+    """Returns the marks for the action of a node, each with its kind."""
     found = [("x", "")] if cell.dropped else []
     found += [("!", "abort")] if cell.asked else []
     found += [(LETTERS[cell.taken].upper(), cell.taken)] if cell.taken else []
@@ -56,7 +56,7 @@ def marks(cell: Cell) -> list[Mark]:
 
 
 def marks_between(column: Column, node: int) -> list[Mark]:
-    """The line that a taken message makes from its sender's row to its receiver's, or a start through all rows."""
+    """Returns the line that a taken message draws from its sender's row to its receiver's, or a start through all rows."""
     if column.kind == "start":
         return [(START, "")]
     message = column.taken

@@ -1,9 +1,9 @@
-"""Clients that number their orders, and send one that was not answered again."""
+"""Clients that number their orders, and send an order without an answer again."""
 
 from typing import Any, Protocol
 
 STOPPED = 1
-# bytes of a line that are read
+# maximum number of bytes in a line
 Json = dict[str, Any]
 
 
@@ -14,15 +14,15 @@ class Asked(Protocol):
 
 
 class Lost(Exception):
-    """Something that was promised does not hold."""
+    """A promise was violated."""
 
 
 class Stopped(Lost):
-    """The coordinator says that its device failed; an order is to be sent again after the next start."""
+    """The coordinator answers that its device failed; an order is to be sent again after the next start."""
 
 
 class Client:
-    """One client: the last order that was answered, with its reply, and one that was not answered yet."""
+    """One client: its last answered order, with the reply, and one that has no answer yet."""
 
     def __init__(self, number: int) -> None:
         self.client = number
@@ -31,7 +31,7 @@ class Client:
         self.unanswered: Json | None = None
 
     def order(self, server: Asked, op: str, **members: int) -> Json:
-        """Sends the next order. Without an answer it raises Away, and `settle` sends it again."""
+        """Sends the next order. Without an answer it raises Away, and `settle` sends the order again."""
         number = self.answered["number"] + 1 if self.answered else 1
         self.unanswered = {"op": op, "client": self.client, "number": number, **members}
         return self.settle(server)
@@ -47,8 +47,8 @@ class Client:
         return reply
 
     def repeat(self, server: Asked, count: int) -> None:
-        """Sends the answered order again to a server that was started on a store of `count` steps: it gives the same
-        answer, unless a later order is on the disk, which was not answered and is settled now."""
+        """Sends the answered order again to a server that was started on a store of `count` steps. It must get the same answer,
+        unless the disk has a later order, which had no answer and is settled now."""
         is_kept = False
         if self.answered:
             reply = server.ask(self.answered)

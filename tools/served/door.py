@@ -21,15 +21,15 @@ from .server import Away, Server
 ROOT = os.path.dirname(os.path.dirname(os.path.dirname(os.path.abspath(__file__))))
 NODES = range(1, 65)
 HALF = 32_768
-# The other members are in Python. All leave the numbers of their orders to the front.
+# The other members are in Python. All of them leave the numbering of orders to the front.
 OF_C, OF_GO = range(1, 8), range(8, 15)
 # A replaced part of a text, and its replacement.
 Exchanges = Sequence[tuple[str, str]]
-# Adds to the state of the member in Go a count of its starts.
+# Adds a count of its starts to the state of the member in Go.
 COUNTS_STARTS: Exchanges = [
     ("\tFence   string          // of that moment\n", "\tFence   string          // of that moment\n\tStarts  int\n"),
     ('kept.Begun, kept.First = epoch, ""', 'kept.Begun, kept.First, kept.Starts = epoch, "", kept.Starts+1')]
-START_SECONDS = 120  # within which a process of the door starts, on a busy machine too
+START_SECONDS = 120  # seconds within which a process of the door starts, even on a busy machine
 
 
 class Failed(Exception):
@@ -46,8 +46,8 @@ class Programs:
 
 
 def build_members(folder: str, library: str, coordinator: str, exchanges: Exchanges = ()) -> Programs:
-    """Compiles the members. The source of those in Go gets a count of starts and then these exchanges. Raises Failed if a compiler is
-    missing: nothing is left out."""
+    """Compiles the members. The source of those in Go gets a count of starts and then these exchanges. Raises Failed if a
+    compiler is missing: no language is left out."""
     missing = [package for command, package in (("cc", "gcc"), ("go", "golang-go")) if not shutil.which(command)]
     if missing:
         raise Failed(f"these Debian packages are missing: {' '.join(missing)}")
@@ -85,26 +85,27 @@ class Front:
     """The front, which can be killed and started again at the same addresses."""
 
     def __init__(self, folder: str, server: str) -> None:
-        self.socket, self.port, self._said = f"{folder}/front.socket", held_ports(1)[0], f"{folder}/front.said"
+        self.socket, self.port, self.said = f"{folder}/front.socket", held_ports(1)[0], f"{folder}/front.said"
+        self.audit = f"{folder}/audit"
         policy = f"{folder}/front.toml"
         with open(policy, "w", encoding="utf-8") as file:
             file.write('[[allow]]\nuser = "nobody"\nops = ["show", "watch", "confirm", "reset"]\n'
                        f'[[allow]]\nuser = "{pwd_name()}"\nops = ["show", "watch", "confirm", "reset"]\n')
         self._words = [sys.executable, f"{ROOT}/client/resetd-front", "serve", "--server", server, "--socket", self.socket, "--tcp",
-                       f"127.0.0.1:{self.port}", "--state", f"{folder}/front", "--audit", f"{folder}/audit", "--policy", policy]
+                       f"127.0.0.1:{self.port}", "--state", f"{folder}/front", "--audit", self.audit, "--policy", policy]
         self.process: subprocess.Popen[bytes]
         self.start()
 
     def start(self) -> None:
-        with open(self._said, "ab") as said:
+        with open(self.said, "ab") as said:
             begin = said.tell()
-            self.process = subprocess.Popen(self._words, stdin=subprocess.DEVNULL, stdout=said, stderr=said)
+            self.process = subprocess.Popen(self._words, stdin=subprocess.DEVNULL, stdout=said, stderr=said, env=with_stacks())
         until("the front listens", lambda: self._listens(begin), START_SECONDS)
 
     def _listens(self, begin: int) -> bool:
         if self.process.poll() is not None:
-            raise Failed(f"the front ended by itself: {read_tail(self._said)}")
-        with open(self._said, "rb") as said:
+            raise Failed(f"the front ended by itself: {read_tail(self.said)}")
+        with open(self.said, "rb") as said:
             said.seek(begin)
             text = said.read()
         return b"listening unix:" in text and b"listening tcp:" in text
@@ -114,7 +115,7 @@ class Front:
         self.process.wait()
 
     def ask(self, **request: Any) -> dict[str, Any]:
-        """The answer to a line over a new connection. Raises Away if none came."""
+        """Returns the answer to a line over a new connection. Raises Away if no answer came."""
         try:
             with socket.socket(socket.AF_UNIX) as connection:
                 connection.settimeout(START_SECONDS)
@@ -128,13 +129,18 @@ class Front:
 
 
 def pwd_name() -> str:
-    """The name of the user of this process."""
+    """Returns the name of the user of this process."""
     return subprocess.run(["id", "-un"], capture_output=True, text=True, check=True).stdout.strip()
 
 
-def read_tail(path: str) -> str:
+def read_tail(path: str, most: int = 1_000) -> str:
     with open(path, errors="replace", encoding="utf-8") as file:
-        return file.read()[-1000:].strip()
+        return file.read()[-most:].strip()
+
+
+def with_stacks() -> dict[str, str]:
+    """The environment of a Python process that writes the stacks of its threads when it is aborted."""
+    return {**os.environ, "PYTHONFAULTHANDLER": "1"}
 
 
 class Members:
@@ -166,7 +172,7 @@ class Members:
             member.kill()
             member.wait()
         with contextlib.suppress(FileNotFoundError):
-            os.remove(f"{self.folder(node)}/run")  # of whom is dead nobody hears
+            os.remove(f"{self.folder(node)}/run")  # a message to a dead member is not heard
 
     def start_all(self) -> None:
         for node in NODES:
@@ -183,7 +189,7 @@ class Members:
 
 
 class Door:
-    """All of it, in a folder."""
+    """All of these, in one folder."""
 
     def __init__(self, folder: str, programs: Programs, choice: random.Random) -> None:
         self.choice, self.answered = choice, 0
@@ -207,7 +213,7 @@ class Door:
         self.start_server()
 
     def cut_power(self) -> None:
-        """The coordinator's power is cut: its earlier answers are there."""
+        """Cuts the coordinator's power. All earlier answers must be durable."""
         self.server.process.kill()
         self.server.process.wait()
         self.device.cut()
@@ -217,7 +223,7 @@ class Door:
         self.start_server()
 
     def reset(self, node: int) -> None:
-        """Asks for a reset, whoever is there to answer."""
+        """Asks for a reset, at whichever address answers."""
         with contextlib.suppress(Away):
             self.answered = max(self.answered, self.front.ask(op="reset", node=node).get("step", 0))
 

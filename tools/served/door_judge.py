@@ -1,4 +1,5 @@
-"""Whether the members of a door keep their rule: no two starts of one member talk in one run, and all come to talk again."""
+"""Checks that the members of a door keep their rule: no two starts of one member talk in one run, and all talk again in the
+end."""
 
 import contextlib
 import json
@@ -20,7 +21,7 @@ class Start(NamedTuple):
 
 
 class Talk(NamedTuple):
-    """A start of a member that talks: the run is the first half of its tag."""
+    """A start of a member that talks. The run is the first half of its tag."""
 
     node: int
     run: str
@@ -28,8 +29,8 @@ class Talk(NamedTuple):
 
 
 def start_of(folder: str) -> Start | None:
-    """The start that a member has now, by its files: a member in Go counts its starts, and the others write a new file at each. None if
-    it has begun nothing."""
+    """Returns the start that a member has now, by its files: a member in Go counts its starts, and the others write a new file
+    at each. None if it has begun nothing."""
     with contextlib.suppress(FileNotFoundError), open(f"{folder}/kept", encoding="utf-8") as file:
         kept = json.load(file)
         return Start(kept["Begun"], (kept["Starts"], 0)) if kept["Begun"] else None
@@ -40,7 +41,7 @@ def start_of(folder: str) -> Start | None:
 
 
 def talk_of(node: int, folder: str) -> Talk | None:
-    """What a member talks with now; None if it does not, or begins just now."""
+    """Returns the start with which a member talks now, or None if it does not talk, or is just beginning."""
     before = start_of(folder)
     try:
         with open(f"{folder}/run", encoding="ascii") as file:
@@ -57,7 +58,7 @@ def talk_of(node: int, folder: str) -> Talk | None:
 
 
 class Judge(threading.Thread):
-    """Looks at all members again and again."""
+    """Checks all members repeatedly."""
 
     def __init__(self, members: Members) -> None:
         super().__init__(daemon=True)
@@ -73,7 +74,7 @@ class Judge(threading.Thread):
                 self.mixed.append(str(failed))
 
     def look(self) -> set[str]:
-        """The runs in which members talk now; the empty one if one of them does not."""
+        """Returns the runs in which members talk now. They include the empty one if a member does not talk."""
         talks = [talk_of(node, self._members.folder(node)) for node in NODES]
         for talk in filter(None, talks):
             start = self._starts.setdefault((talk.node, talk.run), talk.start)
@@ -84,11 +85,11 @@ class Judge(threading.Thread):
         return {talk.run if talk else "" for talk in talks}
 
     def runs(self) -> int:
-        """In how many runs members have talked."""
+        """Returns the number of runs in which members have talked."""
         return len({run for _, run in list(self._starts)})
 
     def expect_talk(self, seconds: float) -> float:
-        """Waits until all members talk in one run: how long that took. Raises Failed if it takes too long."""
+        """Waits until all members talk in one run, and returns how long that took. Raises Failed if it takes too long."""
         began = time.monotonic()
 
         def holds() -> bool:

@@ -25,7 +25,7 @@ def main() -> None:
     work, talking = f"{folder}/work", f"{folder}/run"
 
     def note(run: Run | None) -> None:
-        """While it may talk the file is there, whole."""
+        """Writes the run's file as a whole, while the member may talk."""
         if run is None:
             with contextlib.suppress(FileNotFoundError):
                 os.remove(talking)

@@ -1,4 +1,4 @@
-"""A coordinator whose writes and syncs fail, each once, by the injection of strace."""
+"""A coordinator whose writes and syncs fail, each once, injected by strace."""
 
 import os
 import shutil
@@ -30,7 +30,7 @@ def run(ring: Ring, most: int) -> None:
 
 
 def one_fault(ring: Ring, call: str, place: int, error: str) -> bool:
-    """A start of which one call fails, and the next start, of which none does. Whether the run came to that call."""
+    """Makes a start in which one call fails, and then a start in which none does. Returns whether the run reached that call."""
     server, log = ring.server, f"{ring.server.store}.strace"
     count, _ = ring.history.look_into(server)
     inject = f"inject={call}:error={error}:when={place}"
@@ -61,7 +61,7 @@ def serve_until_stopped(ring: Ring, count: int) -> None:
 
 
 def expect_stopped(ring: Ring) -> None:
-    """Every further order is answered Stopped. Their numbers are sent again after the next start."""
+    """Checks that every further order is answered Stopped. Their numbers are sent again after the next start."""
     for client in ring.clients:
         try:
             if client.unanswered:

@@ -1,4 +1,4 @@
-"""Kills, and changes of other programs, in front of the calls by which a foreign member changes files."""
+"""Kills, and changes by other programs, just before the calls with which a foreign member changes files."""
 
 import os
 import shutil
@@ -10,9 +10,9 @@ NEVER = 0
 
 
 class FileCalls:
-    """A program around the member (file_calls.c) counts the system calls of all its processes, whatever language they are
-    written in; in front of a call that removes or renames FILE it renames FILE.next to FILE, if there is one. It is made where
-    there is a C compiler for x86-64, and the kernel lets it trace its processes."""
+    """A program around the member (file_calls.c) that counts the system calls of all its processes, in whatever language they
+    are written. Before a call that removes or renames FILE, it renames FILE.next to FILE, if that exists. It is built if
+    there is a C compiler for x86-64, and the kernel permits tracing."""
 
     def __init__(self, folder: str) -> None:
         self._program, self._counts = f"{folder}/file_calls", f"{folder}/file_calls.counts"
@@ -20,11 +20,11 @@ class FileCalls:
         self.why = self._make()
 
     def around(self, command: list[str]) -> list[str]:
-        """The words that start the member."""
+        """Returns the arguments that start the member."""
         return [self._program, self._counts, *command] if self.can_see else command
 
     def die_at(self, call: int) -> None:
-        """The member dies in front of this call, counted from now on."""
+        """Makes the member die before this call, counted from now on."""
         with open(self._counts, "wb") as file:
             file.write(struct.pack("=QQ", call, 0))
 
@@ -33,7 +33,7 @@ class FileCalls:
         return not self.why
 
     def _make(self) -> str:
-        """Makes the program: why there is none, or nothing."""
+        """Builds the program. Returns the reason if that is impossible, or an empty text."""
         compiler = shutil.which("cc")
         if compiler is None:
             return "there is no C compiler"

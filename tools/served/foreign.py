@@ -1,5 +1,5 @@
-"""A member in any language beside two of the library: what is shown to it, what it orders, and in which run it says that it
-talks, compared with the library's rule at each look."""
+"""Runs a member in any language beside two of the library. Compares, at each look, what it orders and in which run it reports
+that it talks, with the library's rule for what it is shown."""
 
 import contextlib
 import json
@@ -33,17 +33,18 @@ ROWS: dict[Due | None, str] = {Due.BEGIN: "begins", Due.WAIT: "waits", Due.TALK:
 
 
 class Guess:
-    """The possible states of the member's disk, and what is then due by the last answer that it got. There are several guesses
-    only after it died: between two of its writes nobody else knows which of them were done."""
+    """The possible states of the member's disk, and the action that is then due by the last answer that it got. There is more
+    than one guess only after it died: it is unknown which of its writes were done."""
 
     def __init__(self, kept: Kept = Kept(), history: frozenset[str] = frozenset()) -> None:
         self.kept, self.history = kept, history
         self.due: Due | None = None
         self.run, self.steps = "", [(kept, history)]
-        self.is_refused = False  # whether it has refused a tag that needs a reset, if it looks and talks
+        self.is_refused = False  # whether it has refused a tag that requires a reset, if it looks and talks
 
     def answered(self, view: View | None) -> None:
-        """The member is shown this, or, if it is None, was started again. `steps` are the states of the disk on the way."""
+        """Returns the guesses after the member was shown this view or, if it is None, was started again. `steps` are the states
+        of the disk in between."""
         self.due, self.run, self.steps = None, "", [(self.kept, self.history)]
         row = view and view.node(NODE)
         if not view or not row:
@@ -57,13 +58,13 @@ class Guess:
             self.run = f"{row.epoch} {tag_of(judged.kept.party, view.party(NODE)) or '-'}"
         elif judged.due is Due.BEGIN:
             self.steps += [(Kept(), self.history), (Kept(row.epoch), self.history)]
-        if judged.due is not Due.TALK:  # it may know more parties than it talked with: the shown one, ahead of its talk
+        if judged.due is not Due.TALK:  # it may know more parties than it talked with: the shown one, before it talks
             more = self.history | {digest_of(view.party(NODE))}
             self.steps += [(kept, more) for kept, _ in self.steps]
         self.kept = judged.kept
 
     def fit(self, view: View | None) -> set[Order]:
-        """The orders that are due."""
+        """Returns the orders that are due."""
         row = view and view.node(NODE)
         if self.due is Due.BEGIN:
             return {("confirm", NODE, row.epoch if row else None)}
@@ -71,8 +72,8 @@ class Guess:
         return {("reset", NODE, None)} if asks else set()
 
     def wrong(self, view: View | None, orders: list[Order], run: str, has_heeded: bool) -> str | None:
-        """What the member did that does not fit this guess; None if all fits. `has_heeded` says that it had taken the file
-        `refused` away before the last view was shown to it."""
+        """Describes the member's behaviour that does not fit this guess, or returns None if all of it fits. `has_heeded`: it
+        had taken the file `refused` away before the last view was shown to it."""
         if not set(orders) <= self.fit(view):
             return f"row `{ROWS[self.due]}`: it orders {', '.join(map(str, dict.fromkeys(orders)))}"
         if not orders and self.due in (Due.BEGIN, Due.RESET):
@@ -85,7 +86,7 @@ class Guess:
 
 
 class Rule:
-    """The rule beside the member: what it has to store, and what is due by the last answer that it got."""
+    """The rule for the member: what it has to store, and what is due by the last answer that it got."""
 
     def __init__(self, folder: str) -> None:
         self.folder, self.guesses = folder, [Guess()]
@@ -104,13 +105,13 @@ class Rule:
         return self.guesses[0].run
 
     def answered(self, view: View | None) -> None:
-        """The member is shown this, or it was started again."""
+        """Records that the member was shown this view, or was started again."""
         self.view, self.orders = view, list[Order]()
         for guess in self.guesses:
             guess.answered(view)
 
     def died(self) -> None:
-        """The member is started again, with the writes for the last answer done up to any of them."""
+        """Records that the member is started again, with any number of the writes for the last answer done."""
         steps = dict.fromkeys(step for guess in self.guesses for step in [*guess.steps, (guess.kept, guess.history)])
         self.guesses = [Guess(*step) for step in steps]
         self.answered(None)
@@ -121,13 +122,13 @@ class Rule:
         self.answered(None)
 
     def refused(self) -> None:
-        """The member rejected a message of another run, whose sender was shown what is shown to it."""
+        """Records that the member refused a message of another run, whose sender was shown the same view."""
         self.has_heeded = False
         for guess in self.guesses:
             guess.is_refused = True
 
     def ordered(self, order: Json) -> None:
-        """The member orders something. It may send the order that it had in hand when it died again, with its number."""
+        """Records an order of the member. It may repeat the order that it was sending when it died, with the same number."""
         line = tuple(sorted(order.items()))
         asked: Order = (order["op"], order.get("node"), order.get("epoch") if order["op"] == "confirm" else None)
         is_again = "number" in order and line in self.asked and not any(asked in guess.fit(self.view) for guess in self.guesses)
@@ -141,17 +142,17 @@ class Rule:
                 guess.kept = Kept(order["epoch"])
 
     def found(self) -> list[str | None]:
-        """What does not fit each guess now."""
+        """Describes the behaviour that does not fit, for each guess that remains."""
         run = read(f"{self.folder}/run").strip()
         return [guess.wrong(self.view, self.orders, run, self.has_heeded) for guess in self.guesses]
 
     def has_done(self) -> bool:
-        """Whether the member has done all that is due by the last view."""
+        """Returns whether the member has done everything that is due by the last view."""
         return None in self.found()
 
     def looks_again(self) -> None:
-        """The member has done all that it does for the last answer. It takes the file `refused` away before a look or during it,
-        and asks for the reset after that look."""
+        """Records that the member has done everything for the last answer. It takes the file `refused` away before a look or
+        during it, and asks for the reset after that look."""
         self.looks += 1
         found = self.found()
         fitting = [guess for guess, wrong in zip(self.guesses, found) if not wrong]
@@ -172,22 +173,24 @@ class Rule:
             self.wrong = f"row `{ROWS[self.due]}`: {what}"
 
 
-# What becomes of a request: whether more is answered on its connection.
+# The fate of a request: whether more requests are answered on its connection.
 Spoil = Callable[[socket.socket, bytes], bool]
 
 
 class Between:
-    """A port and a socket for the member alone, before the coordinator's front. `spoil` says how the next looks are spoiled. Each
-    process of the member has its own port: a request of a dead one may still wait there, and means nothing.
+    """A port and a socket for the member alone, before the coordinator's front. `spoil` determines how the next looks are
+    spoiled. Each process of the member has its own port: a request of a dead one may still wait there, and means nothing.
 
-    A member that watches is pushed a view once it has done what was due by the previous one, at each change and now and then. While
-    its order has no answer only the previous view is pushed again, as by a front that has not read the order yet."""
+    A member that watches is pushed a view once it has done what was due by the previous one, at each change and from time to
+    time. While its order has no answer, only the previous view is pushed again, as by a front that has not read the order
+    yet.
+    """
 
     def __init__(self, trial: Trial, rule: Rule) -> None:
         self.trial, self.rule, self.spoil = trial, rule, list[Spoil]()
         self.on_confirm: Callable[[], None] | None = None
-        self.lives, self.lock = 0, threading.RLock()  # how often the member died
-        self.watching, self.ordering = set[socket.socket](), set[socket.socket]()  # who watches, and whose order has no answer yet
+        self.lives, self.lock = 0, threading.RLock()  # the number of times that the member died
+        self.watching, self.ordering = set[socket.socket](), set[socket.socket]()  # connections that watch and whose order has no answer yet
         self.text = b""  # the last view that was shown in this life
         self.path = f"{trial.folder}/between.socket"
         self.front = Port(trial.address, 30)
@@ -204,7 +207,7 @@ class Between:
             threading.Thread(target=self.serve, args=[listener, self.lives], daemon=True).start()
 
     def end(self) -> None:
-        """Nothing more is answered. (A call that waits there is woken by a shutdown, and not by a close.)"""
+        """Stops answering. (A call that waits there is woken by a shutdown, but not by a close.)"""
         for listener in (self.listener, self.at_socket):
             listener.shutdown(socket.SHUT_RDWR)
             listener.close()
@@ -225,7 +228,7 @@ class Between:
                     return
 
     def answer(self, connection: socket.socket, line: bytes, lives: int) -> bool:
-        """Whether more is answered on this connection."""
+        """Answers a line. Returns whether more lines are answered on this connection."""
         request: Json = json.loads(line)
         if request["op"] in ("show", "watch"):
             if request["op"] == "watch":
@@ -251,8 +254,9 @@ class Between:
         return True
 
     def show(self, connection: socket.socket, lives: int, is_pushed: bool = False) -> bool:
-        """Sends the present view, which judges the member by the previous one. A member that watches, asks for a look and has not yet
-        carried out the previous view, perhaps since it has not read it, gets that one again. Whether more is answered."""
+        """Sends the present view, after judging the member by the previous one. A member that watches, asks for a look and has
+        not yet carried out the previous view, perhaps because it has not read it, gets that one again. Returns whether more
+        lines are answered."""
         self.direct(SHOW)  # waits while the server is away, and keeps nobody else waiting
         with self.lock:
             if lives != self.lives:
@@ -273,8 +277,8 @@ class Between:
             return True
 
     def push(self, connection: socket.socket, lives: int) -> None:
-        """Sends the present view to a member that watches, each time that it has carried out the previous one; less often if nothing has
-        changed."""
+        """Sends the present view to a member that watches, whenever it has carried out the previous one; less often if nothing
+        has changed."""
         with contextlib.suppress(OSError):
             while self.await_done(lives):
                 if not self.show(connection, lives, is_pushed=True):
@@ -282,7 +286,7 @@ class Between:
                     return
 
     def await_done(self, lives: int) -> bool:
-        """Waits until a view is due. Whether the member still lives."""
+        """Waits until a view is due. Returns whether the member still lives."""
         began, since = time.monotonic(), None
         while lives == self.lives:
             time.sleep(STEP_SECONDS)
@@ -331,7 +335,7 @@ class Tried:
         self.between = Between(trial, self.rule)
         self.others = Slow(trial, (1, 2))
         self.calls = FileCalls(trial.folder)
-        self.kills = 0  # in front of its file calls
+        self.kills = 0  # before its file calls
 
     def start(self) -> None:
         host, port = self.between.listener.getsockname()
@@ -356,7 +360,7 @@ class Tried:
         os.killpg(self.process.pid, signal.SIGCONT)
 
     def starts_without(self, name: str, what: str) -> None:
-        """Starts it again with a folder in the place of a file, which no program can read; then with the file again."""
+        """Starts the member again with a folder in place of a file, so that it can't be read; then with the file again."""
         path, aside = f"{self.folder}/{name}", f"{self.trial.folder}/aside"
         self.kill()
         os.rename(path, aside)
@@ -371,15 +375,15 @@ class Tried:
         self.all_talk(f"{what}: after it can be read again")
 
     def dies_on_its_way(self, what: str) -> bool:
-        """Whether it dies before it talks with the others."""
+        """Returns whether it dies before it talks with the others."""
         def holds() -> bool:
             return self.process.poll() is not None or self.talks_with_all()
         self.until(what, holds, may_end=True)
         return self.process.poll() is not None
 
     def refuse(self, tag: str) -> None:
-        """The member rejects a message with this tag, whose sender is shown what is shown to it. It has noted another tag before, which asks
-        for nothing; the file is replaced right in front of the call by which the member takes it away."""
+        """Makes the member refuse a message with this tag, whose sender is shown the same view. Before that it has noted
+        another tag, which requires nothing; the file is replaced just before the call with which the member takes it away."""
         with self.between.lock:
             self.rule.refused()
             if self.calls.can_see:
@@ -410,18 +414,18 @@ class Tried:
             time.sleep(0.02)
 
     def looks(self, what: str, times: int = 2) -> None:
-        """The member looks this often, and does each time what is due."""
+        """Waits until the member has looked this often, and has done each time what was due."""
         before = self.rule.looks
         self.until(what, lambda: self.rule.looks >= before + times)
 
     def talks_now(self) -> bool:
-        """Whether it talks by the present view."""
+        """Returns whether it talks by the present view."""
         view = self.trial.port.show()
         rule = self.rule
         return rule.talks > 1 and rule.due is Due.TALK and rule.view is not None and rule.view.nodes == view.nodes
 
     def talks_with_all(self) -> bool:
-        """Whether all three are in one run, each with the present view."""
+        """Returns whether all three are in one run, each with the present view."""
         self.others.look(1, 2)
         runs = [member.run for member in self.others.members.values() if member.run]
         return (self.talks_now() and len(runs) == len(self.others.members)

@@ -1,4 +1,4 @@
-"""A device that forgets unsynced bytes when the power is cut, by the calls of a server."""
+"""A device that forgets unsynced bytes when the power is cut, computed from the calls of a server."""
 
 import os
 import random
@@ -10,13 +10,13 @@ sys.path.insert(0, f"{ROOT}/tests")
 from support import preloaded  # noqa: E402
 
 __all__ = ["Forgetful"]
-# A place and its bytes.
+# A position and its bytes.
 Write = tuple[int, bytes]
 
 
 class Forgetful:
-    """The device of one file, over all lives of the server that writes it. A kill leaves all writes in the system's memory; a power cut
-    leaves what was synced, and of each later write nothing, a first part, or all."""
+    """The device of one file, over all lives of the server that writes it. A kill leaves all writes in the system's memory. A
+    power cut leaves what was synced, and of each later write nothing, a prefix, or all."""
 
     def __init__(self, store: str, folder: str, choice: random.Random) -> None:
         self._store, self._folder, self._choice = store, folder, choice
@@ -24,15 +24,15 @@ class Forgetful:
         with open(store, "rb") as file:
             self._synced = bytearray(file.read())
         self._since = list[Write]()
-        self.forgotten = 0  # writes of which something was forgotten
+        self.forgotten = 0  # writes of which a part was forgotten
 
     def before(self) -> list[str]:
-        """The words that a server is started by, so that its calls are noted."""
+        """Returns the arguments before those of the server, so that its calls are recorded."""
         settings = preloaded.environment(self._folder, CALLS=self._calls)
         return ["env", *(f"{name}={value}" for name, value in settings.items())]
 
     def take_calls(self) -> None:
-        """Takes what a server that has ended has noted."""
+        """Reads the record of a server that has ended."""
         for name, place, text in self._noted():
             if name == "write":
                 self._since.append((place, text))
@@ -42,7 +42,7 @@ class Forgetful:
                 self._since.clear()
 
     def cut(self) -> None:
-        """The power is cut, after the server has ended: the file has what the device has kept."""
+        """Cuts the power after the server has ended: the file has what the device has kept."""
         self.take_calls()
         for place, text in self._since:
             kept = self._choice.choice((0, len(text), self._choice.randint(0, len(text))))
@@ -54,7 +54,7 @@ class Forgetful:
             file.write(self._synced)
 
     def _noted(self) -> Iterator[tuple[str, int, bytes]]:
-        """The calls that were noted, but for a last line that the end of the server has cut."""
+        """Returns the recorded calls, except a last line that the end of the server has cut."""
         if not os.path.exists(self._calls):
             return
         with open(self._calls, encoding="ascii") as file:
@@ -67,6 +67,6 @@ class Forgetful:
 
 
 def put(content: bytearray, place: int, text: bytes) -> None:
-    """Writes into a file's bytes, which grow if they have to."""
+    """Writes into a file's bytes, and extends them if necessary."""
     content.extend(bytes(max(0, place + len(text) - len(content))))
     content[place:place + len(text)] = text

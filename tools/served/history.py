@@ -9,9 +9,9 @@ class History:
         self.answered = {0}  # the steps of all replies
         self.epochs: dict[int, int] = {}  # the greatest epoch of each node that was printed or shown
         self.printed = set[tuple[int, int]]()
-        self.count = 0  # how many steps the store had when it was last looked into
-        self.accounted: dict[int, int] = {}  # up to which epoch of each node every signal was printed, or taken by a kill
-        self.taken = 0  # how many signals were taken by a kill
+        self.count = 0  # the number of steps in the store when it was last inspected
+        self.accounted: dict[int, int] = {}  # for each node, the epoch up to which every signal was printed, or lost in a kill
+        self.taken = 0  # the number of signals lost in kills
 
     def note_signals(self, signals: list[tuple[int, int]]) -> None:
         for node, epoch in signals:
@@ -21,30 +21,30 @@ class History:
             self.epochs[node] = max(epoch, self.epochs.get(node, 0))
 
     def note_epochs(self, epochs: dict[int, int]) -> None:
-        """Epochs that were shown; none is below one that was printed or shown before."""
+        """Records shown epochs. None may be below one that was printed or shown before."""
         for node, epoch in self.epochs.items():
             if epochs.get(node, 0) < epoch:
                 raise Lost(f"node {node} was seen in epoch {epoch}, and is in epoch {epochs.get(node)}")
         self.epochs = dict(epochs)
 
     def find_unprinted(self) -> list[tuple[int, int]]:
-        """The signals of epochs that were shown, which were neither printed nor lost to a kill before."""
+        """Returns the signals of shown epochs that were neither printed nor lost in an earlier kill."""
         return [(node, epoch) for node, last in self.epochs.items()
                 for epoch in range(self.accounted.get(node, 0) + 1, last + 1) if (node, epoch) not in self.printed]
 
     def expect_printed(self) -> None:
-        """If nothing was killed and the device has not failed, each settled signal was printed."""
+        """Checks that each settled signal was printed, if nothing was killed and the device has not failed."""
         if missing := self.find_unprinted():
             raise Lost(f"signal {missing[0][0]} {missing[0][1]} was settled and not printed, one of {len(missing)}")
         self.accounted = dict(self.epochs)
 
     def note_taken(self) -> None:
-        """Signals that were settled may be taken by a kill, or by a fault of the device, before they are printed."""
+        """Records that settled signals may be lost by a kill, or by a fault of the device, before they are printed."""
         self.taken += len(self.find_unprinted())
         self.accounted = dict(self.epochs)
 
     def look_into(self, server: Server) -> tuple[int, bool]:
-        """Checks and shows a store that no process serves: how many steps it has, and whether a reset is on its way."""
+        """Checks and shows a store that no process serves. Returns its number of steps, and whether a reset is in progress."""
         status, lines = server.command("check")
         if status != 0 or not lines[0].startswith("legal "):
             raise Lost(f"resetd check ended with status {status}: {' '.join(lines)}")

@@ -17,15 +17,15 @@ from .ring import Ring
 from .server import TIMEOUT, Away, Server
 
 WORKERS = 8
-# The threads of a server during an instance: the main one, the printer, the flusher and the workers. The last two end with it.
+# The threads of a server during an instance: the main one, the printer, the flusher and the workers. The flusher and the workers end with it.
 IN_A_INSTANCE, OVER_ALL = 3 + WORKERS, 2
 MOST_LOOKS = 10_000_000
-UNKILLED, STAYED, AT_ONCE = 20, 80, 8  # resets, and orders of a client that stays, of which some are sent at once
+UNKILLED, STAYED, AT_ONCE = 20, 80, 8  # resets, and orders of a client that stays connected, some of which are sent at once
 
 
 class Watched(Server):
-    """A server whose instances are counted by the number of its flusher's thread, as it is seen after each answer. That is the
-    least number that there can have been: some instances end unseen."""
+    """A server whose instances are counted by the number of the flusher's thread, as seen after each answer. The count is a
+    lower bound: some instances end unseen."""
 
     instances = 0
     flusher: int | None = None
@@ -36,7 +36,7 @@ class Watched(Server):
         return reply
 
     def threads(self) -> list[int]:
-        """The numbers of its threads, in the order in which they were started."""
+        """Returns the numbers of its threads, in the order in which they were started."""
         try:
             return sorted(map(int, os.listdir(f"/proc/{self.process.pid}/task")))
         except FileNotFoundError:
@@ -50,8 +50,8 @@ class Watched(Server):
 
 
 class Killer(threading.Thread):
-    """Kills the server within a change of instance: once it is seen with at most this many threads, fewer than an instance has.
-    `met` is how many it had then."""
+    """Kills the server during a change of instance: once it has at most this many threads, fewer than in an instance. `met` is
+    how many it had then."""
 
     def __init__(self, server: Watched, most: int) -> None:
         super().__init__()
@@ -70,15 +70,15 @@ class Killer(threading.Thread):
                 return
 
     def end(self) -> int | None:
-        """The watcher looks no more. With how many threads it has met the server, if it has."""
+        """Stops watching. Returns the number of threads that the server had when it was killed, if it was."""
         self.is_told = True
         self.join()
         return self.met
 
 
 class Staying:
-    """A connection that its client never closes: the server does, once its instance is too old, after a reply. Lines without a
-    reply are then sent again over the next one."""
+    """A connection that its client never closes: the server does, after a reply, once its instance is too old. Lines without a
+    reply are then sent again over the next connection."""
 
     def __init__(self, server: Watched) -> None:
         self.server, self.connections = server, 0
@@ -89,7 +89,7 @@ class Staying:
         return self.ask_all([request])[0]
 
     def ask_all(self, requests: list[Json]) -> list[Json]:
-        """The replies to requests, all of which are sent before the first reply is read."""
+        """Sends all requests before it reads the first reply. Returns the replies."""
         lines, replies = [json.dumps(request).encode() + b"\n" for request in requests], list[Json]()
         for _ in range(10 + len(lines)):
             try:
@@ -141,8 +141,8 @@ def run(ring: Ring, rounds: int) -> None:
 
 
 def live_unkilled(ring: Ring) -> None:
-    """Resets over many instances. Nothing is lost between them: each signal is printed, and each client's last order is
-    answered as before."""
+    """Makes resets over many instances. Nothing may be lost between them: each signal is printed, and each client's last order
+    gets the same answer as before."""
     server = watch(ring)
     kills.start_again(ring)
     for _ in range(UNKILLED):
@@ -163,7 +163,7 @@ def live_unkilled(ring: Ring) -> None:
 
 
 def stay(ring: Ring, orders: int, at_once: int) -> int:
-    """Resets by one client whose connection stays. Over how many connections they went."""
+    """Makes resets by one client that stays connected. Returns the number of connections that it needed."""
     staying, client = Staying(watch(ring)), ring.choice.choice(ring.clients)
     try:
         for _ in range(orders // at_once):
@@ -189,8 +189,8 @@ def order_at_once(ring: Ring, staying: Staying, client: Client, count: int) -> N
 
 
 def one_round(ring: Ring) -> int | None:
-    """A start, the checks after it, resets by clients that stay or do not, and a kill within a change of instance. With how many
-    threads the server was met, if it was."""
+    """A start, the checks after it, resets by clients that stay connected or do not, and a kill during a change of instance.
+    Returns the number of threads that the server had at the kill, if it was killed."""
     server = watch(ring)
     count, _ = ring.history.look_into(server)
     server.must_start()

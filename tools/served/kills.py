@@ -21,7 +21,7 @@ def run(ring: Ring, rounds: int) -> None:
 
 
 def first_reset(ring: Ring) -> tuple[float, float]:
-    """How long a start and a reset usually take, for choosing moments."""
+    """Returns how long a start and a reset usually take, for choosing moments."""
     begun = time.monotonic()
     start_again(ring)
     started = time.monotonic()
@@ -35,7 +35,7 @@ def first_reset(ring: Ring) -> tuple[float, float]:
 
 def one_round(ring: Ring, usual_start: float, usual_reset: float) -> str:
     """A start, the checks after it, further resets, and a kill: while it starts, exactly at an answer, or at a random moment.
-    Where the kill happened."""
+    Returns where the kill happened."""
     server, killer = ring.server, None
     count, _ = ring.history.look_into(server)
     moment = ring.choice.choice(["start", "answer", "any", "any", "any"])
@@ -77,7 +77,7 @@ def after_kill(ring: Ring, listened: bool) -> str:
 
 
 def start_again(ring: Ring) -> None:
-    """A start that nobody kills: every answer is there, and an interrupted reset completes."""
+    """Makes a start without a kill: every answer must be there, and an interrupted reset completes."""
     count, _ = ring.history.look_into(ring.server)
     ring.server.must_start()
     ring.repeat_orders(count)
@@ -85,7 +85,7 @@ def start_again(ring: Ring) -> None:
 
 
 def finish(ring: Ring) -> None:
-    """Closes the coordinator in order, and looks into its store."""
+    """Closes the coordinator in order, and inspects its store."""
     if ring.server.process.poll() is not None:
         start_again(ring)
     ring.server.must_close()

@@ -1,11 +1,11 @@
-"""The toolchain with another program in the place of its clang, for builds that prove nothing."""
+"""The toolchain with another program in place of its clang, for builds that prove nothing."""
 
 import os
 import shutil
 import subprocess
 
 LARGE = 1 << 20
-# A program in place of clang, and of the other tools that clang's file is under the names by which it is called.
+# A program in place of clang, and of the other tools that the same file is when it is called by other names.
 CLANG = """#include <stdlib.h>
 #include <string.h>
 #include <unistd.h>
@@ -19,7 +19,7 @@ int main(int count, char **words) {{
 
 
 def kit() -> str:
-    """The folder of the toolchain."""
+    """Returns the folder of the toolchain."""
     doc = subprocess.run([*os.environ.get("RT", "rt").split(), "doc"], capture_output=True, text=True, check=True).stdout
     return os.path.dirname(doc.strip())
 
@@ -32,12 +32,13 @@ def link_all(source: str, folder: str, but: tuple[str, ...] = ()) -> None:
 
 
 def with_clang(folder: str, before: str) -> str:
-    """The toolchain whose clang first does what the statements of C in `before` say, with `count` and `words`: its command rt."""
+    """Makes a toolchain whose clang first executes the C statements in `before`, which may use `count` and `words`. Returns its
+    command rt."""
     of = kit()
     link_all(of, folder, ("bin", "toolchain"))
     link_all(f"{of}/toolchain", f"{folder}/toolchain", ("bin",))
     link_all(f"{of}/toolchain/bin", f"{folder}/toolchain/bin", ("clang", "ld.lld"))
-    # (rt finds its toolchain by the place of its own file)
+    # (rt finds its toolchain from the place of its own file)
     shutil.copytree(f"{of}/bin", f"{folder}/bin", ignore=lambda at, names: [n for n in names if os.path.getsize(f"{at}/{n}") > LARGE])
     link_all(f"{of}/bin", f"{folder}/bin", tuple(os.listdir(f"{folder}/bin")))
     with open(f"{folder}/clang.c", "w", encoding="utf-8") as source:

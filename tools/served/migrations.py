@@ -1,4 +1,4 @@
-"""Copies of a store of version 1 that are migrated and killed on the way, and the checks of what is left."""
+"""Migrates copies of a store of version 1, kills the migrations, and checks what is left."""
 
 from __future__ import annotations
 
@@ -20,18 +20,18 @@ HALF = 32_768
 # Selector, magic, length of a half; version 1, a snapshot of eleven zeros (the empty world), a closed gate: the worked
 # dump of docs/FORMATS.md.
 EMPTY = b"\0ACRRESET" + HALF.to_bytes(8, "big") + b"\1" + (11).to_bytes(4, "big") + bytes(11) + b"\0"
-# The same with a batch of four orders of client 1: nodes 1 and 2, their link, and a reset at node 1, which is on its way.
+# The same with a batch of four orders of client 1: nodes 1 and 2, their link, and a reset at node 1, which is in progress.
 COMMANDS = (b"\0\1\1", b"\0\2\1", b"\2\1\2", b"\4\1")
 ORDERS = b"".join(b"\0\1" + number.to_bytes(8, "big") + command for number, command in enumerate(COMMANDS, 1))
 BATCH = (1).to_bytes(8, "big") + len(COMMANDS).to_bytes(2, "big") + ORDERS
 IN_A_RESET = EMPTY[:-1] + b"\1" + len(BATCH).to_bytes(4, "big") + BATCH + b"\0"
 KILLED = -9
-# The calls of a migration, which leave version 1 up to the second, and version 2 from the last on.
+# The calls of a migration. Up to the second they leave version 1, and the last one leaves version 2.
 WRITE, SYNCS = "pwrite64", ("fsync", "fdatasync")
 
 
 def run(program: str, folder: str, choice: random.Random, rounds: int) -> None:
-    """Kills this many migrations, at a random moment and at each call of the device in turn."""
+    """Kills this many migrations, at a random moment and at each device call in turn."""
     first, copy = Server(program, f"{folder}/first"), Server(program, f"{folder}/copy")
     ring = Ring(first, choice)
     try:
@@ -57,7 +57,7 @@ def kill_all(trial: Trial, choice: random.Random, rounds: int) -> None:
 
 
 def fill(ring: Ring) -> int:
-    """Makes the store from its bytes, gives it a ring and resets through a server. How many steps it has then."""
+    """Creates the store from its bytes, and gives it a ring and resets through a server. Returns its number of steps."""
     with open(ring.server.store, "wb") as file:
         file.write(EMPTY)
     ring.server.must_start()
@@ -77,7 +77,7 @@ def fill(ring: Ring) -> int:
 
 
 def version(store: str) -> int:
-    """The version byte of the half that the first byte selects (docs/FORMATS.md, "Device")."""
+    """Returns the version byte of the half that the first byte selects (docs/FORMATS.md, "Device")."""
     with open(store, "rb") as file:
         header = file.read(17)
         file.seek(17 + header[0] % 2 * int.from_bytes(header[9:], "big"))
@@ -98,13 +98,13 @@ class Trial:
         self.words = [server.program, "migrate", server.store]
         self.rows: tuple[int, list[str]] = ring.server.command("show")
         self.found = {1: 0, 2: 0}  # how many were found in each version after a kill
-        self.too_late = 0  # how many had ended before the kill
+        self.too_late = 0  # the number of migrations that had ended before the kill
 
     def copy(self) -> None:
         shutil.copyfile(self.first, self.server.store)
 
     def usual(self) -> float:
-        """How long a migration takes that nobody kills, for choosing moments."""
+        """Returns how long a migration without a kill takes, for choosing moments."""
         took = []
         for _ in range(5):
             self.copy()
@@ -114,7 +114,7 @@ class Trial:
         return max(took)
 
     def migrate(self) -> None:
-        """A migration to its end, and a second one, which writes nothing."""
+        """Makes a whole migration, and a second one, which writes nothing."""
         for _ in range(2):
             before = digest(self.server.store) if version(self.server.store) == 2 else None
             done = self.server.command("migrate")
@@ -124,7 +124,8 @@ class Trial:
                 raise Lost("resetd migrate has written to a store of version 2")
 
     def calls(self) -> list[tuple[str, int]]:
-        """The four device calls of a migration: of each its name, and which one of that name it is in the run."""
+        """Returns the four device calls of a migration: the name of each, and its place among the calls of that name in the
+        run."""
         self.copy()
         log = f"{self.server.store}.strace"
         names = ",".join((WRITE, *SYNCS))
@@ -153,7 +154,7 @@ class Trial:
             raise Lost(f"resetd migrate ended by itself with status {process.returncode}: {printed}")
 
     def kill_at_call(self, place: int, name: str, when: int) -> None:
-        """Kills a migration as it makes a call of the device, the first to the fourth."""
+        """Kills a migration when it makes one of its device calls, the first to the fourth."""
         self.copy()
         status = subprocess.run(["strace", "-f", "-qq", "-o", os.devnull, "-e", f"trace={name}",
                                  "-e", f"inject={name}:signal=9:when={when}", *self.words],
@@ -166,7 +167,8 @@ class Trial:
             raise Lost(f"a migration that was killed at its call {place} ({name}) left version {left}")
 
     def look(self, where: str) -> int:
-        """What a kill left is legal, has the same rows, and answers each client's last order as before. Its version."""
+        """Checks that a kill left a legal store with the same rows, which answers each client's last order as before. Returns
+        its version."""
         left = version(self.server.store)
         legal = self.server.command("check")
         if legal != (0, [f"legal {self.count}"]) or self.server.command("show") != self.rows or left not in self.found:
@@ -182,7 +184,7 @@ class Trial:
         return left
 
     def finish(self) -> None:
-        """The same words once more make version 2 of whatever was left, with the same rows."""
+        """Makes version 2 of whatever was left, by the same command, and checks that the rows are the same."""
         self.migrate()
         if self.server.command("show") != self.rows:
             raise Lost("a store that was migrated shows other rows")
@@ -196,7 +198,7 @@ class Trial:
             raise Lost("a kill left one version only: the kills did not meet the migrations")
 
     def go_on(self) -> None:
-        """Resets run over the migrated store, and it stays version 2."""
+        """Makes resets over the migrated store, which must stay version 2."""
         self.ring.server = self.server
         self.server.must_start()
         self.ring.repeat_orders(self.count)

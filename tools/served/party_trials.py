@@ -1,25 +1,25 @@
-"""Trials of who talks with whom: through others, and after a member was removed and added again."""
+"""Trials of which members talk with each other: through others, and after a member was removed and added again."""
 
 import time
 from collections.abc import Callable, Iterable
 
 from .services import Failed, Member, Orders, OutOfRun, Port, Trial, patiently
 
-# A start of a member: its node, and which one it is of all.
+# A start of a member: its node, and its number among all starts.
 Start = tuple[int, int]
 READDS = 30
 MOST_RESETS = 3
 
 
 class Slow:
-    """The members of a group in one process, of which each looks when the trial makes it look. Each message carries the starts
-    that its sender has heard of, directly or through others; messages may come late."""
+    """The members of a group in one process. Each looks only when the trial makes it look. Each message carries the starts that
+    its sender has heard of, directly or through others; messages may arrive late."""
 
     def __init__(self, trial: Trial, nodes: Iterable[int]) -> None:
         self.trial, self.starts = trial, 0
         self.heard: dict[int, set[Start]] = {}
         self.sent: list[tuple[str, frozenset[Start]]] = []
-        self.while_it_begins: list[Callable[[Trial], None]] = []  # what happens while the next member begins
+        self.while_it_begins: list[Callable[[Trial], None]] = []  # an event while the next member begins
         self.members = {node: self.member(node) for node in nodes}
 
     def member(self, node: int) -> Member:
@@ -33,14 +33,15 @@ class Slow:
         return Member(orders.port, orders, node, None, begin, told=lambda _: None)
 
     def look(self, *nodes: int) -> None:
-        """Members look until they have done what is due, and then all messages ever sent are heard by those that may."""
+        """Makes members look until they have done what is due. Then all messages ever sent are delivered to the members that
+        may hear them."""
         for node in nodes:
             patiently(self.members[node].look, 20)
             self.trial.expect_quiet()
             self.talk()
 
     def talk(self) -> None:
-        """Each member that talks sends what it has heard of, and hears the messages of its run, until nobody learns more."""
+        """Makes each member that talks send what it has heard of, and hear the messages of its run, until none learns more."""
         before = None
         while before != (before := ({node: set(heard) for node, heard in self.heard.items()}, len(self.sent))):
             for node, member in self.members.items():
@@ -74,8 +75,8 @@ def link(trial: Trial) -> None:
 
 
 def second_hand(trial: Trial) -> str:
-    """Member 1 is slow, then member 2, while 3 is taken off its links, reset alone, and linked again while it begins. Members
-    1 and 2 have then talked with two starts of 3, and are shown the same."""
+    """Member 1 is slow, then member 2, while 3 is taken off its links, reset alone, and linked again while it begins. By then
+    members 1 and 2 have talked with two starts of 3, and are shown the same view."""
     slow = Slow(trial, trial.nodes)
     trial.reset()
     trial.expect_quiet()
@@ -98,7 +99,7 @@ def second_hand(trial: Trial) -> str:
 
 
 def readd(trial: Trial) -> str:
-    """Members keep their files, and are there all the time."""
+    """The members keep their files, and run all the time."""
     trial.services()
     trial.expect_begun("the services began")
     most, longest = 0, 0.0

@@ -1,4 +1,4 @@
-"""Ports of this machine that stay free for whom they are given to."""
+"""Ports of this machine that are reserved for one user."""
 
 import socket
 
@@ -6,8 +6,8 @@ _held = list[socket.socket]()  # until this process ends
 
 
 def held_ports(count: int) -> list[int]:
-    """Ports of 127.0.0.1 that nobody else gets while this process runs, for a listener at port 0 or for a connection. Each is
-    bound here without listening: a server that sets SO_REUSEADDR may listen there, repeatedly."""
+    """Reserves ports of 127.0.0.1: while this process runs, no listener at port 0 and no connection gets them. Each is bound
+    here without listening: a server that sets SO_REUSEADDR may listen there, repeatedly."""
     new = [socket.socket() for _ in range(count)]
     for one in new:
         one.setsockopt(socket.SOL_SOCKET, socket.SO_REUSEADDR, 1)

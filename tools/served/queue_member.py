@@ -38,13 +38,13 @@ from resetd_client.starts import Barred  # noqa: E402
 
 Json = dict[str, Any]
 
-AHEAD = 5  # items that are on their way round
+AHEAD = 5  # items in transit round the ring
 PAUSE = 0.01
 LOOK_SECONDS = 0.3
 
 
 class Weaker(Starts):
-    """The rule of a member without a part of it."""
+    """The rule of a member without one of its parts."""
 
     without = frozenset[str]()
 
@@ -62,7 +62,7 @@ class Weaker(Starts):
 
 
 class Alone:
-    """A member without a coordinator: all its life is one run."""
+    """A member without a coordinator: its whole life is one run."""
 
     def __init__(self, queue: Queue) -> None:
         self.lock = threading.Lock()
@@ -82,7 +82,7 @@ class Alone:
 
 
 class Queue:
-    """The work: how many items were taken from the member before, and how many the next one has taken."""
+    """The work: the number of items taken from the previous member, and the number that the next one has taken."""
 
     def __init__(self, node: int, folder: str) -> None:
         self.node, self.path = node, os.path.join(folder, "work")
@@ -92,20 +92,20 @@ class Queue:
                 self.work = json.load(file)
 
     def begin(self, epoch: int) -> None:
-        """Drops the work in hand, and loads the common start: no item was made."""
+        """Drops the present work, and loads the common start, in which no item was made."""
         name = secrets.token_hex(4)
         self.keep({"epoch": epoch, "taken": 0, "handed": 0, "starts": {str(self.node): name}})
         self.tell(f"starts anew, epoch {epoch}")
 
     def next(self) -> Json | None:
-        """The next message, None if there is no item to hand on."""
+        """Returns the next message, or None if there is no item to hand on."""
         item = self.work["handed"] + 1
         if item > self.work["taken"] + (AHEAD if self.node == 1 else 0):
             return None
         return {"from": self.node, "item": item, "starts": self.work["starts"]}
 
     def take(self, message: Json) -> Json:
-        """Takes an item, and answers how many were taken. One that comes again was taken before."""
+        """Takes an item, and returns how many were taken. An item that arrives again was taken before."""
         starts, item = self.join(message["starts"]), message["item"]
         if item > self.work["taken"] + 1:
             self.tell(f"GAP: item {item} came after {self.work['taken']}")
@@ -132,7 +132,7 @@ class Queue:
 
 
 def listener(port: int, member: Member | Alone, queue: Queue) -> socketserver.BaseServer:
-    """What takes items from the member before. A connection begins with the tag of its run."""
+    """Takes items from the previous member. A connection begins with the tag of its run."""
     class Handler(socketserver.StreamRequestHandler):
         def handle(self) -> None:
             try:
@@ -150,7 +150,7 @@ def listener(port: int, member: Member | Alone, queue: Queue) -> socketserver.Ba
 
 
 def send(port: int, member: Member | Alone, queue: Queue) -> None:
-    """Hands items to the next member, as long as there is a run."""
+    """Sends items to the next member, as long as there is a run."""
     while True:
         try:
             with member.in_run(wait=1) as run:

@@ -1,4 +1,4 @@
-"""Members of a work queue in a ring, each a process, whose own lines report mixed runs."""
+"""Members of a work queue in a ring, each a process. Their own lines report mixed runs."""
 
 import json
 import os
@@ -13,8 +13,8 @@ MEMBER = f"{ROOT}/tools/served/queue_member.py"
 
 
 class QueueRing:
-    """As many members as asked for, which hand items round. `words` are the arguments of each: an address and a file of signals,
-    and the parts of the rule that it leaves out."""
+    """This many members, which hand items round. `words` are the arguments of each: an address and a file of signals, and the
+    parts of the rule that it leaves out."""
 
     def __init__(self, folder: str, nodes: int, address: str, signals: str, *without: str) -> None:
         self.folder, self.nodes, self.address, self.signals, self.without = folder, range(1, nodes + 1), address, signals, without
@@ -30,18 +30,18 @@ class QueueRing:
                                                         stdout=lines, stderr=lines)
 
     def start_anew(self, node: int) -> None:
-        """What a service manager does with a member whose work is spoilt: signal 9, and a start without that work."""
+        """Does what a service manager does with a member whose work is spoilt: signal 9, and a start without that work."""
         self.processes[node].kill()
         self.processes[node].wait()
         shutil.rmtree(f"{self.folder}/{node}")
         self.start(node)
 
     def count_handed(self) -> list[int]:
-        """How many items each member has taken in its present start."""
+        """Returns the number of items that each member has taken in its present start."""
         return [json.loads(read(f"{self.folder}/{node}/work") or '{"taken": 0}')["taken"] for node in self.nodes]
 
     def count_told(self, word: str) -> int:
-        """How many lines of the members have a word."""
+        """Returns the number of the members' lines that contain a word."""
         return sum(read(f"{self.folder}/{node}.lines").count(f": {word}: ") for node in self.nodes)
 
     def end(self) -> None:

@@ -51,7 +51,7 @@ class Queue(Trial):
             self.start_member(node)
 
     def down(self, *nodes: int) -> None:
-        """Signal 9 to members."""
+        """Kills members by signal 9."""
         for node in nodes:
             member = self.up.pop(node, None)
             if member:
@@ -68,12 +68,12 @@ class Queue(Trial):
         return work
 
     def starts(self) -> dict[int, str | None]:
-        """The name of each member's start, if it has one."""
+        """Returns the name of each member's start, if it has one."""
         return {node: self.work(node)["starts"].get(str(node)) for node in self.nodes}
 
     def goes_on(self, what: str, since: dict[int, str | None] | None = None) -> None:
-        """All members are up, items go round, and no member mixed two runs. Where `since` has the starts of an earlier
-        moment, each member has another one."""
+        """Checks that all members are up, items move round, and no member has mixed two runs. If `since` has the starts of an
+        earlier moment, each member must have another one."""
         self.start_all()
         seen: dict[int, dict[str | None, int]] = {}
 
@@ -91,7 +91,7 @@ class Queue(Trial):
             self.expect_whole(what)
 
     def expect_whole(self, what: str) -> None:
-        """No member has reported a fault."""
+        """Checks that no member has reported a fault."""
         for node in self.nodes:
             faults = [line for line in read(f"{self.folder}/{node}.lines").splitlines() if "MIXED" in line or "GAP" in line]
             if faults:
@@ -101,14 +101,14 @@ class Queue(Trial):
                 raise Failed(f"{what}: member {node} has ended: {read(f'{self.folder}/{node}.lines').splitlines()[-3:]}")
 
     def copy(self, name: str = "copy") -> str:
-        """A copy of the store, by the words of the page: it is closed meanwhile."""
+        """Copies the store, by the commands of the page: it is closed meanwhile."""
         self.close()
         shutil.copy(self.server.store, f"{self.folder}/{name}")
         self.start()
         return f"{self.folder}/{name}"
 
     def reset_epochs(self, *nodes: int) -> None:
-        """A reset of some members that are up: each of them has begun and confirmed it."""
+        """Resets some members that are up, and waits until each has begun and confirmed its epoch."""
         self.expect("no reset is under way", lambda: all(row.mode == "ready" for row in self.shown().nodes))
         before = {row.node: row.epoch for row in self.shown().nodes}
         self.reset(nodes[0])
@@ -129,7 +129,7 @@ class Queue(Trial):
                 self.order("join", a=node, b=other)
 
     def add_again(self, node: int, resets: int = 0) -> None:
-        """A node without links is removed and added again, reset alone this often, and linked as it was."""
+        """Removes a node without links and adds it again, resets it alone this often, and links it as before."""
         self.order("remove", node=node)
         self.order("add", node=node, group=1)
         for _ in range(resets):
@@ -259,7 +259,7 @@ def old_host(trial: Queue) -> None:
 
 
 def confirmed_for(trial: Queue) -> None:
-    """The person on call confirms for a member that is down, and it comes back with its work."""
+    """The person on call confirms for a member that is down, and the member returns with its work."""
     trial.down(3)
     trial.reset_epochs(1, 2)
     trial.order("confirm", node=3, epoch=trial.epoch(3))
@@ -303,12 +303,12 @@ def between_confirms_without_files(trial: Queue) -> None:
 
 WAYS = (new_store, added_again_down, added_again_up, moved_and_added_again, with_one_down, between_confirms, twice,
         while_served, moved, work_lost, own_copy, old_host, confirmed_for, parted, between_confirms_without_files)
-# after these every member has to have another start than before
+# after these, every member has to have another start than before
 RENEWING = (plain_reset, by_the_page)
 
 
 def happen(trial: Queue, way: Callable[[Queue], None], when: str) -> None:
-    """One of the ways, and the checks after it."""
+    """Lets one of the events happen, and makes the checks after it."""
     since = trial.starts() if way in RENEWING else None
     try:
         way(trial)
@@ -318,7 +318,7 @@ def happen(trial: Queue, way: Callable[[Queue], None], when: str) -> None:
 
 
 def starts(trial: Queue) -> str:
-    """Each way once, one after the other."""
+    """Tries each event once, one after another."""
     trial.choice = random.Random(1)
     trial.begin()
     for place, way in enumerate((*WAYS, *RENEWING), 1):
@@ -327,7 +327,7 @@ def starts(trial: Queue) -> str:
 
 
 def queue(trial: Queue) -> str:
-    """Random ways, one after the other."""
+    """Tries random events, one after another."""
     seed = trial.words.seed if trial.words.seed is not None else random.randrange(1 << 32)
     trial.choice = random.Random(seed)
     trial.begin()

@@ -1,4 +1,4 @@
-"""A ring of nodes whose resets are asked for by several clients, and followed to their end."""
+"""A ring of nodes. Several clients ask for its resets, which are followed to their end."""
 
 import random
 import time
@@ -8,7 +8,7 @@ from .history import History
 from .server import Away, Server
 
 NODES, CLIENTS, HALF = 64, 8, 32_768
-TIMEOUT = 300  # seconds within which a reset has to end, on a busy machine too
+TIMEOUT = 300  # seconds within which a reset has to end, even on a busy machine
 
 
 def topology(half: int, reach: int) -> str:
@@ -20,15 +20,15 @@ def topology(half: int, reach: int) -> str:
 
 
 class Ring:
-    """What the clients know. `quiet` are the epochs when all nodes were last ready with nothing on its way, and
-    `started` are the nodes of the resets that were started since."""
+    """What the clients know. `quiet` are the epochs when all nodes were last ready with nothing in transit, and `started` are
+    the nodes of the resets that were started since."""
 
     def __init__(self, server: Server, choice: random.Random) -> None:
         self.server, self.choice, self.history = server, choice, History()
         self.clients = [Client(number) for number in range(1, CLIENTS + 1)]
         self.quiet = dict.fromkeys(range(1, NODES + 1), 0)
         self.started = list[int]()
-        self.counts = (0, 0)  # how many steps were shown as accepted and settled since the last start
+        self.counts = (0, 0)  # the numbers of steps shown as accepted and settled since the last start
 
     def found(self) -> None:
         done = self.server.found(topology(HALF, 1))
@@ -36,13 +36,13 @@ class Ring:
             raise Lost(f"resetd init: {done}")
 
     def ask_resets(self, resets: int) -> None:
-        """That many clients, one after the other, each over its own connection."""
+        """Makes this many clients ask for resets, one after another, each over its own connection."""
         for client in self.choice.sample(self.clients, resets):
             client.order(self.server, "reset", node=self.choice.randint(1, NODES))
             self.note(client)
 
     def note(self, client: Client) -> None:
-        """Notes a reply, if it is new."""
+        """Records a reply, if it is new."""
         assert client.answered and client.reply
         step = client.reply["step"]
         if step not in self.history.answered and client.reply["kind"] == "started":
@@ -50,8 +50,8 @@ class Ring:
         self.history.answered.add(step)
 
     def repeat_orders(self, count: int) -> None:
-        """After a start on a store of `count` steps: each answered order gets the same answer again, and each unanswered one is
-        sent again."""
+        """After a start on a store of `count` steps, sends each answered order again, which must get the same answer, and each
+        order without an answer."""
         self.note_counts(count, count, is_start=True)
         for client in self.clients:
             client.repeat(self.server, count)
@@ -59,7 +59,7 @@ class Ring:
                 self.note(client)
 
     def follow(self) -> None:
-        """Waits until each reset has come to its end, and compares the epochs."""
+        """Waits until each reset has ended, and compares the epochs."""
         until = time.monotonic() + TIMEOUT
         while time.monotonic() < until:
             view = self.server.ask({"op": "show"})
@@ -76,13 +76,13 @@ class Ring:
         raise Lost(f"a reset did not end within {TIMEOUT} seconds")
 
     def note_counts(self, accepted: int, settled: int, is_start: bool = False) -> None:
-        """While a server runs, over all its instances, neither count falls."""
+        """Checks that neither count falls while a server runs, over all its instances."""
         if not is_start and (accepted < self.counts[0] or settled < self.counts[1]):
             raise Lost(f"{self.counts} steps were accepted and settled, and then {accepted} and {settled}")
         self.counts = accepted, settled
 
     def await_signals(self, until: float) -> None:
-        """Waits until each signal that was settled is printed: that comes after the answers."""
+        """Waits until each settled signal is printed, which happens after the answers."""
         while self.history.find_unprinted() and time.monotonic() < until:
             if self.server.process.poll() is not None:
                 raise Away("the coordinator is gone")
@@ -91,8 +91,8 @@ class Ring:
         self.history.expect_printed()
 
     def compare(self, epochs: dict[int, int]) -> None:
-        """If no reset was started, no epoch rose; one alone raised each by one; of several, each node that started some was
-        signalled at least as often."""
+        """Checks the epochs. If no reset was started, no epoch rose; a single one raised each by one; of several, each node
+        that started some was signalled at least as often."""
         for node, before in self.quiet.items():
             rise = epochs[node] - before
             if (len(self.started) < 2 and rise != len(self.started)) or rise < self.started.count(node):

@@ -1,4 +1,4 @@
-"""What a demo prints: lines that stay, and in a terminal a picture below them that is drawn in place."""
+"""The output of a demo: lines that stay and, in a terminal, a picture below them that is drawn in place."""
 
 import os
 import shutil
@@ -6,7 +6,7 @@ import sys
 
 
 class Screen:
-    """The picture moves if the output is a terminal and neither NO_COLOR nor CI is set; otherwise it only has lines."""
+    """The picture moves if the output is a terminal and neither NO_COLOR nor CI is set. Otherwise only lines are printed."""
 
     def __init__(self) -> None:
         self.moves = sys.stdout.isatty() and not os.environ.get("NO_COLOR") and not os.environ.get("CI")
@@ -18,7 +18,7 @@ class Screen:
         print(*lines or ("",), sep="\n", flush=True)
 
     def draw(self, lines: list[str]) -> None:
-        """Draws a picture over the one before. What a terminal would break into two can't be drawn over."""
+        """Draws a picture over the previous one. A line that the terminal would wrap can't be drawn over."""
         if self.moves:
             width = shutil.get_terminal_size().columns - 1
             self.wipe()

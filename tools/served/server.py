@@ -14,11 +14,11 @@ from .clients import Json, Lost  # noqa: E402
 
 __all__ = ["TIMEOUT", "Away", "Server", "ask"]
 
-TIMEOUT = 300  # seconds within which a server answers and ends, on a busy machine too
+TIMEOUT = 300  # seconds within which a server answers and ends, even on a busy machine
 
 
 def ask(address: str, request: Json, seconds: float) -> Json:
-    """One request and its answer, whatever it says. Raises Away if none came."""
+    """Sends one request, and returns its answer, whatever it is. Raises Away if no answer came."""
     try:
         answer: Json = json.loads(Port(address, seconds).raw(request))
     except ValueError as fault:
@@ -27,7 +27,7 @@ def ask(address: str, request: Json, seconds: float) -> Json:
 
 
 class Server:
-    """`resetd serve` over a store. All its starts add their lines to one file, as those of a service manager do."""
+    """`resetd serve` over a store. All its starts append their lines to one file, like those of a service manager."""
 
     def __init__(self, program: str, store: str, address: str = "127.0.0.1:0") -> None:
         self.program, self.store, self.wanted = program, store, address
@@ -48,18 +48,18 @@ class Server:
         self._process = process
 
     def command(self, word: str, *words: str) -> tuple[int, list[str]]:
-        """Another command of the program on the store: its status, and the lines that it printed, faults last."""
+        """Runs another command of the program on the store. Returns its status, and the lines that it printed, faults last."""
         done = subprocess.run([self.program, word, self.store, *words], capture_output=True, encoding="utf-8")
         return done.returncode, (done.stdout + done.stderr).splitlines()
 
     def found(self, topology: str) -> tuple[int, list[str]]:
-        """Makes the store with the nodes and links of a topology, and returns the output."""
+        """Creates the store with the nodes and links of a topology, and returns the output."""
         with open(f"{self.store}.toml", "w", encoding="utf-8") as file:
             file.write(topology)
         return self.command("init", f"{self.store}.toml")
 
     def start(self, *before: str) -> bool:
-        """Starts the server, and answers whether it came to listen."""
+        """Starts the server, and returns whether it came to listen."""
         self.launch(*before)
         return self.listen()
 
@@ -72,7 +72,7 @@ class Server:
                                             stdin=subprocess.DEVNULL, stdout=signals, stderr=errors)
 
     def listen(self) -> bool:
-        """Waits until the process listens, or is over. Whether it listens."""
+        """Waits until the process listens or has ended. Returns whether it listens."""
         while not self.address:
             is_over = self.process.poll() is not None
             for line in self.lines_from(self.size_before)[0]:
@@ -84,8 +84,8 @@ class Server:
         return bool(self.address)
 
     def ask(self, request: Json) -> Json:
-        """The answer to a request, which is sent again while the process runs: a life that ends may end a connection
-        without one, and whoever asks a server sends again what had no reply. Raises Away once the process has ended."""
+        """Returns the answer to a request. The request is sent again while the process runs, because an instance that ends may
+        end a connection without an answer. Raises Away once the process has ended."""
         if not self.address:
             raise Away("it does not listen")
         until = time.monotonic() + TIMEOUT
@@ -98,7 +98,7 @@ class Server:
             time.sleep(0.005)
 
     def kill(self) -> None:
-        """Signal 9, also to the server below a process that watches it."""
+        """Kills the server by signal 9, also if it runs below a process that watches it."""
         below = subprocess.run(["ps", "-o", "pid=", "--ppid", str(self.process.pid)], capture_output=True, check=False)
         for process in [self.process.pid, *map(int, below.stdout.split())]:
             os.kill(process, signal.SIGKILL)
@@ -110,7 +110,7 @@ class Server:
             self.kill()
 
     def close(self) -> tuple[int, str]:
-        """Ends the server in order: its exit status, and its faults."""
+        """Ends the server in order. Returns its exit status and its faults."""
         try:
             self.ask({"op": "close"})
         except Away:
@@ -127,19 +127,19 @@ class Server:
             raise Lost(f"closed in order, the coordinator ended with {ended}")
 
     def ended(self) -> tuple[int, str]:
-        """Waits for the end of the process: its exit status, and its faults."""
+        """Waits for the end of the process. Returns its exit status and its faults."""
         status = self.process.wait(timeout=TIMEOUT)
         with open(self.errors, encoding="utf-8") as errors:
             return status, errors.read()
 
     def new_signals(self) -> list[tuple[int, int]]:
-        """The node and the epoch of each signal that was printed since the last call."""
+        """Returns the node and the epoch of each signal printed since the last call."""
         lines, self.size_read = self.lines_from(self.size_read)
         rows = [line.split() for line in lines if line.startswith("signal ")]
         return [(int(node), int(epoch)) for _, node, epoch in rows]
 
     def lines_from(self, place: int) -> tuple[list[str], int]:
-        """The whole lines after a place of the file of signals, and the place after them."""
+        """Returns the complete lines after a position in the file of signals, and the position after them."""
         with open(self.signals, "rb") as file:
             file.seek(place)
             text = file.read()

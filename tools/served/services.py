@@ -10,7 +10,7 @@ import time
 from collections.abc import Callable, Sequence
 from typing import IO
 
-from .front import Front
+from .front import Front, Proxy
 from .ports import held_address
 from .server import TIMEOUT, Server
 
@@ -21,7 +21,7 @@ from resetd_client import Away, Member, Orders, OutOfRun, Port, Reply, View, pat
 __all__ = ["ROOT", "Away", "Failed", "Member", "Orders", "OutOfRun", "Port", "Trial", "View", "Words", "patiently", "read",
            "tag_in", "tags_at"]
 
-OPERATOR, RESETCTL = 16, 14  # clients that no member has, and the front has not
+OPERATOR, RESETCTL = 16, 14  # clients that neither a member nor the front uses
 
 
 class Failed(Exception):
@@ -29,25 +29,26 @@ class Failed(Exception):
 
 
 class Words(argparse.Namespace):
-    """What the command line says of trials. Some have no seed and no events."""
+    """The arguments of the command line. Some trials have no seed and no events."""
 
     program: str
     seconds: float
     without: set[str]
     seed: int | None
     events: int
-    is_at_port = False  # whether no front is before the coordinator
+    is_at_port = False  # whether the coordinator has no front
+    proxy = ""  # the program `resetd-proxy`, which then takes the front's place
 
 
 class Trial:
-    """A coordinator, its requirements, and the helpers that were started; all end with it."""
+    """A coordinator, its requirements, and the helpers that were started. All of them end with the trial."""
 
     def __init__(self, words: Words, folder: str, nodes: int, is_ring: bool = True) -> None:
         self.words, self.folder, self.nodes = words, folder, range(1, nodes + 1)
         self.server = Server(words.program, f"{folder}/store", held_address())  # of all its starts
         self.helpers = list[subprocess.Popen[bytes]]()
-        self._front: Front | None = None
-        self._front_for_tcp: Front | None = None
+        self._front: Front | Proxy | None = None
+        self._front_for_tcp: Front | Proxy | None = None
         links = [(node, node % nodes + 1) for node in self.nodes][:nodes if is_ring and nodes > 2 else nodes - 1]
         done = self.server.found(
             "".join(f"[[node]]\nid = {node}\ngroup = 1\n" for node in self.nodes) +
@@ -56,7 +57,7 @@ class Trial:
             raise Failed(f"resetd init: {done}")
         self.start()
         if not words.is_at_port:
-            self._front = Front(folder, self.server.address, self.server.signals)
+            self._front = self._before()
         self.port = Port(self.address, 30)
         self.orders = Orders(self.port, OPERATOR, f"{folder}/operator", told=lambda _: None)
 
@@ -66,17 +67,22 @@ class Trial:
 
     @property
     def address(self) -> str:
-        """The front's, if there is one, else the server's."""
+        """The front's address, if there is one, else the server's."""
         return self._front.address if self._front else self.server.address
 
     @property
     def tcp(self) -> list[str]:
-        """The host and the port of a front, for a member that comes by TCP. It starts a front if the trial has none."""
-        self._front_for_tcp = self._front or self._front_for_tcp or Front(self.folder, self.server.address, self.server.signals)
+        """Returns the host and the port of a front, for a member that connects by TCP. Starts a front if the trial has none."""
+        self._front_for_tcp = self._front or self._front_for_tcp or self._before()
         return self._front_for_tcp.tcp.split(":")
 
+    def _before(self) -> Front | Proxy:
+        """Starts the front or the proxy."""
+        where = self.folder, self.server.address, self.server.signals
+        return Proxy(self.words.proxy, *where) if self.words.proxy else Front(*where)
+
     def kill(self) -> None:
-        """Signal 9, and a new start."""
+        """Kills the server by signal 9, and starts it again."""
         self.server.kill()
         self.start()
 
@@ -86,7 +92,7 @@ class Trial:
 
     def run(self, program: str, *words: str | float, name: str | int,
             stdin: int | IO[bytes] = subprocess.DEVNULL) -> subprocess.Popen[bytes]:
-        """Starts one of the examples, whose lines go to a file of this name."""
+        """Starts one of the examples, with its lines in a file of this name."""
         with open(f"{self.folder}/{name}.lines", "ab") as lines:
             self.helpers.append(subprocess.Popen([f"{ROOT}/examples/{program}", *map(str, words)],
                                                  stdin=stdin, stdout=lines, stderr=lines))
@@ -98,7 +104,7 @@ class Trial:
             self.service(node)
 
     def service(self, node: int) -> tuple[subprocess.Popen[bytes], subprocess.Popen[bytes]]:
-        """An example service, which reads the file of signals from its start: the processes that it is."""
+        """Starts an example service, which reads the file of signals from its beginning. Returns its processes."""
         tail = subprocess.Popen(["tail", "-n", "+1", "-F", self.server.signals], stdout=subprocess.PIPE,
                                 stderr=subprocess.DEVNULL)
         assert tail.stdout
@@ -109,7 +115,7 @@ class Trial:
         return tail, service
 
     def stop_helpers(self, *some: subprocess.Popen[bytes]) -> None:
-        """Signal 9 to some helpers, or to all."""
+        """Kills some helpers, or all, by signal 9."""
         stopped = some or tuple(self.helpers)
         for helper in stopped:
             helper.kill()
@@ -121,18 +127,18 @@ class Trial:
         return patiently(lambda: self.orders.order(op, **members), TIMEOUT)
 
     def shown(self) -> View:
-        """The view, which a server that has just been started gives a little later."""
+        """Returns the view, for which a server that was just started may need a moment."""
         return patiently(self.port.show, TIMEOUT)
 
     def epoch(self, node: int) -> int:
-        """The epoch that a node is shown in."""
+        """Returns the epoch in which a node is shown."""
         row = self.shown().node(node)
         if row is None:
             raise Failed(f"node {node} is not shown")
         return row.epoch
 
     def reset(self, node: int = 1, is_killed: bool = False) -> None:
-        """Asks for a reset. If the server is killed, that is somewhere in it."""
+        """Asks for a reset. If the server is killed, that happens at some moment of the reset."""
         self.order("reset", node=node)
         if is_killed:
             time.sleep(random.uniform(0, 0.004))
@@ -142,13 +148,13 @@ class Trial:
         self.expect("no reset is at any node", lambda: all(row.mode == "ready" for row in patiently(self.port.show, 20).nodes))
 
     def is_at_rest(self) -> bool:
-        """Whether nobody has anything to do: each node is confirmed, and stays so for a while."""
+        """Returns whether nobody has anything to do: each node is confirmed, and stays so for a while."""
         rows = self.port.show().nodes
         time.sleep(0.3)
         return all(row.is_begun for row in rows) and self.port.show().nodes == rows
 
     def begun(self, node: int) -> tuple[int, int | None]:
-        """How often a service has begun, and the last epoch."""
+        """Returns how many times a service has begun, and the last epoch."""
         if not os.path.exists(f"{self.folder}/{node}.lines"):
             return 0, None
         with open(f"{self.folder}/{node}.lines", encoding="utf-8") as lines:
@@ -172,7 +178,7 @@ class Trial:
                 for times, last in [self.begun(node)])
 
     def expect_begun(self, what: str, before: dict[int, int] | None = None, nodes: Sequence[int] | None = None) -> None:
-        """Every service has begun once more than this often, the epoch that its node has, and confirmed it."""
+        """Checks that every service has begun once more than before, in the epoch that its node has, and confirmed it."""
         earlier = before or {}
 
         def holds() -> bool:
@@ -185,35 +191,36 @@ class Trial:
         return {node: self.begun(node)[0] for node in self.nodes}
 
     def reset_all(self, what: str, node: int = 1, is_killed: bool = False) -> None:
-        """A reset, after which every service begins again."""
+        """Makes a reset, after which every service begins again."""
         before = self.times()
         self.reset(node, is_killed)
         self.expect_begun(what, before)
 
     def put_back(self, copy: str) -> None:
-        """The store is the same as when the copy was made."""
+        """Restores the store from a copy."""
         self.close()
         shutil.copy(copy, self.server.store)
         self.start()
         self.orders.recover()
 
     def renew(self) -> None:
-        """What the page says to do once a restored store is served."""
+        """Does what the page says to do once a restored store is served."""
         if "restored" not in self.words.without:
             status, told = self.resetctl("restored")
             if status != 0 or "have a new epoch" not in told:
                 raise Failed(f"resetctl restored: status {status}, {told}")
 
     def resetctl(self, *words: str) -> tuple[int, str]:
-        """A command of the person on call, with a separate client. Its status and its output."""
+        """Runs a command of the person on call, with a separate client. Returns its status and its output."""
         done = subprocess.run([f"{ROOT}/client/resetctl", "--address", self.address, "--client", str(RESETCTL),
                                "--state", f"{self.folder}/state", *words], capture_output=True, encoding="utf-8", check=False)
         return done.returncode, done.stdout + done.stderr
 
     def end(self) -> None:
         self.stop_helpers()
-        for front in filter(None, {self._front, self._front_for_tcp}):
-            front.end()
+        for each in {self._front, self._front_for_tcp}:
+            if each:
+                each.end()
         self.orders.close()
         self.server.end()
 
@@ -226,11 +233,11 @@ def read(path: str) -> str:
 
 
 def tag_in(path: str) -> str:
-    """The tag of a member's run, by its file; empty if there is none."""
+    """Returns the tag of a member's run from its file, or an empty text if there is none."""
     fields = read(path).split()
     return fields[1] if len(fields) > 1 else ""
 
 
 def tags_at(folder: str) -> set[str]:
-    """The last tags that a gateway gave its members; with the empty text if it gave one none."""
+    """Returns the last tags that a gateway gave its members; with an empty text if it gave one none."""
     return {(line.split() + ["", "", "", ""])[3] for line in read(f"{folder}/told/members").splitlines()}

@@ -9,12 +9,12 @@ import time
 from .ports import held_ports
 from .services import Failed, Trial, patiently, read, tags_at
 
-LIMIT = 400_000  # bytes of the file of signals, at which a line is to be torn
-TIMEOUT = 300  # seconds within which a server answers and ends, on a busy machine too
+LIMIT = 400_000  # size of the file of signals at which a line is to be torn
+TIMEOUT = 300  # seconds within which a server answers and ends, even on a busy machine
 
 
 def begin_first(trial: Trial) -> None:
-    """Services are there, and one reset is through."""
+    """Starts services, and waits until one reset is through."""
     trial.services()
     trial.expect_begun("the services began")
     trial.reset_all("the first reset")
@@ -136,7 +136,7 @@ def members(trial: Trial) -> None:
 
 
 def messages(trial: Trial) -> str:
-    """Member 1 looks only at intervals, so it learns late: after a reset it continues for a while in the old run."""
+    """Member 1 looks only at intervals, so it learns late: after a reset it continues in the old run for a while."""
     places = held_ports(2)
     tag = ["--without-tag"] if "tag" in trial.words.without else []
     for node, signals, look in ((1, "/nonexistent", 1.2), (2, trial.server.signals, 5)):

@@ -1,4 +1,4 @@
-"""A copy of the crates, for a trial build of them, and mutants that are put into it."""
+"""Copies the crates for a trial build, and plants mutants in the copy."""
 
 import os
 import shutil
@@ -32,14 +32,14 @@ def write(path: str, text: str) -> None:
 
 
 def copy(folder: str) -> None:
-    """The crates, without what the toolchain keeps of them."""
+    """Copies the crates, without the files that the toolchain keeps in them."""
     for name in ("crates.txt", "HANDLES"):
         shutil.copy(f"{ROOT}/{name}", folder)
     shutil.copytree(f"{ROOT}/crates", f"{folder}/crates", ignore=shutil.ignore_patterns("out", "must-fail"))
 
 
 def copy_units(folder: str) -> None:
-    """The tests of tests/units as a crate beside the others in a copy of them, over each library that they list."""
+    """Copies the tests of tests/units as a crate beside the others in a copy of them, over each library that they list."""
     for at, _, names in os.walk(UNITS):
         for name in names:
             inner = os.path.relpath(os.path.join(at, name), UNITS).removesuffix(".rt.txt")
@@ -54,7 +54,7 @@ def copy_units(folder: str) -> None:
 
 
 def plant(folder: str, word: str) -> None:
-    """Puts a mutant in. Each old text of it has to stand once in its file."""
+    """Plants a mutant. Each old text of it must occur once in its file."""
     body = catalogue.find(word)
     for exchange in body.exchanges:
         path = f"{folder}/crates/{body.crate}/{exchange.file}"
@@ -66,7 +66,7 @@ def plant(folder: str, word: str) -> None:
 
 
 def plant_schemata(folder: str, words: list[str]) -> None:
-    """Puts mutants in of which the environment chooses one."""
+    """Plants mutants, one of which the environment chooses."""
     try:
         schemata.plant(folder, [catalogue.find(word) for word in words])
     except schemata.Unfit as unfit:

@@ -1,4 +1,4 @@
-"""Trials of stores that go back and of members that come again, with the example services."""
+"""Trials of stores that go back and of members that return, with the example services."""
 
 import shutil
 from collections.abc import Sequence
@@ -8,8 +8,8 @@ from .signal_trials import begin_first
 
 
 def restore(trial: Trial) -> None:
-    """A store is put back that was copied before two resets: one while service 3 was down, one while all were, which nobody has
-    begun. Every service begins again, and later resets complete as before."""
+    """Restores a store that was copied before two resets: one while service 3 was down, and one while all were down, which
+    nobody has begun. Every service begins again, and later resets complete as before."""
     trial.services()
     trial.expect_begun("the services began")
     third = trial.helpers[-2:]
@@ -44,7 +44,7 @@ def put_back(trial: Trial, before: dict[int, int], up: Sequence[int]) -> None:
 
 
 def again(trial: Trial) -> None:
-    """A member is removed, added again and reset: it begins again, though it had begun that epoch before."""
+    """A member is removed, added again and reset. It begins again, although it had begun that epoch before."""
     begin_first(trial)
     before = trial.times()
     for other in (1, 2):
@@ -58,7 +58,7 @@ def again(trial: Trial) -> None:
 
 
 def plain(trial: Trial) -> None:
-    """A member in plain bash beside two behind a gateway: they begin together, and come to one tag."""
+    """A member in plain bash runs beside two behind a gateway: they begin together, and get one tag."""
     def up() -> None:
         trial.run("gateway", "1-2", 1, trial.address, f"{trial.folder}/gateway", "--signals",
                   trial.server.signals, "--look", 0.3, name="gateway")

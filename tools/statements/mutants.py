@@ -24,7 +24,7 @@ from .table import Row
 sys.path.insert(0, str(pathlib.Path(__file__).resolve().parent.parent.parent / "refusals"))
 import catalogue  # noqa: E402
 
-# The functions that rows cite and that no mutant breaks: one a line, with its crate.
+# The functions that rows cite and that no mutant breaks, one on each line, with its crate.
 NOT_TRIED = "refusals/not-tried.txt"
 NAMED = re.compile(r"(?:(coord_[a-z]+|resetd) )?([\w:]+(?: as \w+::\w+)?)(?: \((\w+)\))?")
 CALL = re.compile(r"(?:\b(\w+)::)?\b(\w+)\s*(?:::<[^>]*>)?\(")
@@ -39,7 +39,7 @@ class Clause(NamedTuple):
 
 
 class Mutants:
-    """The mutants that name what they break, and the faults in these names."""
+    """The mutants that name the clauses that they break, and the faults in these names."""
 
     def __init__(self, repository: Repository):
         self.repository = repository
@@ -56,7 +56,7 @@ class Mutants:
                     self.take(mutant, text)
 
     def take(self, mutant: catalogue.Mutant, text: str) -> None:
-        """Takes what a mutant says that it breaks."""
+        """Records the clauses that a mutant names."""
         match = NAMED.fullmatch(text)
         if match is None:
             self.wrong.append(f"{mutant.id}: not the name of a clause: {text}")
@@ -71,13 +71,13 @@ class Mutants:
             self.breaking[Clause(found[0].key, name)].append(mutant.id)
 
     def of(self, key: Key) -> dict[str, list[str]]:
-        """The mutants that break what a function ensures, by clause."""
+        """Returns the mutants that break the clauses of a function, by clause."""
         return {name: self.breaking[clause] for name in self.functions[key].ensured
                 if (clause := Clause(key, name)) in self.breaking}
 
     def callees(self, key: Key) -> set[Key]:
-        """The functions of its crate on which a function stands: those that it calls, and those that they call, as far as their
-        names tell which they are."""
+        """Returns the functions of its crate on which a function depends: those that it calls, and those that they call, as far
+        as their names identify them."""
         found, left = {key}, [key]
         while left:
             function = self.functions[left.pop()]
@@ -89,29 +89,29 @@ class Mutants:
         return found - {key}
 
     def meant(self, caller: Function, owner: str, name: str) -> Function | None:
-        """The function that a call means: the only one of this name that is not the caller, of this type if it is named, or the
-        only one in its module."""
+        """Returns the function that a call means: the only one with this name other than the caller; with this type, if the
+        call names a type; or the only one in its module."""
         others = [it for it in self.of_name.get((caller.crate, name), []) if it.key != caller.key]
         of_owner = [it for it in others if owner and owner in (it.owner, it.module.rpartition("::")[2])]
         near = [it for it in others if it.module == caller.module]
         return next((few[0] for few in (of_owner, others, near) if len(few) == 1), None)
 
     def below(self, key: Key) -> dict[Key, dict[str, list[str]]]:
-        """The mutants that break the callees of a function, by function and clause."""
+        """Returns the mutants that break the callees of a function, by function and clause."""
         return {it: mutants for it in sorted(self.callees(key)) if (mutants := self.of(it))}
 
     def is_tried(self, key: Key) -> bool:
         return bool(self.of(key)) or bool(self.below(key))
 
     def cited(self, rows: list[Row]) -> list[Key]:
-        """The functions that rows cite, of crates with a catalogue, which have a mutant and ensure something."""
+        """Returns the functions that rows cite, in crates with a catalogue, that can have a mutant and ensure something."""
         every = dict.fromkeys(key for row in rows for key in row.cites)
         return [key for key in every if key[0] in self.crates and self.functions[key].is_public
                 and self.functions[key].ensured and not self.functions[key].is_law]
 
     def faults(self, rows: list[Row]) -> list[str]:
-        """What does not fit: names of clauses that are none; functions that rows cite and nobody tried; and such as are listed so,
-        and were tried, or are cited by no row."""
+        """Returns the faults: named clauses that do not exist; cited functions without a mutant; and functions that are listed
+        as not tried although they were tried, or are cited by no row."""
         path = self.repository.root / NOT_TRIED
         lines = [line.split(" ", 1) for line in path.read_text().splitlines() if line and not line.startswith("#")]
         listed, cited = {(crate, name) for crate, name in lines}, self.cited(rows)
@@ -126,7 +126,8 @@ class Mutants:
 
 
 def answers(mutants: Mutants, rows: list[Row], word: str) -> list[str]:
-    """What breaks the promises of these rows that have this word, or cite a function of this name: lines to print."""
+    """Returns the lines to print for the rows that have this word, or cite a function with this name: the mutants that break
+    their promises."""
     told: list[str] = []
     for row in rows:
         keys = [key for key in row.cites if key in mutants.cited([row])]
@@ -139,7 +140,7 @@ def answers(mutants: Mutants, rows: list[Row], word: str) -> list[str]:
 
 
 def lines_of(mutants: Mutants, key: Key, clauses: set[str]) -> list[str]:
-    """What breaks a function that a row cites, of the clauses that it names."""
+    """Returns the lines for a function that a row cites: the mutants that break the clauses that the row names."""
     told = [f"  {' '.join(key)}" + (f" ({', '.join(sorted(clauses))})" if clauses else "")]
     told += [f"    {name or 'its clause'}: {', '.join(ids)}" for name, ids in mutants.of(key).items() if not clauses or name in clauses]
     told += [f"    by {other[1]}{f' ({name})' if name else ''}: {', '.join(ids)}"

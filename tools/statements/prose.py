@@ -1,4 +1,4 @@
-"""The comments and messages of a file: what its readers and its users read, beside the names of its code."""
+"""The comments and messages of a file: the text for its readers and users, as opposed to the names of its code."""
 
 from __future__ import annotations
 
@@ -8,7 +8,7 @@ import tokenize
 from collections.abc import Iterator
 
 STRING = r'"(?:[^"\\\n]|\\.)*"'
-# Comments and strings by the endings of files, and otherwise those of a shell.
+# Comments and strings by file name suffix; for all other files, those of a shell script.
 SPANS = {
     r"\.(?:rt|rs|c|h|go)(?:\.txt)?$": re.compile(rf"//[^\n]*|/\*.*?\*/|{STRING}", re.DOTALL),
     r"\.antt(?:\.txt)?$": re.compile(r"(?<!\S)--(?!\S)[^\n]*"),
@@ -19,7 +19,7 @@ PYTHON = re.compile(r"\A#!.*python|\A\"\"\"")
 
 
 def prose_of(name: str, text: str) -> str:
-    """The text with blanks in place of all that is code, so that each place stays where it is."""
+    """Returns the text with blanks in place of all code, so that every position stays the same."""
     kept = [" " if letter != "\n" else letter for letter in text]
     for begin, end in spans_of(name, text):
         kept[begin:end] = text[begin:end]

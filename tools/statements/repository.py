@@ -1,4 +1,4 @@
-"""All crates but those of tests, and what their statements reach."""
+"""All crates except those of tests, and what their statements reach."""
 
 from __future__ import annotations
 
@@ -8,7 +8,7 @@ from .sources import WORD, Function, Ghost, Source, definitions_of, functions_of
 
 
 class Repository:
-    """All crates but those of tests: their functions, ghost members, definitions and types."""
+    """All crates except those of tests: their functions, ghost members, definitions and types."""
 
     def __init__(self, root: pathlib.Path):
         self.root = root
@@ -17,7 +17,7 @@ class Repository:
         self.crates = [name for name in names if not name.startswith("tests_")]
         self.functions: list[Function] = []
         self.ghosts: list[Ghost] = []
-        # what each file of Rattle states, by crate and module
+        # the statements of each file of Rattle, by crate and module
         self.stated: dict[tuple[str, str], str] = {}
         self.specs: dict[str, Source] = {}
         self.definitions: dict[tuple[str, str], str] = {}
@@ -38,7 +38,7 @@ class Repository:
             self.definitions.update({(source.dotted, name): text for name, text in definitions_of(source).items()})
 
     def find(self, module: str, name: str) -> tuple[str, str] | None:
-        """Where what an import names is defined."""
+        """Returns the place where an imported name is defined."""
         for _ in range(9):
             if ".specs.declared." in module:
                 words = module.split(".")
@@ -53,7 +53,7 @@ class Repository:
         return None
 
     def reached_from(self, text: str, source: Source) -> set[tuple[str, str]]:
-        """What the words of a text name, as the file understands them."""
+        """Returns what the names in a text refer to, with the imports of its file."""
         reached: set[tuple[str, str] | None] = set()
         for word in set(WORD.findall(text)):
             first, *rest = word.split(".")
@@ -66,7 +66,7 @@ class Repository:
         return {it for it in reached if it}
 
     def closure(self, texts: list[tuple[str, Source]]) -> set[tuple[str, str]]:
-        """All definitions and types that these texts reach."""
+        """Returns all definitions and types that these texts reach."""
         reached: set[tuple[str, str]] = set()
         left = [it for text, source in texts for it in self.reached_from(text, source)]
         while left:

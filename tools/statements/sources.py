@@ -1,4 +1,4 @@
-"""What a file of Rattle or of definitions states: functions with their clauses, ghost members, types and definitions."""
+"""The statements in a file of Rattle or of definitions: functions with their clauses, ghost members, types and definitions."""
 
 from __future__ import annotations
 
@@ -37,7 +37,7 @@ class Function:
 
     @property
     def ensured(self) -> list[str]:
-        """The names of its ensures; empty for a clause without a name."""
+        """The names of its `ensures` clauses; empty for a clause without a name."""
         return [label.partition(" ")[2] for label, _ in self.clauses if label.startswith("ensures")]
 
     @property
@@ -86,7 +86,7 @@ class Source:
 
 
 def without_comment(line: str, mark: str) -> str:
-    """The line without its comment. A mark within quotes begins none."""
+    """Returns the line without its comment. A mark within quotes begins no comment."""
     at = line.find(mark)
     while at >= 0 and line[:at].count('"') % 2:
         at = line.find(mark, at + 1)
@@ -98,7 +98,7 @@ def digest(text: str) -> str:
 
 
 def closing(text: str, at: int) -> int:
-    """The place after the bracket that closes the one at a place."""
+    """Returns the position after the bracket that closes the one at `at`."""
     depth = 0
     for place in range(at, len(text)):
         depth += (text[place] in "([{") - (text[place] in ")]}")
@@ -108,7 +108,7 @@ def closing(text: str, at: int) -> int:
 
 
 def clauses_of(text: str, at: int) -> tuple[list[tuple[str, str]], int]:
-    """The clauses of a function whose parameters begin after a place, by kind and name, and the place after them."""
+    """Returns the clauses of a function whose parameters begin after a position, by kind and name, and the position after them."""
     found: list[tuple[str, str]] = []
     while at < len(text):
         clause = CLAUSE.match(text, at)
@@ -125,7 +125,7 @@ def clauses_of(text: str, at: int) -> tuple[list[tuple[str, str]], int]:
 
 
 def owner_of(head: str) -> str:
-    """The name for the methods of an impl or a trait: the type, and after `as` the trait that it implements."""
+    """Returns the name for the methods of an impl or a trait: the type, and after `as` the trait that it implements."""
     head = re.sub(r"\s+", " ", head.split("{")[0].split(";")[0]).strip()
     while re.search(r"<[^<>]*>", head):
         head = re.sub(r"(?<!-)<[^<>]*>", "", head)
@@ -137,7 +137,7 @@ def owner_of(head: str) -> str:
 
 
 def blocks_of(text: str) -> list[tuple[int, int, str, str]]:
-    """The impls, traits and types of a file: where each begins and ends, its kind and its name."""
+    """Returns the impls, traits and types of a file: where each begins and ends, its kind and its name."""
     found = []
     for match in BLOCK.finditer(text):
         head = match.group(0)
@@ -162,7 +162,7 @@ def functions_of(source: Source) -> list[Function]:
 
 
 def ghosts_of(source: Source) -> list[Ghost]:
-    """The ghost members of traits and impls, and ghost fields."""
+    """Returns the ghost members of traits and impls, and ghost fields."""
     found = []
     for start, end, _, owner in blocks_of(source.text):
         body = source.text[start:end]
@@ -175,7 +175,7 @@ def ghosts_of(source: Source) -> list[Ghost]:
 
 
 def definitions_of(source: Source) -> dict[str, str]:
-    """The definitions of a file of specs/ by name: each has its lines, and the heads of the modules around it."""
+    """Returns the definitions in a file of specs/ by name: each has its lines, and the heads of the modules around it."""
     found: dict[str, list[str]] = collections.defaultdict(list)
     heads: list[tuple[int, str]] = []
     name, depth = "", 0
@@ -204,9 +204,9 @@ TOKEN = re.compile(r"\w+|\S")
 
 
 def stated_in(source: Source) -> str:
-    """The statements of a file of Rattle: everything but its comments, its imports of code, the bodies of its functions, and
-    private functions without a clause. So it has the visibility, the parameters, the bounds and the clauses of a function, the
-    derives and fields of types, ghost members, constants and exports."""
+    """Returns the statements of a file of Rattle: everything except its comments, its imports of code, the bodies of its
+    functions, and private functions without a clause. So it includes the visibility, the parameters, the bounds and the
+    clauses of a function, the derives and fields of types, ghost members, constants and exports."""
     text, at, kept = source.text, 0, list[str]()
     for match in FUNCTION.finditer(text):
         if match.start() < at:
@@ -222,7 +222,7 @@ def stated_in(source: Source) -> str:
 
 
 def types_of(source: Source) -> dict[str, str]:
-    """The types and constants of a file of Rattle by name."""
+    """Returns the types and constants of a file of Rattle by name."""
     found = {}
     for match in re.finditer(r"^(?:pub(?:\([a-z]+\))? )?(struct|enum|trait|type|const) (\w+)", source.text, re.M):
         brace = re.compile(r"[{;]").search(source.text, match.end())

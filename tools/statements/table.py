@@ -14,7 +14,7 @@ TABLE = "docs/PROMISES.md"
 
 
 class Row(NamedTuple):
-    """A row: its title, its words, and for each function that it cites the clauses that it names."""
+    """A row: its title, its text, and for each function that it cites the clauses that it names."""
 
     title: str
     words: str
@@ -22,7 +22,7 @@ class Row(NamedTuple):
 
 
 class Table:
-    """The rows of docs/PROMISES.md: which functions they name, and which of their names do not exist."""
+    """The rows of docs/PROMISES.md: the functions that they name, and the names that do not exist."""
 
     def __init__(self, repository: Repository):
         self.repository = repository
@@ -46,7 +46,7 @@ class Table:
                 self.rows.append(Row(title, words, self.read(carried)))
 
     def all_names(self) -> dict[str, set[str]]:
-        """What a row may name of each crate."""
+        """Returns what a row may name of each crate."""
         names: dict[str, set[str]] = collections.defaultdict(set)
         for function in self.repository.functions:
             names[function.crate] |= {function.name, function.owner.split(" ")[0], function.owner.split(" ")[-1]}
@@ -61,7 +61,7 @@ class Table:
         return names
 
     def read(self, cell: str) -> dict[tuple[str, str], set[str]]:
-        """Reads what carries a row: crates, functions and what else they have, and in brackets their clauses."""
+        """Reads the cell that names what supports a row: crates, functions and other names, with clauses in brackets."""
         crates: list[str] = []
         cites: dict[tuple[str, str], set[str]] = {}
         last, depth, functions = "", 0, list[Function]()
@@ -89,11 +89,11 @@ class Table:
         return cites
 
     def is_clause(self, name: str) -> bool:
-        """Whether a clause or a ghost member is called so."""
+        """Returns whether a clause or a ghost member has this name."""
         return name in self.labels
 
     def look_up(self, crates: list[str], name: str, cell: str) -> list[Function]:
-        """The functions that a name means. It has to be of these crates or of those below them."""
+        """Returns the functions with this name. They have to be in these crates or in those below them."""
         if not set(crates) <= set(self.repository.crates):
             return []
         words = re.findall(r"\w\w+", name)
@@ -108,7 +108,7 @@ class Table:
         return found
 
     def look_for(self, name: str, functions: list[Function], cell: str) -> None:
-        """A clause of these functions, or a field of what their clauses reach."""
+        """Returns a clause of these functions with this name, or a field of what their clauses reach."""
         labels = {label.split()[-1] for function in functions for label, _ in function.clauses}
         owners = {function.owner for function in functions if function.owner}
         ghosts = {ghost.name for ghost in self.repository.ghosts if ghost.owner in owners}
@@ -117,7 +117,7 @@ class Table:
             self.wrong.append(f"{TABLE}: a row names `{name}`, which is no clause of {paths[:80]}: {cell[:80]}")
 
     def fields(self, functions: list[Function]) -> set[str]:
-        """The definitions that the clauses of these functions reach, and their fields."""
+        """Returns the definitions that the clauses of these functions reach, and their fields."""
         texts = [(text, function.file) for function in functions for _, text in function.clauses]
         reached = self.repository.closure(texts)
         written = [self.repository.definitions[key] for key in reached if key in self.repository.definitions]

@@ -23,7 +23,7 @@ from ..topology import BadTopology
 from . import audit, bench, changes, checks, completion, looks, ranges, report, restored, stores
 from .base import AWAY, COUNT, REFUSED, WRONG_WORDS, Control, complain
 
-LEFT, INTERRUPTED = 141, 130  # as a shell has them of an end by SIGPIPE and SIGINT
+LEFT, INTERRUPTED = 141, 130  # as a shell reports an end by SIGPIPE and SIGINT
 
 COMMANDS = (*looks.COMMANDS, *changes.COMMANDS, *restored.COMMANDS, *checks.COMMANDS, *audit.COMMANDS, *bench.COMMANDS,
             *stores.COMMANDS, *report.COMMANDS, *completion.COMMANDS)
@@ -56,13 +56,13 @@ def parser() -> argparse.ArgumentParser:
 
 
 def is_within(path: str, folder: str) -> bool:
-    """Whether a path is this folder or is inside it."""
+    """Returns whether a path is this folder or is inside it."""
     return os.path.join(path, "").startswith(os.path.join(folder, ""))
 
 
 def default_state() -> str:
-    """Returns the folder for the numbers of a person's client."""
-    if given := os.environ.get("STATE_DIRECTORY"):  # by systemd
+    """Returns the folder for the order numbers of a person's client."""
+    if given := os.environ.get("STATE_DIRECTORY"):  # set by systemd
         return given.split(":")[0]
     return os.path.join(os.environ.get("XDG_STATE_HOME") or os.path.expanduser("~/.local/state"), "resetctl")
 
@@ -98,7 +98,7 @@ def main(arguments: list[str] | None = None) -> int:
     except ResetdError as fault:
         complain(str(fault))
         return REFUSED
-    except BrokenPipeError:  # the reader of the output has left
+    except BrokenPipeError:  # the reader of the output has gone
         os.dup2(os.open(os.devnull, os.O_WRONLY), sys.stdout.fileno())
         return LEFT
     except OSError as fault:

@@ -1,4 +1,4 @@
-"""The front's audit file, for people: who ordered what and when, and the result."""
+"""Formats the front's audit file for people: who ordered what, when, and with which result."""
 
 from __future__ import annotations
 
@@ -30,19 +30,19 @@ def print_entries(lines: Iterable[str], words: argparse.Namespace) -> None:
     for line in lines:
         entry = entry_of(line)
         if entry is None:
-            print(printable(f"? {line.strip()}"), flush=True)  # a line that was cut, or another program's
+            print(printable(f"? {line.strip()}"), flush=True)  # a line that was cut, or that another program wrote
         elif is_asked_for(entry, words):
             print(json.dumps(entry, separators=(",", ":")) if words.json else printable(told(entry)), flush=True)
 
 
 def printable(text: str) -> str:
-    """Returns the text without anything that would control a terminal, whatever a client has put into its line or its
+    """Returns the text without characters that would control a terminal, whatever a client has put into its line or its
     certificate."""
     return "".join(each if each.isprintable() else repr(each)[1:-1] for each in text)
 
 
 def entry_of(line: str) -> Entry | None:
-    """Returns the members of a line; None if a front did not write it."""
+    """Returns the members of a line, or None if no front wrote it."""
     try:
         entry = json.loads(line)
     except (ValueError, RecursionError):
@@ -51,7 +51,7 @@ def entry_of(line: str) -> Entry | None:
 
 
 def is_asked_for(entry: Entry, words: argparse.Namespace) -> bool:
-    """Whether an entry matches the arguments."""
+    """Returns whether an entry matches the arguments."""
     request = line_of(entry)
     return ((not words.reset or is_reset(entry))
             and (words.node is None or words.node in (request.get("node"), request.get("a"), request.get("b")))
@@ -61,26 +61,26 @@ def is_asked_for(entry: Entry, words: argparse.Namespace) -> bool:
 
 
 def is_reset(entry: Entry) -> bool:
-    """Whether an entry is of a reset that was carried out, or may have been."""
+    """Returns whether an entry is a reset that was carried out, or may have been."""
     answer = entry.get("answer")
     return line_of(entry).get("op") == "reset" and (
         entry["event"] == "unanswered" or isinstance(answer, dict) and "kind" in answer)
 
 
 def line_of(entry: Entry) -> Entry:
-    """Returns the request of an entry; empty if there was none."""
+    """Returns the request of an entry, or an empty text if it has none."""
     line = entry.get("line")
     return line if isinstance(line, dict) else {}
 
 
 def told(entry: Entry) -> str:
-    """Formats an entry: when, who, what, and the result."""
+    """Formats an entry: the time, the actor, the order, and the result."""
     parts = [str(entry["time"]), who(entry.get("who")), what(entry), came_of(entry)]
     return "  ".join(part for part in parts if part)
 
 
 def who(found: object) -> str:
-    """Formats the actor: the principal, or the user or the certificate, and its address."""
+    """Formats the actor: the principal, or the user or the certificate, and the address."""
     if not isinstance(found, dict):
         return found if isinstance(found, str) else ""
     name = found.get("certificate") or found.get("user") or (f"uid {found['uid']}" if "uid" in found else "")

@@ -1,4 +1,4 @@
-"""Common parts of all commands: their arguments, the port, one client's orders in a folder, and messages to a person."""
+"""The common parts of all commands: their arguments, the port, the orders of one client in a folder, and messages for a person."""
 
 from __future__ import annotations
 
@@ -21,8 +21,8 @@ from ..view import View
 
 DONE, REFUSED, WRONG_WORDS, AWAY, COUNT = 0, 1, 2, 3, 4
 PATIENCE, SECONDS = 30.0, 20.0
-LOOK_SECONDS = 2.0  # how long a command that only looks waits, in all and for one answer
-SILENCE_SECONDS = 1.0  # after this long without an answer a message names the pending request
+LOOK_SECONDS = 2.0  # how long a read-only command waits, in all and for one answer
+SILENCE_SECONDS = 1.0  # after this many seconds without an answer, a message names the pending request
 Words = argparse.Namespace
 T = TypeVar("T")
 
@@ -37,12 +37,12 @@ def print_json(value: object) -> None:
 
 
 def no_words(_: argparse.ArgumentParser) -> None:
-    """A command without arguments."""
+    """Adds no arguments: for a command that has none."""
 
 
 @dataclass(frozen=True)
 class Command:
-    """A row of the table of commands. `is_look`: the command only reads, and so waits for at most 2 s."""
+    """A row of the table of commands. `is_look`: the command only reads, so it waits at most 2 s."""
 
     name: str
     about: str
@@ -69,7 +69,7 @@ class Control:
             print(text, flush=True)
 
     def patient(self, call: Callable[[], T]) -> T:
-        """Repeats a call until it is answered or the time is over; reports at once that it is waiting."""
+        """Repeats a call until it is answered or the time is over. Prints a message immediately when it starts to wait."""
         with told_after(SILENCE_SECONDS, f"waits for an answer of {self.words.address}") as timer:
             def tell(away: Away) -> None:
                 timer.cancel()
@@ -80,12 +80,12 @@ class Control:
         return self.patient(self.port.show)
 
     def orders(self) -> Orders:
-        """Returns the client's orders. They recover its number if another person has ordered as the same client."""
+        """Returns the client's orders. They recover the client's number if another person has ordered as the same client."""
         folder = os.path.join(self.folder, f"client-{self.words.client}")
         return Orders(self.port, self.words.client, folder, recovers=True, held_seconds=10.0, told=complain)
 
     def settle(self, book: Orders) -> None:
-        """Sends orders of an earlier call again that have no answer yet, and reports their results."""
+        """Sends the orders of an earlier call that have no answer again, and prints their results."""
         if not book.unanswered:
             return
         left = book.unanswered
@@ -98,14 +98,15 @@ class Control:
             self.patient(book.recover)
 
     def carry_out(self, book: Orders, op: str, **members: int) -> Reply:
-        """Carries out one order. A reply with an older step belongs to another order: then the client's number is wrong."""
+        """Carries out one order. A reply with an older step belongs to another order; that means that the client's number is
+        wrong."""
         self._asked = {"op": op, **members}
         accepted = self.show().accepted
         return self.patient(lambda: book.order(op, above=accepted, **members))
 
     def carry_out_all(self, book: Orders, orders: list[Order], above: int) -> Iterator[Reply]:
-        """Returns the replies to orders that are sent together, all with steps above this one. Raises the first answer that is
-        not a reply."""
+        """Returns the replies to orders that are sent together. All their steps must be above `above`. Raises the first answer
+        that is not a reply."""
         for order, outcome in zip(orders, self.patient(lambda: book.order_all(orders, above=above))):
             if isinstance(outcome, NotTaken):
                 self._asked = order
@@ -113,7 +114,7 @@ class Control:
             yield outcome
 
     def why(self, fault: NotTaken | Away) -> str:
-        """Returns the message for a refusal, a fault or a silence: the cause, or what to do."""
+        """Returns the message for a refusal, a fault or a missing answer: the cause, or what to do."""
         if isinstance(fault, NotNow):
             return f"the server answers {explained(fault, {})}"
         if isinstance(fault, Away):
@@ -129,7 +130,7 @@ class Control:
 
 @contextmanager
 def told_after(seconds: float, text: str) -> Iterator[threading.Timer]:
-    """Prints a text on standard error if the body takes longer than this many seconds and doesn't cancel the timer."""
+    """Prints a text on standard error if the body takes longer than this many seconds, unless the body cancels the timer."""
     timer = threading.Timer(seconds, complain, [text])
     timer.daemon = True
     timer.start()
@@ -148,5 +149,5 @@ def told_order(order: Mapping[str, Any]) -> str:
 
 
 def told_reply(reply: Reply) -> str:
-    """Formats a reply as a line; without its step if the reply was lost with a connection."""
+    """Formats a reply as a line, without its step if the reply was lost with a connection."""
     return f"{reply.kind} {reply.step}" if reply.step else reply.kind

@@ -1,4 +1,4 @@
-"""Measures a server: its orders a second, and the time of a wave."""
+"""Measures a server: the number of orders in a second, and the duration of a wave."""
 
 from __future__ import annotations
 
@@ -20,8 +20,8 @@ WAVE_SECONDS = 60.0  # after which an unfinished wave is reported
 
 
 def bench(control: Control) -> int:
-    """Adds and removes a node repeatedly, and asks for resets. Refused if there are services, since all would begin again. An
-    interrupted run may leave a node without links."""
+    """Repeatedly adds and removes a node, and asks for resets. Refuses to run if there are services, because all of them would
+    begin again. An interrupted run may leave a node without links."""
     words = control.words
     view = control.show()
     if (served := [node.node for node in view.nodes if node.confirmed]) and not words.with_services:
@@ -40,7 +40,8 @@ def bench(control: Control) -> int:
 
 
 def measured_orders(control: Control, book: Orders, view: View) -> dict[str, float]:
-    """Measures orders a second, one after the other and together; none if all nodes exist."""
+    """Measures the order rate: orders sent one at a time, and orders sent together. Returns nothing if all nodes exist, because
+    the orders add and remove a node that does not."""
     node = next((node for node in reversed(NODES) if view.node(node) is None), None)
     if node is None:
         complain(f"all {len(NODES)} nodes are there: no orders are measured, since they would add and remove one")
@@ -55,7 +56,7 @@ def measured_orders(control: Control, book: Orders, view: View) -> dict[str, flo
 
 
 def measured_waves(control: Control, book: Orders, view: View) -> dict[str, float]:
-    """Measures the milliseconds from a reset to the view in which the whole of the largest group is ready again."""
+    """Measures the milliseconds from a reset to the view in which the whole largest group is ready again."""
     groups = [view.connected(node.node) for node in view.nodes]
     if not groups or not control.words.waves:
         return {}
@@ -66,7 +67,7 @@ def measured_waves(control: Control, book: Orders, view: View) -> dict[str, floa
 
 
 def wave(control: Control, book: Orders, node: int) -> None:
-    """Orders one reset, and waits until all nodes that it reaches are ready at a new epoch. Raises Away after a minute."""
+    """Orders one reset, and waits until all nodes that it reaches are ready in a new epoch. Raises Away after a minute."""
     before = {row.node: row.epoch for row in control.show().connected(node)}
     carried_out(control, book, [{"op": "reset", "node": node}])
     until = time.monotonic() + WAVE_SECONDS

@@ -1,4 +1,4 @@
-"""Commands that give orders, each once."""
+"""Commands that give orders. Each order is carried out once."""
 
 from __future__ import annotations
 
@@ -40,14 +40,14 @@ def resend(control: Control) -> int:
 
 
 def close(control: Control) -> int:
-    """Shuts the server down, even if it answers Stopped to everything else."""
+    """Shuts the server down, even if it answers Stopped to every other request."""
     control.port.close()
     control.tell("closed")
     return DONE
 
 
 def count(control: Control) -> int:
-    """Finds the number of the client's last order, and writes it down."""
+    """Finds the number of the client's last order, and stores it in the client's folder."""
     words = control.words
     with control.orders() as book:
         for each in book.unanswered:
@@ -66,7 +66,7 @@ def topology_of(control: Control) -> Network:
 
 
 def wanted(control: Control, view: View) -> list[Order]:
-    """Returns the orders that make the network match the topology file. Raises BadTopology."""
+    """Returns the orders that change the network into that of the topology file. Raises BadTopology."""
     return plan(Network.of(view), topology_of(control))
 
 
@@ -82,7 +82,7 @@ def diff(control: Control) -> int:
 
 
 def check_topology(control: Control) -> int:
-    """Prints the size of a topology file's network, without a store and without a server."""
+    """Prints the size of the network in a topology file, without a store or a server."""
     network = topology_of(control)
     groups = len(set(network.groups.values()))
     print(f"legal: {len(network.groups)} nodes in {groups} groups, {len(network.links)} links")
@@ -90,8 +90,8 @@ def check_topology(control: Control) -> int:
 
 
 def apply(control: Control) -> int:
-    """Carries out the orders, each once; all but the first are sent together. After an interruption the same command
-    continues."""
+    """Carries out the orders of `diff`, each once; all except the first are sent together. After an interruption, the same
+    command continues."""
     with control.orders() as book:
         control.settle(book)
         view = control.show()

@@ -41,7 +41,7 @@ def health(control: Control) -> int:
 
 
 def write_metrics(control: Control) -> int:
-    """Writes the metrics to a file, as a whole, or prints them."""
+    """Writes the metrics into a file, which is replaced as a whole, or prints them."""
     view, is_stopped, differs = None, False, None
     comparison = Comparison(control.words.store)
     try:

@@ -55,16 +55,16 @@ _resetctl "$@"
 
 
 class Option(NamedTuple):
-    """A word of a command: an option with its names, or one by its place, which has none."""
+    """An argument of a command: an option with its names, or a positional argument, which has no names."""
 
     names: tuple[str, ...]
-    value: str  # the name of its value, empty if it has none
+    value: str  # the name of its value, empty if it takes none
     about: str
     choices: tuple[str, ...]
 
 
 def options(parser: argparse.ArgumentParser) -> Iterator[Option]:
-    """Returns a parser's options, without its commands."""
+    """Returns the options of a parser, without its commands."""
     for action in parser._actions:
         if isinstance(action, argparse._SubParsersAction):
             continue
@@ -73,7 +73,7 @@ def options(parser: argparse.ArgumentParser) -> Iterator[Option]:
 
 
 def commands(top: argparse.ArgumentParser) -> Iterator[tuple[str, str, argparse.ArgumentParser]]:
-    """Each command's name, its purpose, and its parser."""
+    """Yields the name of each command, its purpose, and its parser."""
     for action in top._actions:
         if isinstance(action, argparse._SubParsersAction):
             abouts = {str(each.dest): str(each.help) for each in action._choices_actions}
@@ -86,7 +86,7 @@ def names_of(found: list[Option]) -> list[str]:
 
 
 def bash(top: argparse.ArgumentParser) -> str:
-    """The script for bash. After an option with a value, and for a command with a file, bash completes files."""
+    """Returns the script for bash. After an option with a value, and for a command with a file, bash completes file names."""
     every, taking, cases = list(options(top)), set[str](), list[str]()
     for name, _, parser in commands(top):
         found = list(options(parser))
@@ -100,7 +100,7 @@ def bash(top: argparse.ArgumentParser) -> str:
 
 
 def zsh(top: argparse.ArgumentParser) -> str:
-    """The script for zsh."""
+    """Returns the script for zsh."""
     names, cases = list[str](), list[str]()
     for name, about, parser in commands(top):
         names.append(f"        {quoted(f'{name}:{about}')}")
@@ -110,7 +110,7 @@ def zsh(top: argparse.ArgumentParser) -> str:
 
 
 def spec(option: Option) -> str:
-    """An option as zsh's `_arguments` takes it."""
+    """Formats an option for zsh's `_arguments`."""
     about = option.about.replace("\\", "\\\\").replace("[", "\\[").replace("]", "\\]").replace(":", "\\:")
     values = f"({' '.join(option.choices)})" if option.choices else "_files" if is_file(option) else " "
     if not option.names:

@@ -1,4 +1,4 @@
-"""Commands that look at the nodes and links."""
+"""Commands that show the nodes and links."""
 
 from __future__ import annotations
 
@@ -18,12 +18,12 @@ from . import ranges
 from .base import DONE, Command, Control, add_json, print_json
 
 MARKS = {"ready": "·", "abort": "A", "converge": "C"}
-FRONT_SECONDS = 30.0  # between two looks if a front reports changes
+FRONT_SECONDS = 30.0  # between two looks, if a front reports changes
 LEGEND = "· through  o not confirmed yet  A abort  C converge; epoch/confirmed"
 
 
 def show(control: Control) -> int:
-    """Prints the nodes and links as tables, or as the line that the port answers, with --json."""
+    """Prints the nodes and links as tables or, with --json, the port's answer line."""
     view = control.show()
     if control.words.json:
         print_json(view.members())
@@ -50,7 +50,7 @@ def table(view: View) -> str:
 
 
 def watch(control: Control) -> int:
-    """Draws the mode of each node, in place, as it changes; if the output is not a terminal, it writes a line with the time for
+    """Draws the mode of each node, in place, as it changes. If the output is not a terminal, writes a line with the time for
     each change. A front reports changes; a server's port is queried repeatedly."""
     until = math.inf if control.words.for_seconds is None else time.monotonic() + control.words.for_seconds
     is_terminal = sys.stdout.isatty()
@@ -68,8 +68,8 @@ def watch(control: Control) -> int:
 
 
 def looked(control: Control) -> list[str]:
-    """Returns two lines: a mark for each node's mode, with the count of steps; and the nodes that are not through. Or one line
-    with the reason why there is no view."""
+    """Returns two lines: a mark for each node's mode, with the number of steps; and the nodes that are not through. If there is
+    no view, returns one line with the reason."""
     try:
         view = control.port.show()
     except NotNow as not_now:
@@ -82,7 +82,7 @@ def looked(control: Control) -> list[str]:
 
 
 def draw(picture: list[str], before: list[str] | None) -> None:
-    """Draws over the previous picture; a line that the terminal would wrap can't be drawn over."""
+    """Draws over the previous picture, unless a line is so long that the terminal would wrap it."""
     width = shutil.get_terminal_size().columns - 1
     up = f"\x1b[{len(before) + 1}A\x1b[J" if before is not None else ""
     print(up + "\n".join(line[:width] for line in [picture[0], LEGEND, *picture[1:]]), flush=True)

@@ -1,4 +1,4 @@
-"""The numbers among a command's arguments, each checked against its range."""
+"""Parsers for the numbers among a command's arguments, each of which checks its range."""
 
 from __future__ import annotations
 
@@ -9,12 +9,12 @@ from ..access import Account, account_named
 from ..errors import BadWords
 from ..limits import RANGES, check_number
 
-MOST_SECONDS = 1_000_000_000.0  # some thirty years
+MOST_SECONDS = 1_000_000_000.0  # about thirty years
 MOST_FENCE_COUNT = (1 << 63) - 1
 
 
 def span(text: str) -> float:
-    """Seconds, at least 0."""
+    """Parses a number of seconds, at least 0."""
     try:
         seconds = float(text)
     except ValueError:
@@ -25,7 +25,7 @@ def span(text: str) -> float:
 
 
 def some_seconds(text: str) -> float:
-    """Seconds, more than 0."""
+    """Parses a number of seconds, more than 0."""
     if (seconds := span(text)) == 0:
         raise argparse.ArgumentTypeError("it must be more than 0 seconds")
     return seconds
@@ -44,35 +44,35 @@ def of(name: str) -> Callable[[str], int]:
 
 
 def count(text: str) -> int:
-    """A count of at least one."""
+    """Parses a count of at least one."""
     if not is_number(text, 1 << 64) or int(text) == 0:
         raise argparse.ArgumentTypeError(f"{text!r} is not a count")
     return int(text)
 
 
 def fence_count(text: str) -> int:
-    """The count of a fence, as a database keeps it."""
+    """Parses the count of a fence, as a database stores it."""
     if not is_number(text, MOST_FENCE_COUNT) or int(text) > MOST_FENCE_COUNT:
         raise argparse.ArgumentTypeError(f"{text!r} is not a fence count")
     return int(text)
 
 
 def amount(text: str) -> int:
-    """A count, possibly zero."""
+    """Parses a count of at least zero."""
     if not is_number(text, 1_000_000):
         raise argparse.ArgumentTypeError(f"{text!r} is not a count")
     return int(text)
 
 
 def some_orders(text: str) -> int:
-    """A count of at least two."""
+    """Parses a count of at least two."""
     if (value := amount(text)) < 2:
         raise argparse.ArgumentTypeError(f"{text!r} are too few")
     return value
 
 
 def is_number(text: str, most: int) -> bool:
-    """Whether a text is digits, at most as many as this number has."""
+    """Returns whether a text consists of digits, not more than the greatest number has."""
     return text.isascii() and text.isdigit() and len(text) <= len(str(most))
 
 

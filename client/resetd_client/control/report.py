@@ -1,4 +1,4 @@
-"""A file for an investigation: the results of the commands for a person on call, and the server's environment."""
+"""Makes a file for an investigation: the output of the commands that a person on call would use, and the server's environment."""
 
 from __future__ import annotations
 
@@ -22,13 +22,13 @@ from ..store_file import NoStore, Restless, open_store, read_half, read_store, r
 from .base import DONE, Command, Control
 from .stores import looked_at, store_rows, told_start
 
-MOST_LINES = "5000"  # of the journal
+MOST_LINES = "5000"  # of the systemd journal
 PACKAGE = os.path.dirname(os.path.dirname(os.path.abspath(__file__)))
 
 
 @dataclass(frozen=True)
 class Part:
-    """A file of the report: its name, its description, and how to get its content."""
+    """A part of the report: its file name, its description, and a function that returns its content."""
 
     name: str
     about: str
@@ -55,7 +55,7 @@ def parts(control: Control) -> Iterator[Part]:
 
 
 def why_text(control: Control) -> str:
-    port = next((str(each) for each in addresses_of(control.words.address) if isinstance(each, Tcp)), SERVER)  # not a front's
+    port = next((str(each) for each in addresses_of(control.words.address) if isinstance(each, Tcp)), SERVER)  # because it is not a front's
     findings = list(looked_at(control.words.store, None, port, control.seconds))
     return "".join(f"{each.about:8s} {each.text}\n" for each in findings) + told_start(findings) + "\n"
 
@@ -77,7 +77,7 @@ def steps_text(path: str, is_before: bool) -> str:
 
 
 def memories(control: Control) -> Iterator[tuple[str, str]]:
-    """The files of health's memory: the timer's and this person's."""
+    """Returns the files in which health keeps its state: the timer's and this person's."""
     address = os.path.basename(control.folder)
     for whose, folder in (("timer", os.path.join(control.words.memory, address)), ("person", control.folder)):
         for name in ("health.json", "signals.json"):
@@ -113,7 +113,7 @@ def process_text(path: str) -> str:
 
 
 def found(part: Part) -> bytes:
-    """Returns the content of a part; if there is none, the reason."""
+    """Returns the content of a part or, if there is none, the reason."""
     try:
         content = part.find()
     except (Away, NotTaken, NoStore, Restless, OSError, ValueError) as fault:
@@ -122,7 +122,7 @@ def found(part: Part) -> bytes:
 
 
 def report(control: Control) -> int:
-    """Writes the report into a new file, readable by its owner only, and prints its contents."""
+    """Writes the report into a new file that only its owner can read, and prints its contents."""
     out = control.words.out
     descriptor = os.open(out, os.O_WRONLY | os.O_CREAT | os.O_EXCL | os.O_CLOEXEC, 0o600)
     try:

@@ -1,4 +1,4 @@
-"""The command after a restore."""
+"""The command to run after a store was restored."""
 
 from __future__ import annotations
 

@@ -1,4 +1,4 @@
-"""Commands that read a store's file, also while it is served."""
+"""Commands that read a store's file, even while it is served."""
 
 from __future__ import annotations
 
@@ -21,7 +21,7 @@ from .base import DONE, REFUSED, WRONG_WORDS, Command, Control, add_json, compla
 
 
 def why(control: Control) -> int:
-    """Prints the causes of a fault at the start, for a store's file and an address."""
+    """Prints the causes of a fault at a server's start, for a store's file and an address."""
     words = control.words
     findings = []
     for finding in looked_at(words.file, words.user, words.at, control.seconds, words.audit):
@@ -38,14 +38,14 @@ def why(control: Control) -> int:
 
 
 def looked_at(path: str, user: Account | None, address: str | None, seconds: float, audit: str = AUDIT) -> Iterator[Finding]:
-    """Yields the findings about a store's file, and about the server at an address, if one is given."""
+    """Yields the findings about a store's file and, if an address is given, about the server there."""
     yield from of_file(path, user)
     if address:
         yield from of_address(address, seconds, path, audit)
 
 
 def told_start(findings: list[Finding]) -> str:
-    """Returns the fault with which a start of the server would end now, and the one that a running server will meet; empty if
+    """Returns the fault with which a start of the server would end now, and the fault that a running server will meet; empty if
     there is none."""
     faults = sorted((finding for finding in findings if finding.fault), key=lambda finding: finding.fault != "Usage")
     told = [f"a start now would end with {finding.fault}: {finding.about}: {finding.text}" for finding in faults[:1]]
@@ -54,7 +54,7 @@ def told_start(findings: list[Finding]) -> str:
 
 
 def steps(control: Control) -> int:
-    """Prints the steps of a store, each with the batch in which it was settled."""
+    """Prints the steps of a store, each with the batch that settled it."""
     store = read_store(control.words.file, control.words.before)
     if control.words.json:
         print_json(store_members(store))
@@ -85,7 +85,7 @@ def store_rows(store: Store) -> Iterator[str]:
 
 
 def backup(control: Control) -> int:
-    """Copies a store that may be served meanwhile. If the copy's name is a link, the copy is written to its target."""
+    """Copies a store, which may be served meanwhile. If the name of the copy is a link, the copy is written to its target."""
     words = control.words
     out = os.path.realpath(words.out)
     descriptor = open_store(words.file)
@@ -102,7 +102,7 @@ def backup(control: Control) -> int:
 
 
 def why_not(out: str, source: os.stat_result) -> str:
-    """Returns why a copy may not replace this file: only an absent or empty file or another copy is replaced."""
+    """Returns the reason why a copy may not replace this file. Only an absent or empty file, or another copy, is replaced."""
     try:
         descriptor = open_store(out)
     except FileNotFoundError:
@@ -121,8 +121,8 @@ def why_not(out: str, source: os.stat_result) -> str:
 
 
 def put(path: str, data: bytes, like: os.stat_result) -> None:
-    """Replaces a file as a whole, synced, with the mode and, if this user may, the owner of another file. If it fails, no new
-    file is left."""
+    """Replaces a file as a whole, and syncs it. The new file has the mode and, if this user may set it, the owner of the file
+    `like`. If the call fails, it leaves no new file."""
     descriptor, new = tempfile.mkstemp(prefix=f".{os.path.basename(path)}-", dir=os.path.dirname(path))
     try:
         with open(descriptor, "wb") as file:

@@ -1,4 +1,4 @@
--- How the server reacts to a failure to accept, after accept(2) of Linux.
+-- The server's reaction when accepting a connection fails, by the error numbers of accept(2) of Linux.
 use Rattle.std.specs.Prelude.{ℕ, ℤ, pos, int_lt, unsigned_abs, List, [], ◌∷◌, Option, Some, None, if◌then◌else◌, ◌==◌}
 use Rattle.std.specs.declared.io.ErrorKind.{ErrorKind}
 use Rattle.std.specs.declared.io.ErrorKind.TheVariants as kind
@@ -19,7 +19,7 @@ failure_in (row ∷ rows) code = if code == row.0 then row.1 else failure_in row
 abbrev pub failure_of_number : ℤ → Failure
 failure_of_number code = if int_lt code (pos 0) then OfListener else failure_in numbered (unsigned_abs code)
 
--- the reaction to an error without a number
+-- the reaction to an error that has no number
 abbrev pub failure_of_kind : ErrorKind → Failure
 failure_of_kind kind.ConnectionAborted = OfClient
 failure_of_kind kind.ConnectionReset = OfClient

@@ -1,4 +1,4 @@
--- The work of a server: one connection after the other, each served as a stream of lines.
+-- The work of a server: it serves one connection after another, each as a stream of lines.
 use Rattle.std.specs.Prelude.{◌≡◌, ℕ, ◌*◌, List, [], ◌∷◌, ◌++◌, map, Bool, true, false, Result, Ok, Err}
 use Rattle.coord_admin.specs.declared.request.Request.{Request}
 use Rattle.coord_admin.specs.declared.answer.Answer.{Answer}
@@ -8,17 +8,17 @@ use Rattle.coord_admin.specs.declared.session.Ended.TheVariants.{Input, Closed, 
 use Rattle.coord_admin.specs.InstanceLimit.{HasKept, HasKeptFewer}
 use Rattle.coord_admin.specs.Stream.{Served}
 
--- the bytes read from a connection and the bytes written to it
+-- the bytes that were read from a connection, and the bytes that were written to it
 pub record Talk : Type 0 where
   pub bytes_read : List ℕ
   pub bytes_written : List ℕ
 
--- a served connection: the bytes read from it and written to it, and how it ended
+-- a served connection: the bytes read and written, and how it ended
 pub record Connection : Type 0 where
   pub talk : Talk
   pub ended : Result Ended ServeFault
 
--- the bytes read and written over each
+-- the bytes read and written over each of these connections
 abbrev pub talks : List Connection → List Talk
 talks cs = map (λ c. c.talk) cs
 
@@ -29,24 +29,24 @@ has_closed (Ok Input) = false
 has_closed (Ok Cut) = false
 has_closed (Err f) = false
 
--- `keeps d n`: the desk d may keep n steps. Its instance has `most` steps
+-- `keeps d n`: the desk d may keep n steps. `most`: the number of steps of its instance
 module _ {D : Type 0} (answers : D → Request → Answer → D → Type 0) (keeps : D → ℕ → Type 0) (most : ℕ) where
-  -- a connection began while the desk kept fewer steps than its instance has, was served, and was cut only once the desk kept twice as
-  -- many
+  -- A connection began while the desk kept fewer steps than `most`, and was served. It was cut only if the
+  -- desk kept at least twice as many.
   abbrev pub IsServed : D → Connection → D → Type 0
   IsServed d c e = HasKeptFewer keeps d most × Served answers d c.talk.bytes_read c.talk.bytes_written c.ended e × (c.ended ≡ Ok Cut → HasKept keeps e (2 * most))
 
-  -- connections one after the other, none of which closed the desk
+  -- These connections were served one after another, and none of them closed the desk.
   abbrev pub AllServed : D → List Connection → D → Type 0
   AllServed d [] e = e ≡ d
   AllServed d (c ∷ cs) e = (f : D) × IsServed d c f × (has_closed c.ended ≡ false) × AllServed f cs e
 
-  -- `talked v talks w`: the callers were v, had these conversations, and are w afterwards
+  -- `talked v talks w`: the callers were in the state v, had these talks, and then are in the state w
   module _ {V : Type 0} (talked : V → List Talk → V → Type 0) where
-    -- the connections so far, the last of which closed the desk
+    -- Connections were served up to one that closed the desk.
     abbrev pub ServedToClose : V → D → V → D → Type 0
     ServedToClose v d w e = (cs : List Connection) × (last : Connection) × (f : D) × talked v (talks (cs ++ last ∷ [])) w × AllServed d cs f × IsServed f last e × (has_closed last.ended ≡ true)
 
-    -- the connections so far, none of which closed the desk
+    -- Connections were served, and none of them closed the desk.
     abbrev pub ServedOpen : V → D → V → D → Type 0
     ServedOpen v d w e = (cs : List Connection) × talked v (talks cs) w × AllServed d cs e

@@ -1,4 +1,4 @@
--- How long an instance of a desk serves, measured by the steps that it keeps.
+-- The age of a desk's instance, which depends on the number of steps that the desk keeps.
 use Rattle.std.specs.Prelude.{ℕ, ◌*◌, ◌<◌, ◌≤◌, Bool, true, false, Result, Ok, Err}
 use Rattle.coord_admin.specs.declared.fault.ServeFault.{ServeFault}
 use Rattle.coord_admin.specs.declared.instance_limit.Age.{Age}
@@ -6,13 +6,14 @@ use Rattle.coord_admin.specs.declared.instance_limit.Age.TheVariants.{Young, Old
 use Rattle.coord_admin.specs.declared.session.Ended.{Ended}
 use Rattle.coord_admin.specs.declared.session.Ended.TheVariants.{Closed, Cut, Input}
 
--- an instance of this many steps is old once it has kept that many, and over once it has kept twice as many
+-- An instance with this limit is old once its desk keeps that many steps, and over once it keeps twice as
+-- many.
 abbrev pub IsAge : ℕ → ℕ → Age → Type 0
 IsAge most kept Young = kept < most
 IsAge most kept Old = (most ≤ kept) × (kept < 2 * most)
 IsAge most kept Over = 2 * most ≤ kept
 
--- `keeps d n`: n is a possible number of steps that the desk d has kept
+-- `keeps d n`: the desk d may keep n steps
 module _ {D : Type 0} (keeps : D → ℕ → Type 0) where
   abbrev pub HasKept : D → ℕ → Type 0
   HasKept d most = (kept : ℕ) × keeps d kept × (most ≤ kept)
@@ -20,7 +21,7 @@ module _ {D : Type 0} (keeps : D → ℕ → Type 0) where
   abbrev pub HasKeptFewer : D → ℕ → Type 0
   HasKeptFewer d most = (kept : ℕ) × keeps d kept × (kept < most)
 
--- whether a client gets time to read its last answer: the server closed or cut the connection
+-- whether the server closed or cut the connection, so that the client gets time to read its last answer
 abbrev pub ends_here : Result Ended ServeFault → Bool
 ends_here (Ok Input) = false
 ends_here (Ok Closed) = true

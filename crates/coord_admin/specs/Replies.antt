@@ -1,4 +1,4 @@
--- The replies: each is a line of JSON without spaces, with its members in alphabetical order.
+-- The reply lines. Each is JSON without spaces, with its members in alphabetical order.
 use Rattle.std.specs.Prelude.{ℕ, List, [], ◌∷◌, ◌++◌, map, codes, Option, Some, None, Result, Ok, Err, String, string_bytes}
 use Rattle.std.specs.declared.alloc.Global.{Global}
 use Rattle.std.specs.List.{flat_map}
@@ -19,7 +19,7 @@ use Rattle.coord_admin.specs.declared.writing.ReplyLine.TheVariants as ready
 use Rattle.coord_admin.specs.Faults.{line_fault_name}
 use Rattle.coord_view.specs.Shown as shown
 
--- the answer for a desk's result; if memory ran out, that is the line's fault
+-- the answer for a refusal by the desk; if the desk ran out of memory, it is a fault of the line
 abbrev pub refused : Refusal → Answer
 refused refusal.OutOfMemory = Faulted OutOfMemory
 refused r = Refused r
@@ -43,7 +43,7 @@ abbrev pub parent_number : Option ℕ → ℕ
 parent_number None = 0
 parent_number (Some u) = u
 
--- id, group, mode, parent or 0, epoch, confirmed
+-- the row of a node: id, group, mode, parent (0 for none), epoch, confirmed
 abbrev pub node_row : NodeView → Data
 node_row v = array (items_of (num v.node ∷ num v.group ∷ string (mode_name v.mode) ∷ num (parent_number v.parent) ∷ num v.epoch ∷ num v.confirmed ∷ []))
 
@@ -72,12 +72,12 @@ reply_line a = compact_text (reply a) ++ codes "\n"
 abbrev pub reply_lines : List Answer → List ℕ
 reply_lines answers = flat_map reply_line answers
 
--- the bytes of a line that is ready to be written
+-- the bytes of a finished reply line
 abbrev pub line_bytes : ReplyLine → List ℕ
 line_bytes (ready.Fixed text) = text.now
 line_bytes (ready.Made text) = string_bytes text
 
--- the line, or, if it could not be made, the line for out of memory
+-- the bytes of a line or, if it could not be made, of the line for out of memory
 abbrev pub made_bytes : {E : Type 0} → Result (String Global) E → List ℕ
 made_bytes (Ok text) = string_bytes text
 made_bytes (Err e) = reply_line (Faulted OutOfMemory)

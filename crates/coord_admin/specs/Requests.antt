@@ -1,4 +1,4 @@
--- The request of a line.
+-- The request that a line makes.
 use Rattle.std.specs.Prelude.{ℕ, suc, ◌==◌, ◌&&◌, nat_le, if◌then◌else◌, List, [], ◌∷◌, length, codes, Option, Some, None, option_and_then, Result, Ok, Err}
 use Rattle.std.specs.Str.{bytes_eq, is_utf8}
 use Rattle.serde_json.specs.Data.{Data, Members}
@@ -31,11 +31,11 @@ named (row ∷ rows) name = if bytes_eq name row.0 then Some row.1 else named ro
 abbrev pub op_named : Name → Option Op
 op_named name = named ops name
 
--- an order's client and number, before the members of its command
+-- the members of an order: its client, its number, and the members of its command
 abbrev pub of_order : List Name → List Name
 of_order names = codes "client" ∷ codes "number" ∷ names
 
--- the members of an op's requests, besides `op`
+-- the members of a request with this op, besides `op`
 abbrev pub members_of : Op → List Name
 members_of Add = of_order (codes "node" ∷ codes "group" ∷ [])
 members_of Remove = of_order (codes "node" ∷ [])
@@ -47,26 +47,26 @@ members_of Show = []
 members_of Resend = []
 members_of Close = []
 
--- the value at a name, if it is a whole number: any u64
+-- the whole number at a name; None unless the member is a u64
 abbrev pub number_at : Name → Data → Option ℕ
 number_at name d = option_and_then as_u64 (option_and_then as_number (get name d))
 
 abbrev pub from_1_to : ℕ → ℕ → Option ℕ
 from_1_to most n = if nat_le 1 n && nat_le n most then Some n else None
 
--- the whole number at a name, if it is between 1 and the maximum
+-- the whole number at a name; None unless it is from 1 to `most`
 abbrev pub id_at : Name → ℕ → Data → Option ℕ
 id_at name most d = option_and_then (from_1_to most) (number_at name d)
 
 abbrev pub node_at : Name → Data → Option ℕ
 node_at name d = id_at name MAX_NODES d
 
--- a function of two optional values, if both are present
+-- a function of two optional values; None unless both are present
 abbrev pub with_both : {A B C : Type 0} → (A → B → C) → Option A → Option B → Option C
 with_both f (Some a) (Some b) = Some (f a b)
 with_both f a b = None
 
--- the command of an order
+-- the command of an order; None if the op is not an order, or if a member is missing or invalid
 abbrev pub command_of : Op → Data → Option Command
 command_of Add d = with_both (λ u g. command.Add u g) (node_at (codes "node") d) (id_at (codes "group") MAX_GROUPS d)
 command_of Remove d = option_and_then (λ u. Some (command.Remove u)) (node_at (codes "node") d)
@@ -78,12 +78,13 @@ command_of Show d = None
 command_of Resend d = None
 command_of Close d = None
 
--- an order, if its client, its number and its command are there
+-- the order; None unless its client, its number and its command are all present
 abbrev pub order_of : Option ℕ → Option ℕ → Option Command → Option Request
 order_of (Some c) (Some n) (Some x) = Some (request.Order c n x)
 order_of c n x = None
 
--- the request that the members of an op make; None if one is missing, is not a whole number, or is out of range
+-- the request that these members make; None if one of them is missing, is not a whole number, or is out of
+-- range
 abbrev pub request_by : Op → Data → Option Request
 request_by Show d = Some request.Show
 request_by Resend d = Some request.Resend
@@ -102,7 +103,8 @@ abbrev pub or_bad_request : Option Request → Result Request LineFault
 or_bad_request None = Err BadRequest
 or_bad_request (Some r) = Ok r
 
--- an object has each name once, so it has exactly the members of its op if it has that many
+-- An object has each name once. So if it has all members of its op, and the same number of members, it has no
+-- others.
 abbrev pub request_of_op : Data → Option Op → Result Request LineFault
 request_of_op d None = Err UnknownOp
 request_of_op d (Some op) = if member_count d == suc (length (members_of op)) then or_bad_request (request_by op d) else Err BadRequest
@@ -111,7 +113,7 @@ abbrev pub request_named : Data → Option Name → Result Request LineFault
 request_named d None = Err BadRequest
 request_named d (Some name) = request_of_op d (op_named name)
 
--- the request of a JSON value; a value that is not an object has no `op`
+-- the request of a JSON value; a value that is not an object has no `op`, and so makes no request
 abbrev pub request_of : Data → Result Request LineFault
 request_of d = request_named d (option_and_then as_str (get (codes "op") d))
 
@@ -119,7 +121,7 @@ abbrev pub request_if : Option Data → Result Request LineFault
 request_if None = Err BadJson
 request_if (Some d) = request_of d
 
--- the request of a text; if an object has a name twice, the last value counts
+-- the request of a text; if an object repeats a name, the last value counts
 unfoldable pub asked_in : List ℕ → Result Request LineFault
 asked_in text = request_if (read text)
 

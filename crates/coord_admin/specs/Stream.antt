@@ -1,4 +1,4 @@
--- The output of `serve`: for each line of a text, in order, a reply that the desk may return.
+-- The output of `serve`: one reply for each line of the input, in order, that the desk may return.
 use Rattle.std.specs.Prelude.{◌≡◌, ◌⊎◌, ℕ, ◌≤◌, Bool, true, false, List, [], ◌∷◌, ◌++◌, length, IsSome, IfSome, Some, Result, Ok, Err}
 use Rattle.std.specs.Str.{IsUtf8}
 use Rattle.coord_lines.specs.Lines.{Line, lines_of}
@@ -21,18 +21,18 @@ abbrev pub is_closed : Answer → Bool
 is_closed Closed = true
 is_closed a = false
 
--- the reply to a close, and the reply for a fault, need no memory
+-- whether making the reply line needs memory; the replies to a close and for a fault do not
 abbrev pub takes_memory : Answer → Bool
 takes_memory Closed = false
 takes_memory (Faulted f) = false
 takes_memory a = true
 
--- the last line, if it has no line feed, is answered if it has a byte
+-- the answer to the last line, which has no line feed: none if the line is empty
 abbrev pub last_answers : Line → List Answer
 last_answers (Some []) = []
 last_answers line = Faulted Unfinished ∷ []
 
--- a prefix of a text was written to a connection, and nothing else
+-- A prefix of this text was written to the connection, and nothing else was read or written.
 abbrev pub WritesPart : {C : Type 0} → (C → List ℕ → List ℕ → C → Type 0) → C → C → List ℕ → Type 0
 WritesPart exchanged old new text = (part : List ℕ) × exchanged old [] part new × IsFirstPart part text
 
@@ -41,11 +41,11 @@ abbrev pub has_begun : Line → Bool
 has_begun (Some []) = false
 has_begun line = true
 
--- the reply for an answer: the answer itself, or out of memory if it could not be written
+-- The returned reply is the answer, or out of memory if its line could not be made.
 abbrev pub IsWritten : Answer → Answer → Type 0
 IsWritten answer returned = (returned ≡ answer) ⊎ ((returned ≡ Faulted OutOfMemory) × (takes_memory answer ≡ true))
 
--- the reply for each answer
+-- Each returned reply is the answer at the same place, or out of memory if its line could not be made.
 abbrev pub AreWritten : List Answer → List Answer → Type 0
 AreWritten [] [] = Unit {0}
 AreWritten (answer ∷ answers) (a ∷ returned) = IsWritten answer a × AreWritten answers returned
@@ -55,9 +55,9 @@ AreWritten answers returned = ⊥
 abbrev pub IsText : Line → Type 0
 IsText line = IsSome line × IfSome line IsUtf8
 
--- `answers d r a e`: the desk d may answer a to the request r, and is e afterwards
+-- `answers d r a e`: the desk d may answer a to the request r, and then is in the state e
 module _ {D : Type 0} (answers : D → Request → Answer → D → Type 0) where
-  -- a line's fault is its answer, and the desk gets no request
+  -- The answer to a line. If the line has a fault, the fault is the answer, and the desk gets no request.
   abbrev pub MayAnswer : D → Result Request LineFault → Answer → D → Type 0
   MayAnswer d (Ok r) a e = answers d r a e
   MayAnswer d (Err f) a e = (a ≡ Faulted f) × (e ≡ d)
@@ -65,54 +65,55 @@ module _ {D : Type 0} (answers : D → Request → Answer → D → Type 0) wher
   abbrev pub AnswersLine : D → Line → Answer → D → Type 0
   AnswersLine d line a e = MayAnswer d (asked_by line) a e
 
-  -- memory ran out while the line was read or its answer was written
+  -- Memory ran out while the line was read, or while the reply to it was made.
   abbrev pub FindsNoMemory : D → Line → D → Type 0
   FindsNoMemory d line e = (IsText line × (e ≡ d)) ⊎ ((a : Answer) × (takes_memory a ≡ true) × AnswersLine d line a e)
 
-  -- the reply to a line: its answer, or out of memory
+  -- The reply to a line is its answer, or out of memory.
   abbrev pub Gets : D → Line → Answer → D → Type 0
   Gets d line a e = AnswersLine d line a e ⊎ ((a ≡ Faulted OutOfMemory) × FindsNoMemory d line e)
 
-  -- lines with one reply each, in order, none of which closed the desk
+  -- Each of these lines got its reply, in order, and none of them closed the desk.
   abbrev pub AllGet : D → List Line → List Answer → D → Type 0
   AllGet d [] [] e = e ≡ d
   AllGet d (line ∷ lines) (a ∷ returned) e = (f : D) × Gets d line a f × (is_closed a ≡ false) × AllGet f lines returned e
   AllGet d lines returned e = ⊥
 
-  -- the first of these lines got these replies, and the others are posted orders without a reply yet
+  -- The first lines got these replies. The others are posted orders that have no reply yet.
   abbrev pub GoesOn : {P : Type 0} → (D → Request → P → D → Type 0) → D → List Line → List Answer → List P → D → Type 0
   GoesOn posts d lines returned posted e = (done : List Line) × (waiting : List Line) × (f : D) × (lines ≡ done ++ waiting) × AllGet d done returned f × AwaitReplies posts f waiting posted e
 
-  -- the first of these lines got these replies, and others are left
+  -- The first lines got these replies, and the other lines are left.
   abbrev pub Reaches : D → List Line → List Answer → List Line → D → Type 0
   Reaches d lines returned left e = (done : List Line) × (lines ≡ done ++ left) × AllGet d done returned e
 
-  -- the input has ended
+  -- The input has ended, and each line has its reply.
   abbrev pub Finishes : D → List Line → List ℕ → D → Type 0
   Finishes d lines text e = (returned : List Answer) × (last : Line) × Reaches d lines returned (last ∷ []) e × (text ≡ reply_lines returned ++ reply_lines (last_answers last))
 
-  -- a complete line has closed the desk; the lines after it are not answered
+  -- A complete line has closed the desk. The lines after it are not answered.
   abbrev pub Closes : D → List Line → List ℕ → D → Type 0
   Closes d lines text e =
       (returned : List Answer) × (line : Line) × (next : Line) × (left : List Line) × (f : D)
       × Reaches d lines returned (line ∷ next ∷ left) f × Gets f line Closed e × (text ≡ reply_lines returned ++ reply_line Closed)
 
-  -- nothing more was read, and each complete line has its reply
+  -- Nothing more was read, and each complete line has its reply.
   abbrev pub Stops : D → List Line → List ℕ → D → Type 0
   Stops d lines text e = (returned : List Answer) × (last : Line) × Reaches d lines returned (last ∷ []) e × (text ≡ reply_lines returned)
 
-  -- the reply to a line, which may be the last one
+  -- The reply to a line; if it is the last line, without a line feed, the fault `Unfinished`.
   abbrev pub GetsAtLast : D → Line → Answer → D → Type 0
   GetsAtLast d line a e = Gets d line a e ⊎ ((a ≡ Faulted Unfinished) × (e ≡ d))
 
-  -- The reply to a line was not written completely. If the line was one of several orders posted together, the orders after it were carried out too, and nobody got their replies.
+  -- The reply to a line was not written completely. If the line was one of several orders that were posted
+  -- together, the orders after it were carried out too, and their replies were dropped.
   abbrev pub BreaksOff : D → List Line → List ℕ → D → Type 0
   BreaksOff d lines text e =
       (returned : List Answer) × (line : Line) × (behind : List Line) × (left : List Line) × (f : D) × (g : D) × (a : Answer) × (unreturned : List Answer) × (part : List ℕ)
       × Reaches d lines returned (line ∷ behind ++ left) f × GetsAtLast f line a g × AllGet g behind unreturned e × ((behind ≡ []) ⊎ ArePosted (line ∷ behind))
       × IsFirstPart part (reply_line a) × (text ≡ reply_lines returned ++ part)
 
-  -- the bytes written for a text that was read, and the desk afterwards
+  -- The bytes written for the input that was read, and the state of the desk afterwards.
   abbrev pub Served : D → List ℕ → List ℕ → Result Ended ServeFault → D → Type 0
   Served d seen text (Ok ended.Input) e = Finishes d (lines_of seen) text e
   Served d seen text (Ok ended.Closed) e = Closes d (lines_of seen) text e

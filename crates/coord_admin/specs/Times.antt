@@ -10,7 +10,8 @@ seconds n = n * 1000000000
 abbrev pub milliseconds : ℕ → ℕ
 milliseconds n = n * 1000000
 
--- the timeouts of a server: for a line, for a reply, between two lines, for a connection, after a close, and between two attempts to accept
+-- the usual timeouts: for a line, for a reply, between two lines, for a connection, after a close, and
+-- between two attempts to accept
 pub record IsUsual (p : Timeouts) : Type 0 where
   pub line : as_nanos p.line ≡ seconds 10
   pub reply : as_nanos p.reply ≡ seconds 10
@@ -19,7 +20,7 @@ pub record IsUsual (p : Timeouts) : Type 0 where
   pub discard : as_nanos p.discard ≡ seconds 1
   pub accept_rest : as_nanos p.accept_rest ≡ milliseconds 100
 
--- the number of further attempts to accept, and the number of reads of 512 bytes after a close
+-- the usual numbers of further attempts to accept, and of reads of 512 bytes after a close
 pub record CountsAreUsual : Type 0 where
   pub tries : ACCEPT_TRIES ≡ 100
   pub reads : DISCARD_READS ≡ 128

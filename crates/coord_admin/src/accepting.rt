@@ -1,4 +1,4 @@
-//! How the server reacts to a failure to accept.
+//! Decides how the server reacts when accepting a connection fails.
 
 ghost use Rattle.std.specs.Prelude.{◌≡◌};
 ghost use Rattle.std.specs.IoError.{error_kind, raw_os_error};
@@ -6,7 +6,7 @@ ghost use Rattle.coord_admin.specs.Accepting.{failure_in, failure_of, failure_of
 
 use std::io::{Error, ErrorKind};
 
-/// The reaction to a failure to accept.
+/// The kind of a failure to accept, which determines the reaction.
 #[derive(Clone, Copy)]
 pub enum Failure {
     /// A connection failed before it was accepted: wait for the next one.
@@ -18,7 +18,7 @@ pub enum Failure {
 }
 
 impl Failure {
-    /// Decides by the error's number if the system gave one, and else by its kind.
+    /// Classifies an error by its number if the system gave one, and otherwise by its kind.
     pub fn of(error: &Error) -> Self
         ensures { result ≡ failure_of (raw_os_error error.now) (error_kind error.now) }
     {
@@ -50,7 +50,7 @@ impl Failure {
     }
 }
 
-/// Decides by the error numbers of Linux.
+/// Classifies an error by its error number of Linux.
 fn numbered(code: u32) -> Failure
     ensures { result ≡ failure_in numbered code }
 {

@@ -10,9 +10,9 @@ use coord_view::View;
 /// The answer to a line, before it is written.
 #[derive(Drop)]
 pub enum Answer {
-    /// An order was accepted, now or earlier; this is its reply.
+    /// An order was accepted, now or earlier, and has this reply.
     Replied(Reply),
-    /// The desk refused it.
+    /// The desk refused the request.
     Refused(Refusal),
     /// The settled world.
     Shown(View),
@@ -20,12 +20,12 @@ pub enum Answer {
     Resent(u64),
     /// The desk was closed.
     Closed,
-    /// The line has this fault.
+    /// The line is refused with this fault.
     Faulted(LineFault),
 }
 
 impl Answer {
-    /// Tests whether the desk was closed.
+    /// Tests whether the answer is that the desk was closed.
     pub fn is_closed(&self) -> bool
         ensures { result ≡ is_closed self.now }
     {

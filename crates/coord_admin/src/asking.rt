@@ -10,7 +10,8 @@ use crate::fault::LineFault;
 use crate::request::Request;
 use coord_types::{Refusal, Reply};
 
-/// Returns the desk's answer to the request of a line, or the line's fault, without the desk.
+/// Passes the request of a line to the desk, and returns the desk's answer. A line with a fault gets
+/// the fault as its answer, and the desk is not called.
 pub fn answer_to<D: Desk>(desk: &mut D, asked: Result<Request, LineFault>) -> Answer
     ensures { MayAnswer D.answers desk.old asked result desk.new }
 {
@@ -52,7 +53,7 @@ pub fn order_answer(reply: Result<Reply, Refusal>) -> Answer
     }
 }
 
-/// If the desk ran out of memory, the answer is a fault of the line.
+/// Returns the answer for a refusal. If the desk ran out of memory, the answer is a fault of the line.
 fn refused(refusal: Refusal) -> Answer
     ensures { result ≡ refused refusal }
 {

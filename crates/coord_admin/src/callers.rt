@@ -24,33 +24,33 @@ use std::{io, thread};
 pub trait Callers {
     type Line: Duplex + Drop;
 
-    /// Between two states of the callers, these connections have ended, in order.
+    /// The connections that have ended between two states of the callers, in order.
     ghost talked: { Self → List Talk → Self → Type 0 };
 
-    /// The server asked for the next client and got this connection, over which nothing was read or written
-    /// yet. Which connections have ended by then is known only when this one has ended.
+    /// The server asked for the next client and got this connection, over which nothing was read or
+    /// written yet. Only the end of this connection shows which connections have ended before.
     ghost called: { Self → Self.Line → Self → Type 0 };
 
-    /// The server asked for the next client, or for the address, and the callers failed: no client
-    /// will come.
+    /// The server asked for the next client or for the address, and the callers failed: no more clients
+    /// come.
     ghost failed: { Self → Self → Type 0 } = { λ _ _. ⊤ };
 
-    /// The server ended this connection, and said how it ended.
+    /// The server ended this connection, with this result.
     ghost ended: { Self → Self.Line → Result Ended ServeFault → Self → Type 0 } = { λ _ _ _ _. ⊤ };
 
-    /// Returns the address at which they call.
+    /// Returns the address at which the callers connect.
     fn address(&self) -> io::Result<SocketAddr>
         ensures unknown { OnErr result (failed self.now self.now) };
 
-    /// Waits for the next client. After an error no client comes.
+    /// Waits for the next client. After an error no more clients come.
     fn next(&mut self) -> io::Result<Self::Line>
         ensures called { IfOk result (λ line. called self.old line self.new) }
         ensures failed { OnErr result (failed self.old self.new) }
         ensures none_ended { OnErr result (talked self.old [] self.new) };
 
-    /// Ends a served connection. It may be called finished only if nothing more comes
-    /// in, and failed only if a read or write has failed. If the server ended it, by a
-    /// close or a cut, its client first gets time to read the last answer.
+    /// Ends a served connection. `served` must be true of it: it may be `Input` only if nothing more
+    /// comes in, and a fault only if a read or write has failed. If the server ended the connection, by
+    /// a close or a cut, the client first gets time to read the last answer.
     fn end(&mut self, line: Self::Line, served: Result<Ended, ServeFault>)
         requires input { served ≡ Ok Input → Self.Line.has_ended line }
         requires read { served ≡ Err Read → Self.Line.has_failed line }
@@ -73,8 +73,8 @@ fn ends_here(served: Result<Ended, ServeFault>) -> bool
     matches!(served, Ok(Ended::Closed | Ended::Cut))
 }
 
-/// The connections that a listener accepts, each with timeouts for its client.
-/// Contracts see the timeouts.
+/// The connections that a listener accepts, each with timeouts for its client. Contracts see only the
+/// timeouts.
 #[derive(Drop)]
 pub struct Accepted<'a, L, T: Clock> {
     clock: &'a T,
@@ -114,8 +114,8 @@ impl<'a, S: Read + Write + OpenStream + Drop, L: OpenListener<Stream = S>, T: Cl
         self.listener.local_addr()
     }
 
-    /// A client that has left, or whose stream cannot be made ready, is skipped. A temporary failure
-    /// is retried `ACCEPT_TRIES` times, `ACCEPT_REST_MILLIS` apart.
+    /// Skips a client that has left, or whose stream can't be set up. Retries after a temporary failure
+    /// up to `ACCEPT_TRIES` times, after a pause of `ACCEPT_REST_MILLIS`.
     fn next(&mut self) -> io::Result<TimedStream<'a, S, T>> {
         let mut tries = 0;
         for stream in self.listener.incoming() {

@@ -1,4 +1,4 @@
-//! A server's connections, one after the other.
+//! Serves connections, one after another.
 
 ghost use Rattle.std.specs.Prelude.{◌≡◌, ◌∷◌, [], Ok, OnErr};
 ghost use Rattle.coord_admin.specs.Connections.{IsServed, ServedOpen, ServedToClose, Talk, has_closed};
@@ -14,7 +14,7 @@ use std::alloc::Global;
 use std::io;
 use std::sync::Wait;
 
-/// The reason for which serving the callers ended.
+/// The reason why the server stopped serving callers.
 #[derive(Clone, Copy, Debug, PartialEq, Eq)]
 pub enum Stop {
     /// A line has closed the desk.
@@ -23,12 +23,12 @@ pub enum Stop {
     Old,
 }
 
-/// Serves the callers one after the other, until a line closes the desk or its instance is old: it
-/// then keeps `most` steps. A connection that is still open at twice as many is cut, once its complete
-/// lines have their replies.
+/// Serves the callers one after another, until a line closes the desk, or until the desk's instance is
+/// old: it then keeps `most` steps. A connection that is still open when the desk keeps twice as many
+/// is cut, once its complete lines have their replies.
 ///
-/// A fault of a connection ends only that connection. An error means that the callers have failed: no client
-/// comes, and the desk was not closed.
+/// A fault of a connection ends only that connection. An error means that the callers have failed: no
+/// more clients come, and the desk is not closed.
 pub fn serve_connections<C: Callers, D: Desk, R: Wait>(
     rt: &R,
     alloc: Global,

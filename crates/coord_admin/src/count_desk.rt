@@ -9,7 +9,7 @@ use coord_view::View;
 use std::alloc::Global;
 use std::marker::Model;
 
-/// A desk in memory that answers the n-th order with step n, Done. Contracts see its count.
+/// A desk in memory that replies to its n-th order with step n and kind Done. Contracts see its count.
 #[derive(Drop)]
 pub struct CountDesk {
     alloc: Global,
@@ -25,7 +25,7 @@ impl Model for CountDesk {
 }
 
 impl CountDesk {
-    /// Returns a desk that has counted this many orders.
+    /// Returns a desk that starts from this count.
     pub fn new(alloc: Global, count: u64) -> Self
         ensures { result ≡ count }
     {

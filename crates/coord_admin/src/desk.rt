@@ -1,4 +1,4 @@
-//! The desk: the request handler of the administration.
+//! The desk: the handler of administration requests.
 
 ghost use Rattle.std.specs.Prelude.{ℕ, Result};
 ghost use Rattle.coord_types.specs.declared.refusals.Refusal.{Refusal};
@@ -12,29 +12,31 @@ ghost use Rattle.coord_admin.specs.Replies.{order_answer, show_answer, resend_an
 use coord_types::{Client, Command, Refusal, Reply};
 use coord_view::View;
 
-/// The handler that `serve` passes requests to. Its ghost members say which answers it may give to each request, and which
-/// states it may then be in.
+/// The handler to which `serve` passes requests. Its ghost members define which answers it may give to
+/// each request, and its possible states afterwards.
 ///
-/// An order is carried out in two halves: the caller posts it, and waits for its reply. Orders that are
-/// posted meanwhile change no reply, so orders that are posted together and replied to in turn are
-/// answered as if they came one after the other (`laws::posted_together_answered_in_turn`).
+/// An order is carried out in two halves: the caller posts it, and then waits for its reply. Orders
+/// that are posted in between change no reply. So orders that are posted together and replied to in
+/// turn get the answers that they would get one after another
+/// (`laws::posted_together_answered_in_turn`).
 pub trait Desk {
     /// A posted order without a reply yet. The caller must pass it to `reply`.
     type Posted;
 
-    /// The answers that it may give to a request, and its states afterwards.
+    /// The possible answers to a request, each with the possible states afterwards.
     ghost answers: { Self → Request → Answer → Self → Type 0 };
 
-    /// The values that may represent a posted order, and the desk's states afterwards.
+    /// The values that may represent a posted order, each with the possible states afterwards.
     ghost posts: { Self → Request → Self.Posted → Self → Type 0 };
 
-    /// The replies that it may give to a posted order, and its states afterwards.
+    /// The possible replies to a posted order, each with the possible states afterwards.
     ghost replies: { Self → Self.Posted → Result Reply Refusal → Self → Type 0 };
 
-    /// The numbers of steps that it may keep.
+    /// The numbers of steps that the desk may keep.
     ghost keeps: { Self → ℕ → Type 0 };
 
-    /// Returns the number of steps that it keeps in memory, which limits its instance (`serve_connections`).
+    /// Returns the number of steps that the desk keeps in memory. `serve_connections` limits an
+    /// instance by it.
     fn kept(&self) -> usize
         ensures { keeps self.now result };
 
@@ -46,7 +48,7 @@ pub trait Desk {
     fn reply(&mut self, posted: Self::Posted) -> Result<Reply, Refusal>
         ensures { replies self.old posted result self.new };
 
-    /// Carries out a client's order, once for each number.
+    /// Carries out a client's order, once for each order number.
     fn order(&mut self, client: Client, number: u64, command: Command) -> Result<Reply, Refusal>
         ensures { answers self.old (request.Order client number command)
             (order_answer result) self.new }
@@ -55,7 +57,7 @@ pub trait Desk {
         self.reply(posted)
     }
 
-    /// Returns the view of the settled world.
+    /// Returns a view of the settled world.
     fn show(&mut self) -> Result<View, Refusal>
         ensures { answers self.old request.Show (show_answer result) self.new };
 
@@ -63,11 +65,11 @@ pub trait Desk {
     fn resend(&mut self) -> Result<u64, Refusal>
         ensures { answers self.old request.Resend (resend_answer result) self.new };
 
-    /// Closes the desk: it gets no more requests.
+    /// Closes the desk. It accepts no more requests.
     fn close(&mut self)
         ensures { answers self.old request.Close answer.Closed self.new };
 
-    /// A law: an order that was posted and then replied to has been answered.
+    /// A law: a posted order with its reply is an answered order.
     ghost is_answered: { (a b c : Self) (r : Request) (p : Self.Posted) (x : Result Reply Refusal) →
         posts a r p b → replies b p x c → answers a r (order_answer x) c };
 
@@ -77,7 +79,7 @@ pub trait Desk {
         (x : Result Reply Refusal) → posts a r q b → replies b p x c →
         (m : Self) × replies a p x m × posts m r q c };
 
-    /// A law: waiting for a reply loses none of the steps that it may keep.
+    /// A law: the number of steps that the desk may keep does not fall while it waits for a reply.
     ghost loses_none: { (a b : Self) (p : Self.Posted) (x : Result Reply Refusal) (kept : ℕ) →
         replies a p x b → keeps a kept → keeps b kept };
 }

@@ -1,4 +1,4 @@
-//! The faults of lines, and the faults that end `serve` before its input.
+//! The faults of lines, and the faults that end `serve` early.
 
 ghost use Rattle.std.specs.Prelude.{◌≡◌, Some};
 ghost use Rattle.coord_admin.specs.Faults.{fault_name, fault_number};
@@ -11,7 +11,8 @@ use std::alloc::AllocError;
 use std::error::Error;
 use std::fmt;
 
-/// The reason for which a line is not carried out, or has no other reply. The first that applies is reported.
+/// The reason why a line is not carried out, or why its reply could not be made. The first one that
+/// applies is reported.
 #[derive(Clone, Copy, Debug, PartialEq, Eq)]
 pub enum LineFault {
     /// The input ended before the line did.
@@ -20,19 +21,19 @@ pub enum LineFault {
     TooLong,
     /// The line is not valid UTF-8.
     BadText,
-    /// The line is not JSON that `serde_json` reads.
+    /// `serde_json` does not accept the line as JSON.
     BadJson,
     /// The line is not an object with a string as its `op`, or its members are not those of its `op`.
     BadRequest,
     /// The line's `op` does not exist.
     UnknownOp,
-    /// There was not enough memory. The request may have been carried out: repeat the order with the
-    /// same number to find out.
+    /// Memory ran out. The request may have been carried out: to find out, repeat the order with the
+    /// same number.
     OutOfMemory,
 }
 
 impl LineFault {
-    /// Returns the reply line, which needs no memory.
+    /// Returns the reply line for the fault. It needs no memory.
     pub fn line(self) -> &'static str
         ensures { result.now ≡ reply_line (Faulted self) }
     {
@@ -48,16 +49,16 @@ impl LineFault {
     }
 }
 
-/// The faults that end a call of `serve` before the end of its input or a close.
+/// The faults that end a call of `serve` before the end of its input, and not by a close.
 #[derive(Clone, Copy, Debug, PartialEq, Eq)]
 pub enum ServeFault {
-    /// There was not enough memory to begin.
+    /// Memory ran out before anything was read.
     OutOfMemory,
     /// The input could not be read.
     Read,
     /// A reply could not be written.
     Write,
-    /// `MOST_READS` reads did not reach the end of the input.
+    /// The end of the input was not reached within `MOST_READS` reads.
     Turns,
 }
 

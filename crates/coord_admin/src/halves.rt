@@ -9,7 +9,7 @@ use crate::duplex::{Duplex, NotRead, NotWritten};
 use coord_lines::write_whole;
 use std::io::{Read, Write};
 
-/// Reads from the reader and writes to the writer. It waits as long as they do.
+/// A connection that reads from the reader and writes to the writer. Its calls wait as long as theirs.
 #[derive(Drop)]
 pub struct Halves<R, W> {
     pub reader: R,
@@ -42,7 +42,7 @@ impl<R: Read, W: Write> Duplex for Halves<R, W> {
     ) };
 }
 
-/// Writes a whole text, and flushes.
+/// Writes a whole text, and flushes the writer.
 fn write_text<W: Write>(writer: &mut W, text: &[u8]) -> Result<(), NotWritten>
     ensures ok { OnOk result (Appends (W.contents writer.old) (W.contents writer.new) text.now) }
     ensures err { OnErr result (WritesFirstPart (W.contents writer.old)

@@ -1,4 +1,4 @@
-//! How long an instance of a desk serves, measured by the steps that it keeps.
+//! Limits an instance of a desk by the number of steps that the desk keeps.
 
 ghost use Rattle.std.specs.Prelude.{◌≡◌, ◌≢◌, ◌*◌, ◌<◌, ◌≤◌, [], Err, length, take, IfNone, IfOk, IfSome, OnErr};
 ghost use Rattle.coord_admin.specs.InstanceLimit.{HasKept, HasKeptFewer, IsAge};
@@ -16,11 +16,12 @@ pub enum Age {
     Young,
     /// No new connection is accepted.
     Old,
-    /// The open connection is not read either.
+    /// Nothing more is read, even from the open connection.
     Over,
 }
 
-/// An instance is old once it keeps `most` steps, and over once it keeps twice as many.
+/// Returns the age of an instance: it is old once its desk keeps `most` steps, and over once it keeps
+/// twice as many.
 fn age_of(most: usize, kept: usize) -> Age
     ensures { IsAge most kept result }
 {
@@ -55,16 +56,16 @@ pub fn next_in_instance<C: Callers, D: Desk>(
     }
 }
 
-/// The reason for which nothing more was read from a connection.
+/// The reason why nothing more was read from a connection.
 #[derive(Clone, Copy)]
 pub enum Unread {
     /// The next bytes could not be read.
     Failed,
-    /// The instance of the desk is over.
+    /// The desk's instance is over.
     Over,
 }
 
-/// Reads input like [`Duplex::receive`], as long as the desk's instance is not over.
+/// Reads input like [`Duplex::receive`], unless the desk's instance is over.
 pub fn receive_in_instance<C: Duplex, D: Desk>(
     most: usize,
     connection: &mut C,

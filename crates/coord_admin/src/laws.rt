@@ -1,5 +1,5 @@
-//! Functions without a body whose contracts are laws: about a desk whose orders are posted together, about
-//! lines with known requests and replies, and about counts.
+//! Laws about a desk with orders posted together, about worked examples of lines, and about counts.
+//! Each is the contract of an empty function.
 
 ghost use Rattle.coord_admin.specs.Times.{CountsAreUsual};
 ghost use Rattle.coord_admin.specs.Together.{AnswersInTurn};
@@ -7,24 +7,25 @@ ghost use Rattle.coord_admin.specs.WorkedLines.{WorkedRequests, WorkedReplies};
 
 use crate::desk::Desk;
 
-/// Orders that were posted together and replied to in turn are answered as if they came one after the other.
+/// Orders that are posted together and replied to in turn get the answers that they would get one after
+/// another.
 pub fn posted_together_answered_in_turn<D: Desk>()
     ensures { AnswersInTurn D.answers D.posts D.replies }
 {}
 
-/// Lines with a request, and lines with a fault.
+/// Examples of lines with their requests or faults.
 #[tactic(auto, using(crate::proofs::Computes::requests_compute))]
 pub fn worked_requests()
     ensures { WorkedRequests }
 {}
 
-/// Answers and their reply lines.
+/// Examples of answers with their reply lines.
 #[tactic(auto, using(crate::proofs::Computes::replies_compute))]
 pub fn worked_replies()
     ensures { WorkedReplies }
 {}
 
-/// The number of attempts to accept, and the number of reads after a close.
+/// The usual numbers of attempts to accept, and of reads after a close.
 pub fn counts_are_usual()
     ensures { CountsAreUsual }
 {}

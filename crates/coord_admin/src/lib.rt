@@ -1,13 +1,15 @@
 //! The administration of a reset coordinator: requests as lines of JSON, each with one reply line.
 //!
-//! `serve` reads lines from a `Duplex`, passes requests to a `Desk`, and writes the replies. Its contract is the
-//! main theorem: each line that was read gets its reply, in order, and nothing else is written.
-//! `specs/Requests.antt` defines the request of a line, `specs/Replies.antt` the replies, and
-//! `specs/Stream.antt` the output of `serve` for a whole text, given the answers that its desk may give.
-//! `serve_connections` serves one connection of its callers after the other, until the instance of
-//! the desk is old (`specs/Connections.antt`, `specs/InstanceLimit.antt`). `Halves` is a reader and a writer as one connection, `Accepted` the
-//! connections of a listener, with timeouts for each client. `CountDesk` is a desk
-//! that only counts.
+//! `serve` reads lines from a `Duplex`, passes requests to a `Desk`, and writes the replies. Its
+//! contract is the main theorem: each line that was read gets its reply, in order, and nothing else is
+//! written. `specs/Requests.antt` defines the request of a line, `specs/Replies.antt` the replies, and
+//! `specs/Stream.antt` the output of `serve` for a whole text, given the answers that the desk may
+//! give.
+//!
+//! `serve_connections` serves one connection after another until the desk's instance is old
+//! (`specs/Connections.antt`, `specs/InstanceLimit.antt`). `Halves` makes one connection of a reader
+//! and a writer, `Accepted` has the connections of a listener, with timeouts for each client, and
+//! `CountDesk` is a desk that only counts.
 #![tactic(auto)]
 
 mod accepting;

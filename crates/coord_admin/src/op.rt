@@ -23,7 +23,7 @@ pub enum Op {
 }
 
 impl Op {
-    /// Returns the op of this name.
+    /// Returns the op with this name.
     pub fn named(name: &str) -> Option<Op>
         ensures { result ≡ op_named name.now }
     {
@@ -41,7 +41,7 @@ impl Op {
         }
     }
 
-    /// Returns the number of members that a request of this op has besides its `op`.
+    /// Returns the number of members that a request with this op has besides `op`.
     pub fn member_count(self) -> usize
         ensures { result ≡ length (members_of self) }
     {
@@ -52,8 +52,8 @@ impl Op {
         }
     }
 
-    /// Returns the request that these members make; None if one of them is missing, is not a whole number, or is
-    /// out of its range.
+    /// Returns the request that these members make, or None if one of them is missing, is not a whole
+    /// number, or is out of its range.
     pub fn request(self, members: &Value) -> Option<Request>
         ensures { result ≡ request_by self (view members.now) }
     {
@@ -96,14 +96,14 @@ impl Op {
     }
 }
 
-/// Returns the whole number at a key: any u64.
+/// Returns the whole number at a key, or None unless it is a u64.
 pub fn number_at(members: &Value, key: &str) -> Option<u64>
     ensures { result ≡ number_at key.now (view members.now) }
 {
     members.get(key).and_then(Value::as_u64)
 }
 
-/// Returns the identifier at a key; None unless a whole number from 1 to `MOST` is there.
+/// Returns the identifier at a key, or None unless it is a whole number from 1 to `MOST`.
 pub fn identifier_at<const MOST: u8>(members: &Value, key: &str) -> Option<Identifier<MOST>>
     ensures { result ≡ id_at key.now MOST (view members.now) }
 {

@@ -21,8 +21,8 @@ use coord_types::MAX_BATCH_STEPS;
 use std::alloc::{AllocError, Global};
 use std::collections::VecDeque;
 
-/// Posted orders without replies yet, at most as many as fit into a flight. It allocates its memory
-/// when it is made.
+/// Posted orders that have no reply yet, at most as many as fit into a flight. All its memory is
+/// allocated when it is created.
 pub struct Queue<D: Desk> {
     pub(crate) posted: VecDeque<D::Posted>,
     /// A buffer for the replies to the posted orders, empty except while they are written.
@@ -67,14 +67,14 @@ impl<D: Desk> Queue<D> {
         }
     }
 
-    /// Tests whether another order fits.
+    /// Tests whether the queue has room for another order.
     fn has_room(&self) -> bool
         ensures { result ≡ nat_lt (deque_len self.now.posted) MAX_BATCH_STEPS }
     {
         self.posted.len() < MAX_BATCH_STEPS
     }
 
-    /// Answers all orders, unless more input is already there and has room in the queue.
+    /// Answers all orders, unless more input has already arrived and the queue has room.
     pub fn answer_unless_more<C: Duplex>(
         &mut self,
         more: bool,
@@ -101,8 +101,8 @@ impl<D: Desk> Queue<D> {
         self.answer_all(alloc, connection, desk)
     }
 
-    /// Waits for the reply to each order, in turn, and writes the replies. Even if they cannot be
-    /// written, it waits for all of them.
+    /// Waits for the reply to each order, in turn, and writes the replies. If they can't be written, it
+    /// still waits for all of them.
     pub fn answer_all<C: Duplex>(
         &mut self,
         alloc: Global,

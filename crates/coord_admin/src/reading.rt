@@ -1,4 +1,4 @@
-//! Reads a line.
+//! Parses a line.
 
 ghost use Rattle.std.specs.Prelude.{◌≡◌, ◌≢◌, Err, Some};
 ghost use Rattle.std.specs.Option.{option_copied};
@@ -15,7 +15,7 @@ use serde_json::Value;
 use std::alloc::Global;
 use std::str;
 
-/// Returns the request of a line, or its fault. A line over the limit is None.
+/// Returns the request of a line, or the line's fault. `line` is None if it was too long.
 pub fn read_line(alloc: Global, line: Option<&[u8]>) -> Result<Request, LineFault>
     ensures value { result ≢ Err OutOfMemory → result ≡ asked_by (option_copied line.entry) }
     ensures memory { result ≡ Err OutOfMemory → IsText (option_copied line.entry) }
@@ -66,7 +66,7 @@ pub fn read_request(value: &Value) -> Result<Request, LineFault>
     }
 }
 
-/// Returns the number of an object's members, 0 for any other value.
+/// Returns the number of an object's members, or 0 for any other value.
 pub fn member_count(value: &Value) -> usize
     ensures { result ≡ member_count (view value.now) }
 {

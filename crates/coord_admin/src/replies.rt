@@ -1,4 +1,4 @@
-//! Reply lines, made by `serde_json`.
+//! Makes reply lines with `serde_json`.
 
 ghost use Rattle.std.specs.Prelude.{◌≡◌, ◌++◌, false, codes, IfOk, string_bytes};
 ghost use Rattle.serde_json.specs.View.{view};
@@ -31,7 +31,7 @@ pub fn refused(alloc: Global, refusal: Refusal) -> Result<String, AllocError>
     )
 }
 
-/// Returns the line for packets that were sent again.
+/// Returns the line for this number of resent packets.
 pub fn resent(alloc: Global, count: u64) -> Result<String, AllocError>
     ensures { IfOk result (λ line. string_bytes line ≡ reply_line (answer.Resent count)) }
 {

@@ -8,7 +8,7 @@ use coord_types::{Client, Command};
 /// A request to the desk.
 #[derive(Clone, Copy)]
 pub enum Request {
-    /// A client's order with its number, which is any u64.
+    /// Carry out a client's order with this number, which may be any u64.
     Order(Client, u64, Command),
     /// Show the settled world.
     Show,
@@ -19,7 +19,7 @@ pub enum Request {
 }
 
 impl Request {
-    /// Tests whether it is an order.
+    /// Tests whether the request is an order.
     pub fn is_order(&self) -> bool
         ensures { result ≡ is_order self.now }
     {

@@ -28,30 +28,31 @@ use std::alloc::{AllocError, Global};
 /// The maximum number of bytes of one read.
 const READ_LEN: usize = 512;
 
-/// How a successful call of `serve` ends.
+/// The way in which a successful call of `serve` ended.
 #[derive(Clone, Copy, Debug, PartialEq, Eq)]
 pub enum Ended {
     /// The input has ended.
     Input,
-    /// A line has closed the desk. The lines after it are not answered.
+    /// A line closed the desk. The lines after it are not answered.
     Closed,
-    /// The instance of the desk is over. Nothing more was read.
+    /// The desk's instance is over, so nothing more was read.
     Cut,
 }
 
-/// Reads lines from a connection up to the end of its input or a line that closes the desk, and
-/// writes the reply to each before it waits for more input.
+/// Reads lines from a connection up to the end of its input or a line that closes the desk, and writes
+/// the reply to each before it waits for more input.
 ///
-/// Orders that have already arrived are posted one after the other, at most as many as fit into a flight, and
-/// their replies are written together once all are there. Any other line is answered after the lines
+/// Orders that have already arrived are posted together, at most as many as fit into a flight, and
+/// their replies are written together once all are ready. Any other line is answered after the lines
 /// before it.
 ///
-/// It stops reading once the desk keeps twice `most` steps.
+/// The call stops reading once the desk keeps twice `most` steps.
 ///
 /// Each line that was read gets its reply, in order, and nothing else is written; if memory runs out,
-/// the reply may say so instead. `OutOfMemory` is returned before anything is read, `Turns`
-/// after `MOST_READS` reads, and `Read` and `Write` with a failed read and write. What the desk
-/// accepted until then stays accepted; of orders that were posted together, all may have been accepted if the
+/// the reply may say so instead. `OutOfMemory` is returned before anything is read, `Turns` after
+/// `MOST_READS` reads, and `Read` and `Write` after a failed read or write. Orders accepted until then
+/// stay accepted. If the reply to one of several orders posted together could not be written, all of
+/// them may have been accepted.
 /// reply to one was not written.
 pub fn serve<C: Duplex, D: Desk>(
     alloc: Global,
@@ -90,7 +91,7 @@ fn room<D: Desk>(alloc: Global) -> Result<(Vec<u8>, Queue<D>), AllocError>
     Ok((buffer, queue))
 }
 
-/// Reads into a buffer, at most `MOST_READS` times.
+/// Reads input into a buffer and handles it, with at most `MOST_READS` reads.
 fn serve_lines<C: Duplex, D: Desk>(
     alloc: Global,
     most: usize,
@@ -138,7 +139,7 @@ fn serve_lines<C: Duplex, D: Desk>(
     Err(ServeFault::Turns)
 }
 
-/// Tests whether the line has a byte.
+/// Tests whether the current line has a byte.
 fn has_begun(line: &LineBuffer) -> bool
     ensures { result ≡ has_begun line.now }
 {
@@ -148,8 +149,8 @@ fn has_begun(line: &LineBuffer) -> bool
     }
 }
 
-/// Handles a piece of the input: each line that it completes is posted, or answered after the lines that
-/// were. Returns whether one closed the desk.
+/// Handles a piece of the input. An order that it completes is posted; any other line is answered after
+/// the posted orders. Returns whether a line closed the desk.
 fn take<C: Duplex, D: Desk>(
     alloc: Global,
     queue: &mut Queue<D>,
@@ -189,8 +190,8 @@ fn take<C: Duplex, D: Desk>(
     Ok(false)
 }
 
-/// Posts the order of a complete line, or answers the line after those that were posted.
-/// Returns whether it closed the desk.
+/// Posts the order of a complete line, or answers the line after the posted orders. Returns whether the
+/// line closed the desk.
 fn end_line<C: Duplex, D: Desk>(
     alloc: Global,
     queue: &mut Queue<D>,
@@ -233,7 +234,7 @@ fn end_line<C: Duplex, D: Desk>(
     }
 }
 
-/// Returns the order of a line, if it is one.
+/// Returns the order that a line asks for, or None if it is no order.
 fn order_of(asked: &Result<Request, LineFault>) -> Option<Request>
     ensures some { IfSome result (λ order. (asked.now ≡ Ok order) × (is_order order ≡ true)) }
     ensures none { IfNone result (IfOk asked.now (λ request. is_order request ≡ false)) }
@@ -244,7 +245,7 @@ fn order_of(asked: &Result<Request, LineFault>) -> Option<Request>
     }
 }
 
-/// Handles the end of the input. A last line without a line feed is unfinished if it has a byte.
+/// Handles the end of the input. A last line without a line feed is `Unfinished`, unless it is empty.
 fn finish<C: Duplex>(line: &LineBuffer, connection: &mut C) -> Result<(), NotWritten>
     ensures printed { OnOk result
         (C.exchanged connection.old [] (reply_lines (last_answers line.now)) connection.new) }

@@ -1,4 +1,4 @@
-//! A connection over a socket, with timeouts for its client.
+//! A connection over a socket, with timeouts for the client.
 
 ghost use Rattle.std.specs.Prelude.{◌≡◌, ◌≤◌, ⊤, length, IfOk};
 
@@ -10,25 +10,24 @@ use std::io::{ErrorKind, Read, Write};
 use std::net::{OpenStream, Shutdown};
 use std::time::{Clock, Duration, Instant};
 
-/// A stream whose reads and writes wait no longer than its timeouts allow. No clause can say which
-/// bytes a socket gives and takes: so its users are generic over
-/// [`Duplex`].
+/// A stream with timeouts for its reads and writes. No clause can state which bytes a socket returns
+/// and takes, so the stream's users are generic over [`Duplex`].
 #[derive(Drop)]
 pub struct TimedStream<'a, S, T: Clock> {
     clock: &'a T,
     stream: S,
     timeouts: Timeouts,
     opened: Instant,
-    /// When it began to wait for the end of a line.
+    /// The time at which the wait for the end of the current line began.
     line_begun: Option<Instant>,
-    /// The timeouts of reads and writes, as last set in the system.
+    /// The timeouts of reads and writes that were last set in the system.
     read_wait: Option<Duration>,
     write_wait: Option<Duration>,
-    /// Whether the last read filled its buffer; only then may more input be there.
+    /// Whether the last read filled its buffer; only then may more input have arrived.
     has_filled: bool,
 }
 
-/// Returns the rest of a span of time since its start; None if it is over.
+/// Returns the time that is left of a span since its start, or None if it has passed.
 fn left<T: Clock>(clock: &T, start: Instant, span: Duration) -> Option<Duration> {
     let passed = start.elapsed(clock).ok()?;
     match span.checked_sub(passed) {
@@ -37,8 +36,8 @@ fn left<T: Clock>(clock: &T, start: Instant, span: Duration) -> Option<Duration>
     }
 }
 
-/// Reads input within a span of time. If the wait is interrupted, for example by a stop of the process,
-/// it continues for the rest of the span.
+/// Reads input within a span of time. An interrupted wait, for example by a stop signal, continues for
+/// the rest of the span.
 fn read_within<S: Read + OpenStream, T: Clock>(
     clock: &T,
     stream: &mut S,
@@ -72,7 +71,7 @@ fn read_within<S: Read + OpenStream, T: Clock>(
 }
 
 impl<'a, S: Read + Write + OpenStream + Drop, T: Clock> TimedStream<'a, S, T> {
-    /// Makes a connection over a stream that sends writes at once.
+    /// Makes a connection over a stream that sends each write at once.
     pub fn new(clock: &'a T, stream: S, timeouts: Timeouts) -> io::Result<Self>
         ensures { IfOk result (λ line. line.timeouts ≡ timeouts) }
     {
@@ -90,8 +89,9 @@ impl<'a, S: Read + Write + OpenStream + Drop, T: Clock> TimedStream<'a, S, T> {
         })
     }
 
-    /// Returns the timeout of the next read. The limit of the whole connection counts only
-    /// before a line, or when a line has just begun.
+    /// Returns the timeout of the next read, or None if its limit has passed. The limit for the whole
+    /// connection applies only between
+    /// lines, and when a line has just begun.
     fn waits(&mut self, is_within_line: bool) -> Option<Duration> {
         if !is_within_line {
             self.line_begun = None;
@@ -110,9 +110,9 @@ impl<'a, S: Read + Write + OpenStream + Drop, T: Clock> TimedStream<'a, S, T> {
         left(self.clock, begun, self.timeouts.line)
     }
 
-    /// Shuts down writing, and discards input for a while: if a connection is
-    /// closed before its input was read, its client may lose bytes that it has not read yet. No clause can say which
-    /// bytes these reads return.
+    /// Shuts down writing, and discards input for a while. A connection that is closed with unread
+    /// input may lose bytes that its client has not read yet. No clause can state which bytes these
+    /// reads return.
     pub fn discard(&mut self)
         ensures { self.new.timeouts ≡ self.old.timeouts }
     {
@@ -157,8 +157,8 @@ impl<'a, S: Read + Write + OpenStream + Drop, T: Clock> Duplex for TimedStream<'
         read
     }
 
-    /// Checks without waiting, unless the last read has shown that nothing is there. If a stream cannot
-    /// be made blocking again, its next read fails.
+    /// Checks without waiting, and not at all if the last read has shown that there is no more input.
+    /// If the stream can't be made blocking again, its next read fails.
     fn has_more(&self) -> bool {
         if !self.has_filled || self.stream.set_nonblocking(true).is_err() {
             return false;

@@ -4,11 +4,11 @@ ghost use Rattle.coord_admin.specs.Times.{IsUsual};
 
 use std::time::Duration;
 
-/// The number of seconds from its first byte within which a line has to end. The time that the server takes to answer
-/// the lines before it is not counted.
+/// The number of seconds in which a line has to end, from its first byte on. The time that the server
+/// takes to answer earlier lines is not counted.
 pub const LINE_SECONDS: u64 = 10;
 
-/// The number of seconds within which a client has to take a reply, once it is ready.
+/// The number of seconds in which a client has to read a reply, once the reply is ready.
 pub const REPLY_SECONDS: u64 = 10;
 
 /// The number of seconds that a client may be silent between two lines.
@@ -18,11 +18,11 @@ pub const SILENCE_SECONDS: u64 = 15;
 /// reply that waits for its step is cut off.
 pub const CONNECTION_SECONDS: u64 = 600;
 
-/// After a close, the number of milliseconds for which the client's input is discarded, so that
-/// it can still read the answer.
+/// The number of milliseconds after a close in which the client's input is discarded, so that it can
+/// still read the answer.
 pub const DISCARD_MILLIS: u64 = 1_000;
 
-/// After a close, the maximum number of reads of the client's input, of 512 bytes each.
+/// The maximum number of reads of the client's input after a close, each of at most 512 bytes.
 pub const DISCARD_READS: u64 = 128;
 
 /// The number of times that a temporary failure to accept is retried in a row.
@@ -31,7 +31,7 @@ pub const ACCEPT_TRIES: u64 = 100;
 /// The number of milliseconds between two attempts to accept.
 pub const ACCEPT_REST_MILLIS: u64 = 100;
 
-/// The timeouts of a client, for each of its actions.
+/// A client's timeouts, one for each of its actions.
 #[derive(Clone, Copy, Debug, PartialEq, Eq, Drop)]
 pub struct Timeouts {
     pub line: Duration,
@@ -43,7 +43,7 @@ pub struct Timeouts {
 }
 
 impl Timeouts {
-    /// Returns the timeouts of the constants above.
+    /// Returns the timeouts given by the constants above.
     pub fn usual() -> Self
         ensures { IsUsual result }
     {

@@ -12,13 +12,13 @@ use crate::fault::LineFault;
 use crate::replies::{refused, replied, resent, shown};
 use std::alloc::{AllocError, Global};
 
-/// The reply line of a close.
+/// The reply line for a close.
 const CLOSED_LINE: &str = "{\"kind\":\"closed\"}\n";
 
 /// A reply line.
 #[derive(Drop)]
 pub enum ReplyLine {
-    /// A line that needs no memory.
+    /// A line whose text is fixed, so it needs no memory.
     Fixed(&'static str),
     Made(String),
 }
@@ -34,7 +34,7 @@ impl ReplyLine {
     }
 }
 
-/// Writes the reply line of an answer, or the line for out of memory if it cannot be made.
+/// Writes the reply line of an answer. If memory for the line runs out, writes the line for that.
 pub fn write_answer<C: Duplex>(
     alloc: Global,
     connection: &mut C,
@@ -73,8 +73,7 @@ pub fn write_answers<C: Duplex>(
     connection.reply(&text)
 }
 
-/// Appends a line to a text that is to be written. If memory runs out, it writes the
-/// text and then the line.
+/// Appends a line to the text to be written. If memory runs out, writes the text and then the line.
 fn add_line<C: Duplex>(
     connection: &mut C,
     text: &mut Vec<u8>,
@@ -98,7 +97,7 @@ fn add_line<C: Duplex>(
     connection.reply(line)
 }
 
-/// The reply to a close and the reply for a fault need no memory.
+/// Returns the reply line of an answer. The lines for a close and for a fault need no memory.
 fn line_of_answer(alloc: Global, answer: &Answer) -> ReplyLine
     ensures { (returned : Answer) × IsWritten answer.now returned × (line_bytes result ≡ reply_line returned) }
 {

@@ -8,20 +8,21 @@ use Rattle.coord_types.specs.declared.steps.Step.{Step}
 use Rattle.coord_types.specs.declared.steps.Step.TheVariants.{Order, Take, Clear}
 use Rattle.coord_batch.specs.declared.batch.Batch.{Batch}
 
--- a step satisfies the invariants of its types, an order has a number from 1, and in version 1 no packet carries a distance
+-- a step has an encoding: it is in the ranges of its types, an order's number is at least 1, and in version 1 no packet
+-- carries a distance
 abbrev pub StepFits : ℕ → Step → Type 0
 StepFits version (Order c n x) = ((1 ≤ c) × (c ≤ MAX_CLIENTS)) × ((1 ≤ n) × (n < 2 ^ 64)) × CommandInRange x
 StepFits version (Take p) = IsNode p.from × IsNode p.to × (p.inc < 2 ^ 64) × (p.number < 2 ^ 64) × (distance version (2 ^ 64 - 1)).Fits (carried p.msg)
 StepFits version (Clear r) = IsNode r.from × IsNode r.to × (r.inc < 2 ^ 64) × (r.number < 2 ^ 64)
 
--- a batch in its format: the number of its first step, and its steps
+-- a batch as its format sees it: the number of its first step, and its steps
 abbrev pub pair : ℕ → List Step → ℕ × List Step
 pair first steps = (first, steps)
 
 abbrev pub content : Batch → ℕ × List Step
 content b = (b.first, b.steps.items)
 
--- steps numbered from this one on
+-- a batch has an encoding: the number of its first step, the number of steps, and each step are in range
 pub record IsBatch (version first : ℕ) (steps : List Step) : Type 0 where
   pub least : 1 ≤ first
   pub greatest : first ≤ MAX_STEPS
@@ -29,7 +30,7 @@ pub record IsBatch (version first : ℕ) (steps : List Step) : Type 0 where
   pub most : length steps ≤ MAX_BATCH_STEPS
   pub each : AllByRecursion (StepFits version) steps
 
--- an order's number is counted from 1
+-- the number of an order is at least 1
 abbrev pub IsNumbered : Step → Type 0
 IsNumbered (Order c n x) = 1 ≤ n
 IsNumbered (Take p) = Unit {0}

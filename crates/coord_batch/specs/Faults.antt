@@ -19,6 +19,6 @@ fault_name BadByte = codes "BadByte"
 fault_name Extra = codes "Extra"
 fault_name BadVersion = codes "BadVersion"
 
--- for example "BadByte at 66"
+-- the fault's name and place, for example "BadByte at 66"
 abbrev pub fault_text : CodecFault → List ℕ
 fault_text fault = fault_name fault.kind ++ codes " at " ++ decimal fault.at

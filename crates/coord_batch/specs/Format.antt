@@ -1,11 +1,12 @@
--- Formats: one description of how values are encoded, which gives the encoding, the decoding from the left, and the values that have an encoding.
+-- Formats. A format describes how values are encoded: it gives the encoding, the decoding from the left, and the values
+-- that have an encoding.
 use Rattle.std.specs.Prelude.{◌≡◌, ℕ, zero, suc, ◌^◌, ◌<◌, ◌==◌, nat_lt, Bool, true, List, [], ◌∷◌, ◌++◌, length, take, drop, Result, Ok, Err, if◌then◌else◌}
 use Rattle.std.specs.List.{flat_map}
 use Rattle.std.specs.Int.{Width, w16, w64, byte_len, from_be_bytes, to_be_bytes}
 use Rattle.coord_batch.specs.declared.fault.Flaw.{Flaw}
 use Rattle.coord_batch.specs.declared.fault.Flaw.TheVariants.{Short, BadByte, Extra}
 
--- reading gives a value and the remaining bytes, or the first flaw
+-- the result of reading from the left: the value and the remaining bytes, or the first flaw
 abbrev pub Read : Type 0 → Type 0
 Read A = Result (A × List ℕ) Flaw
 
@@ -28,7 +29,7 @@ first_byte (b ∷ rest) = Ok (b, rest)
 abbrev pub byte : Format ℕ
 byte = record { text = λ n. n ∷ []; read = first_byte; Fits = λ n. n < 256 }
 
--- a number of some bytes, most significant first
+-- reads a number of the given width, most significant byte first
 abbrev pub number_at : Width → List ℕ → Read ℕ
 number_at w bytes = if nat_lt (length bytes) (byte_len w) then Err Short else Ok (from_be_bytes w (take (byte_len w) bytes), drop (byte_len w) bytes)
 
@@ -38,13 +39,13 @@ u16 = record { text = to_be_bytes w16; read = number_at w16; Fits = λ n. n < 2 
 abbrev pub u64 : Format ℕ
 u64 = record { text = to_be_bytes w64; read = number_at w64; Fits = λ n. n < 2 ^ 64 }
 
--- no bytes, which mean 0
+-- a field of no bytes, which means 0
 abbrev pub nothing : Format ℕ
 nothing = record { text = λ n. []; read = λ bytes. Ok (0, bytes); Fits = λ n. n ≡ 0 }
 
 -- ---- combinations of formats
 
--- a value that passes a test; a flaw is at its beginning
+-- the values that pass a test; the flaw of any other value is placed at its first byte
 abbrev pub such_that : {A : Type 0} → (A → Bool) → Format A → Format A
 such_that test f = record {
   text = f.text;
@@ -52,7 +53,7 @@ such_that test f = record {
   Fits = λ x. f.Fits x × (test x ≡ true);
 }
 
--- One format and then another, whose rule may depend on the value of the first.
+-- one format and then another, which may depend on the value of the first
 abbrev pub followed : {A B : Type 0} → Format A → (A → Format B) → Format (A × B)
 followed f g = record {
   text = λ p. f.text p.0 ++ (g p.0).text p.1;
@@ -64,7 +65,7 @@ infixr 20 ◌&◌
 abbrev pub ◌&◌ : {A B : Type 0} → Format A → Format B → Format (A × B)
 f & g = followed f (λ _. g)
 
--- a value made of its parts
+-- the format of a value that is made from parts: `make` makes it, and `parts` takes it apart
 abbrev pub made : {A B : Type 0} → (A → B) → (B → A) → Format A → Format B
 made make parts f = record {
   text = λ y. f.text (parts y);
@@ -72,11 +73,11 @@ made make parts f = record {
   Fits = λ y. (x : _) × f.Fits x × (y ≡ make x);
 }
 
--- a byte that says which case it is, and then that case
+-- a byte that names the case, and then the value in the format of that case
 abbrev pub cases : {A : Type 0} → ℕ → (A → ℕ) → (ℕ → Format A) → Format A
 cases how_many which case = made (λ p. p.1) (λ x. (which x, x)) (followed (such_that (λ t. nat_lt t how_many) byte) case)
 
--- this many items, after those before them
+-- reads n more items; `front` is the items read so far, on which the format of the next item may depend
 unfoldable pub items_at : {A : Type 0} → (List A → Format A) → ℕ → List A → List ℕ → Read (List A)
 items_at item zero front bytes = Ok (front, bytes)
 items_at item (suc n) front bytes = (item front).read bytes >>= λ x. items_at item n (front ++ x.0 ∷ []) x.1
@@ -85,8 +86,8 @@ unfoldable pub FitBehind : {A : Type 0} → (List A → Format A) → List A →
 FitBehind item front [] = Unit {0}
 FitBehind item front (x ∷ xs) = (item front).Fits x × FitBehind item (front ++ x ∷ []) xs
 
--- The number of items, and then the items. Which items are valid may depend on those before
--- them; how an item is encoded does not.
+-- The number of items, and then the items. Whether an item is valid may depend on the items before it, but its encoding
+-- does not.
 abbrev pub counted : {A : Type 0} → Format ℕ → (List A → Format A) → Format (List A)
 counted count item = record {
   text = λ xs. count.text (length xs) ++ flat_map (item []).text xs;
@@ -94,7 +95,7 @@ counted count item = record {
   Fits = λ xs. count.Fits (length xs) × FitBehind item [] xs;
 }
 
--- all of the bytes
+-- the value that was read, if no bytes remain
 abbrev pub ended : {A : Type 0} → A × List ℕ → Result A Flaw
 ended x = if length x.1 == 0 then Ok x.0 else Err (Extra (length x.1))
 

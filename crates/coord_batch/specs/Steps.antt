@@ -11,7 +11,7 @@ use Rattle.coord_types.specs.declared.steps.Step.TheVariants.{Order, Take, Clear
 use Rattle.coord_batch.specs.Format.{Format, u16, u64, such_that, ◌&◌, made, cases, counted}
 use Rattle.coord_batch.specs.Fields.{node, group, client, message, from_one, from_one_to}
 
--- the form of a command, and its nodes and numbers
+-- the byte that names the form of a command
 abbrev pub command_tag : Command → ℕ
 command_tag (Add u g) = 0
 command_tag (Remove u) = 1
@@ -60,7 +60,7 @@ receipt_packet =
     made (λ p. record { from = p.0; to = p.1.0; inc = p.1.1.0; number = p.1.1.1 }) (λ r. (r.from, (r.to, (r.inc, r.number))))
     (node & (node & (u64 & u64)))
 
--- a client's order, by its number and its command
+-- a client's order: the client, the order's number and its command
 unfoldable pub order : Format (ℕ × (ℕ × Command))
 order = client & (from_one & command)
 
@@ -96,13 +96,13 @@ step_case version (suc (suc n)) = made Clear cleared_of receipt_packet
 unfoldable pub step : ℕ → Format Step
 step version = cases 3 step_tag (step_case version)
 
--- the number of steps, and the steps
+-- the number of steps in a batch
 unfoldable pub how_many_steps : Format ℕ
 how_many_steps = such_that (λ n. nat_le 1 n && nat_le n MAX_BATCH_STEPS) u16
 
 unfoldable pub steps : ℕ → Format (List Step)
 steps version = counted how_many_steps (λ _. step version)
 
--- the number of the first step, and the steps
+-- a batch: the number of its first step, and the steps
 unfoldable pub batch : ℕ → Format (ℕ × List Step)
 batch version = from_one_to MAX_STEPS & steps version

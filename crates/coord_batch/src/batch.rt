@@ -1,4 +1,4 @@
-//! Batches of steps as bytes.
+//! Batches of steps, encoded as bytes.
 
 ghost use Rattle.std.specs.Prelude.{◌≡◌, true, false, ◌↔◌, ◌≤◌, ℕ, List, length, Ok, Err, IfOk};
 ghost use Rattle.std.specs.List.{AllByRecursion};
@@ -14,13 +14,13 @@ use crate::step_writing::put_step;
 use coord_types::{MAX_BATCH_BYTES, MAX_BATCH_STEPS, MAX_STEPS, Step, Version};
 use std::alloc::{AllocError, Global};
 
-/// The number of bytes before the first step: its number, and the number of steps.
+/// The number of bytes before the first step: the first step's number and the number of steps.
 const HEAD_BYTES: usize = 10;
 
-/// The maximum number of bytes of one step.
+/// The maximum number of bytes that one step takes.
 const MOST_STEP_BYTES: usize = 28;
 
-/// 1 to 256 steps that were committed together, and the number of the first, from 1 to 2^40.
+/// 1 to 256 steps that were committed together, and the number of the first one, from 1 to 2^40.
 #[derive(Drop, Debug)]
 pub struct Batch {
     pub first: u64,
@@ -38,7 +38,7 @@ impl<'a> Input<'a> {
     }
 }
 
-/// Returns the batch that all of the bytes encode.
+/// Returns the batch whose encoding is exactly these bytes.
 fn decode(alloc: Global, version: u8, bytes: &[u8]) -> Result<Batch, CodecFault>
     ensures exact { AnswersDecoded content result (decoded batch version bytes.now) }
     ensures version { is_version version ≡ false → result ≡ Err bad_version }
@@ -54,8 +54,8 @@ fn decode(alloc: Global, version: u8, bytes: &[u8]) -> Result<Batch, CodecFault>
     }
 }
 
-/// Returns the batch that all of the bytes encode in a version of the grammar, 1 or 2 (docs/FORMATS.md,
-/// "Batches").
+/// Returns the batch whose encoding is exactly these bytes, in version 1 or 2 of the grammar
+/// (docs/FORMATS.md, "Batches").
 pub fn read_batch(alloc: Global, version: u8, bytes: &[u8]) -> Result<Batch, CodecFault>
     // The bytes are the encoding of the result.
     ensures found { IfOk result (λ b.
@@ -65,7 +65,7 @@ pub fn read_batch(alloc: Global, version: u8, bytes: &[u8]) -> Result<Batch, Cod
     ensures only { (first : ℕ) (taken : List Taken) → is_version version ≡ true →
         IsBatch version first taken → bytes.now ≡ (batch version).text (pair first taken)
         → AnswersDecoded content result (Ok (pair first taken)) }
-    // A wrong version is reported even if memory is short.
+    // A wrong version is reported even if memory runs out.
     ensures version { (result ≡ Err bad_version) ↔ (is_version version ≡ false) }
     // The fault and its place.
     ensures exact { AnswersDecoded content result (decoded batch version bytes.now) }
@@ -73,8 +73,8 @@ pub fn read_batch(alloc: Global, version: u8, bytes: &[u8]) -> Result<Batch, Cod
     decode(alloc, version, bytes)
 }
 
-/// Encodes a batch of 1 to 256 steps in a version; the first step has this number, from 1 to 2^40.
-/// In version 1 no packet may carry a distance.
+/// Encodes a batch of 1 to 256 steps in version 1 or 2. `first` is the number of the first step,
+/// from 1 to 2^40. In version 1 no packet may carry a distance.
 #[tactic(auto, using(std::proofs::Common::append_assoc), unfolding(crate::specs::Steps::batch, crate::specs::Steps::steps, crate::specs::Fields::from_one_to, crate::specs::Steps::how_many_steps))]
 pub fn write_batch(
     alloc: Global,

@@ -1,4 +1,4 @@
-//! The faults of bytes.
+//! The faults of bytes that cannot be decoded.
 
 ghost use Rattle.std.specs.Prelude.{◌≡◌, Some};
 ghost use Rattle.coord_batch.specs.Faults.{fault_text, fault_name, fault_number};
@@ -8,7 +8,7 @@ ghost use Rattle.coord_batch.specs.declared.fault.ReadError.TheVariants.{Memory}
 use std::alloc::{AllocError, AllocFailed};
 use std::fmt;
 
-/// The reason for which bytes were not decoded.
+/// The reason for which bytes could not be decoded.
 #[derive(Clone, Copy, Debug, PartialEq, Eq)]
 pub enum FaultKind {
     OutOfMemory,
@@ -18,7 +18,7 @@ pub enum FaultKind {
     BadByte,
     /// Bytes follow the complete value.
     Extra,
-    /// There is no version of the grammar with this number.
+    /// The grammar has no version with this number.
     BadVersion,
 }
 
@@ -57,9 +57,9 @@ impl fmt::Display for FaultKind {
     }
 }
 
-/// The first fault from the left, and its place: for `Short` the number of bytes, for
-/// `BadByte` the first byte of the field, for `Extra` the first byte after the complete value, for
-/// `BadVersion` 0. For `OutOfMemory` the place means nothing.
+/// The first fault from the left, and its place: for `Short` the number of bytes, for `BadByte` the
+/// first byte of the field, for `Extra` the first byte after the complete value, for `BadVersion`
+/// 0. For `OutOfMemory` the place has no meaning.
 #[derive(Clone, Copy, Debug, PartialEq, Eq)]
 pub struct CodecFault {
     pub kind: FaultKind,
@@ -67,7 +67,7 @@ pub struct CodecFault {
 }
 
 impl CodecFault {
-    /// There is no such version.
+    /// Returns the fault of a wrong version.
     pub fn bad_version() -> Self
         ensures { result ≡ bad_version }
     {
@@ -88,13 +88,13 @@ impl fmt::Display for CodecFault {
     }
 }
 
-/// A flaw of bytes that are read from the left. Its place is the number of remaining
-/// bytes.
+/// A flaw of bytes that are read from the left. It names the number of bytes that remain at its
+/// place.
 #[derive(Clone, Copy, Debug, PartialEq, Eq)]
 pub enum Flaw {
     /// The bytes end inside a field.
     Short,
-    /// A field that begins here is out of range or out of order.
+    /// The field that begins here is out of range or out of order.
     BadByte(usize),
     /// These bytes follow the complete value.
     Extra(usize),
@@ -109,22 +109,23 @@ pub enum ReadError {
 }
 
 impl ReadError {
-    /// A field that began where this many bytes remained is out of range or out of order.
+    /// Returns the error for a field that is out of range or out of order; `left` is the number of
+    /// bytes that remained where the field began.
     pub fn bad_byte(left: usize) -> Self
         ensures { result ≡ ReadError.Flaw (Flaw.BadByte left) }
     {
         ReadError::Flaw(Flaw::BadByte(left))
     }
 
-    /// This many bytes follow the complete value.
+    /// Returns the error for `left` bytes after the complete value.
     pub fn extra(left: usize) -> Self
         ensures { result ≡ ReadError.Flaw (Flaw.Extra left) }
     {
         ReadError::Flaw(Flaw::Extra(left))
     }
 
-    /// Returns the fault with its place, given the total number of bytes. There are never more remaining bytes than
-    /// that, so nothing saturates.
+    /// Returns the fault of this error, given the total number of bytes. The number of remaining
+    /// bytes never exceeds it, so the subtraction never saturates.
     pub fn placed(self, len: usize) -> CodecFault
         ensures { Places self len result }
     {

@@ -1,4 +1,4 @@
-//! Reads bytes from the left.
+//! Reads fields from bytes, from the left.
 
 ghost use Rattle.std.specs.Prelude.{◌≡◌, ◌≤◌, length, IfOk};
 ghost use Rattle.coord_batch.specs.Reading.{ReadsSpelled};
@@ -9,9 +9,9 @@ use crate::fault::{Flaw, ReadError};
 use coord_types::{Client, Group, Msg, NodeId, Version};
 use std::marker::Model;
 
-/// The bytes that are not read yet. Each method reads one field, like the format of the same name:
-/// it fails with `Short` if the bytes end inside the field, and with `BadByte` if the field's
-/// value is out of range. After an error the remaining bytes are unspecified.
+/// The bytes that are not read yet. Each method reads one field, in the format of the same name: it
+/// fails with `Short` if the bytes end inside the field, and with `BadByte` if the field's value is
+/// out of range. After an error the remaining bytes are unspecified.
 #[derive(Drop)]
 pub struct Input<'a> {
     rest: &'a [u8],
@@ -29,7 +29,7 @@ impl<'a> Model for Input<'a> {
 }
 
 impl<'a> Input<'a> {
-    /// Returns an input of all these bytes.
+    /// Returns an input with all these bytes unread.
     pub fn new(bytes: &'a [u8]) -> Self
         ensures { result ≡ bytes.now }
     {
@@ -112,7 +112,7 @@ impl<'a> Input<'a> {
         Client::new(number).ok_or(ReadError::bad_byte(left))
     }
 
-    /// Reads a distance: eight bytes, up to this one; in version 1 it has no bytes and is 0.
+    /// Reads a distance: eight bytes, at most `most`. In version 1 it takes no bytes and is 0.
     #[tactic(auto, unfolding(crate::specs::Fields::distance, crate::specs::Fields::unless))]
     pub fn distance(&mut self, version: Version, most: u64) -> Result<u64, ReadError>
         ensures { ReadsSpelled (λ x. x) result ((distance version most).read self.old) self.new }
@@ -123,7 +123,8 @@ impl<'a> Input<'a> {
         self.at_most(most)
     }
 
-    /// Reads a message: 0 Abort, with a distance up to this one, 1 Ack, 2 Ready.
+    /// Reads a message: 0 for an Abort, followed by a distance of at most `most`; 1 for an Ack; 2
+    /// for a Ready.
     #[tactic(auto, unfolding(crate::specs::Fields::message, crate::specs::Fields::message_case))]
     pub fn message(&mut self, version: Version, most: u64) -> Result<Msg, ReadError>
         ensures { ReadsSpelled (λ x. x) result ((message version most).read self.old) self.new }
@@ -150,7 +151,7 @@ impl<'a> Input<'a> {
         Ok(number)
     }
 
-    /// Reads a number of eight bytes, up to this one.
+    /// Reads a number of eight bytes, at most `most`.
     #[tactic(auto, unfolding(crate::specs::Fields::at_most))]
     pub fn at_most(&mut self, most: u64) -> Result<u64, ReadError>
         ensures { ReadsSpelled (λ x. x) result ((at_most most).read self.old) self.new }
@@ -163,7 +164,7 @@ impl<'a> Input<'a> {
         Ok(number)
     }
 
-    /// Reads a number of eight bytes, from 1 up to this one.
+    /// Reads a number of eight bytes, from 1 to `most`.
     #[tactic(auto, unfolding(crate::specs::Fields::from_one_to))]
     pub fn from_one_to(&mut self, most: u64) -> Result<u64, ReadError>
         ensures { ReadsSpelled (λ x. x) result ((from_one_to most).read self.old) self.new }
@@ -176,7 +177,7 @@ impl<'a> Input<'a> {
         Ok(number)
     }
 
-    /// Reads the number of items: a byte up to this number.
+    /// Reads the number of items: a byte, at most `most`.
     #[tactic(auto, unfolding(crate::specs::Fields::how_many))]
     pub fn how_many(&mut self, most: u8) -> Result<u8, ReadError>
         ensures read { ReadsSpelled (λ x. x) result ((how_many most).read self.old) self.new }

@@ -3,32 +3,32 @@
 ghost use Rattle.coord_batch.specs.WorkedBytes.{WorkedBytes};
 ghost use Rattle.coord_batch.specs.Laws.{BatchesArePrefixFree, BytesBehindBatchesAreExtra, CutBatchesAreShort, StepsArePrefixFree};
 
-/// No encoding of a step is a prefix of another one's.
+/// No encoding of a step is a prefix of the encoding of another step.
 #[tactic(auto, using(crate::proofs::SpellingLaws::steps_prefix_free))]
 pub fn steps_are_prefix_free()
     ensures { StepsArePrefixFree }
 {}
 
-/// No encoding of a batch is a prefix of another one's.
+/// No encoding of a batch is a prefix of the encoding of another batch.
 #[tactic(auto, using(crate::proofs::SpellingLaws::batches_prefix_free))]
 pub fn batches_are_prefix_free()
     ensures { BatchesArePrefixFree }
 {}
 
-/// A truncated encoding of a batch is `Short`, at its own length.
+/// A truncated encoding of a batch is refused as `Short`, at its own length.
 #[tactic(auto, using(crate::proofs::SpellingLaws::cut_batches_short))]
 pub fn cut_batches_are_short()
     ensures { CutBatchesAreShort }
 {}
 
-/// An encoding of a batch followed by more bytes is `Extra`, at the first of these.
+/// An encoding of a batch followed by more bytes is refused as `Extra`, at the first of them.
 #[tactic(auto, using(crate::proofs::SpellingLaws::more_batches_extra))]
 pub fn bytes_behind_batches_are_extra()
     ensures { BytesBehindBatchesAreExtra }
 {}
 
-/// Worked examples: the encodings of a batch of one order and of a packet; changed bytes give the faults
-/// that they should give.
+/// Worked examples: the encodings of a batch of one order and of a packet, and the faults that
+/// changed bytes give.
 pub fn worked_bytes()
     ensures { WorkedBytes }
 {}

@@ -11,7 +11,7 @@ use coord_types::{Command, DataPacket, MAX_BATCH_STEPS, ReceiptPacket, Step, Ver
 use std::alloc::Global;
 
 impl<'a> Input<'a> {
-    /// Reads a command: the byte of its form, and its nodes and numbers.
+    /// Reads a command: a byte for its form, and its nodes and numbers.
     #[tactic(auto, unfolding(crate::specs::Steps::command, crate::specs::Steps::command_case))]
     pub fn command(&mut self) -> Result<Command, ReadError>
         ensures { ReadsSpelled (λ x. x) result (command.read self.old) self.new }

@@ -11,7 +11,7 @@ ghost use Rattle.coord_batch.specs.Batches.{StepFits, IsWritable};
 use coord_types::{Command, DataPacket, Msg, NodeId, ReceiptPacket, Step, Version};
 use std::alloc::AllocError;
 
-/// Returns the byte of a command's form, and its first node.
+/// Appends the byte of a command's form, and its first node.
 fn put_form(out: &mut Vec<u8>, form: u8, id: NodeId) -> Result<(), AllocError>
     ensures ok { OnOk result (out.new.items ≡ out.old.items ++ form ∷ id ∷ []) }
     ensures fits { OnOk result (IsNode id) }
@@ -67,7 +67,7 @@ fn put_address(
     Ok(())
 }
 
-/// Returns the byte of a message.
+/// Returns the byte that names a message.
 fn message_byte(msg: Msg) -> u8
     ensures { result ≡ message_tag msg }
 {
@@ -78,8 +78,7 @@ fn message_byte(msg: Msg) -> u8
     }
 }
 
-/// Appends a message's encoding: its byte, and in version 2 an Abort's distance. In version 1
-/// an Abort carries none.
+/// Appends a message's encoding: its byte, and in version 2 the distance of an Abort.
 #[tactic(auto, unfolding(crate::specs::Fields::message, crate::specs::Fields::message_case, crate::specs::Fields::distance, crate::specs::Fields::unless, crate::specs::Fields::at_most))]
 pub fn put_message(out: &mut Vec<u8>, version: Version, msg: Msg) -> Result<(), AllocError>
     ensures spelled { (most : ℕ) →

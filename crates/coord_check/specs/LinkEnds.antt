@@ -1,4 +1,4 @@
--- The data that the code reads from one end of a link, and the link with two such ends.
+-- The data that the code reads from one end of a link, and the link made of two such ends.
 use Rattle.std.specs.Prelude.{ℕ, Bool, true, false, List, Option, Some, None}
 use Rattle.coord_types.specs.NodeSet as set
 use Rattle.coord_types.specs.declared.messages.Msg.{Msg}
@@ -8,25 +8,25 @@ use Rattle.coord_node.specs.Rules.{carries, is_parent}
 use Rattle.coord_world.specs.Facade.{End, Link, World, aborts, acks, lane_at, readies, state}
 use Rattle.coord_check.specs.declared.link_end.LinkEnd.{LinkEnd}
 
--- a message is of a kind, whatever it carries
+-- whether a message is of this kind, whatever distance it carries
 abbrev pub is_of_kind : Msg → Msg → Bool
 is_of_kind (msg.Abort k) (msg.Abort d) = true
 is_of_kind msg.Ack msg.Ack = true
 is_of_kind msg.Ready msg.Ready = true
 is_of_kind m n = false
 
--- the number of messages of a kind
+-- the number of messages of this kind
 abbrev pub count : Msg → List Msg → ℕ
 count (msg.Abort k) ms = aborts ms
 count msg.Ack ms = acks ms
 count msg.Ready ms = readies ms
 
--- the lane, or an empty one if it is absent
+-- the lane, or a new one if it is absent
 abbrev pub lane_or_none : Option Lane → Lane
 lane_or_none None = new_lane 0
 lane_or_none (Some l) = l
 
--- u's end of its link to v
+-- the data at u about its link to v
 abbrev pub link_end : World → ℕ → ℕ → LinkEnd
 link_end w u v = record {
   mode = (state w u).mode;
@@ -40,6 +40,6 @@ link_end w u v = record {
 abbrev pub end_at : LinkEnd → End
 end_at s = record { mode = s.mode; awaits = s.awaits; child = s.child; distance = s.distance; carries = s.carries }
 
--- the link with these ends, seen from the first one
+-- the link with these two ends, seen from the first one
 abbrev pub seen : LinkEnd → LinkEnd → Link
 seen here there = record { here = end_at here; there = end_at there; out = transit here.lane; back = transit there.lane }

@@ -15,6 +15,6 @@ letter_name letter.F = codes "F"
 letter_name letter.G = codes "G"
 letter_name letter.H = codes "H"
 
--- the two nodes, and the letter that fails there
+-- the two nodes, and the letter of the predicate that fails
 abbrev pub violation_text : Violation → List ℕ
 violation_text v = decimal v.a ++ (codes " " ++ (decimal v.b ++ (codes " " ++ letter_name v.letter)))

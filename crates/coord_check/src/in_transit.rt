@@ -6,7 +6,7 @@ ghost use Rattle.coord_check.specs.LinkEnds.{count, is_of_kind};
 
 use coord_types::Msg;
 
-/// Returns the number of messages of a kind in transit.
+/// Returns the number of messages in transit that are of this kind.
 pub(crate) fn count_of(messages: &[Msg], kind: Msg) -> usize
     ensures { result ≡ count kind messages.now }
 {
@@ -19,7 +19,7 @@ pub(crate) fn count_of(messages: &[Msg], kind: Msg) -> usize
     many
 }
 
-/// Tests whether a message is of this kind, whatever it carries.
+/// Tests whether a message is of this kind, whatever distance it carries.
 fn is_of_kind(msg: Msg, kind: Msg) -> bool
     ensures { result ≡ is_of_kind msg kind }
 {
@@ -29,7 +29,7 @@ fn is_of_kind(msg: Msg, kind: Msg) -> bool
     }
 }
 
-/// Returns the number of Aborts that carry a different distance.
+/// Returns the number of Aborts that carry a distance other than `carried`.
 pub(crate) fn strays_of(messages: &[Msg], carried: u64) -> usize
     ensures { result ≡ strays carried messages.now }
 {

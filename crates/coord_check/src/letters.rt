@@ -1,4 +1,4 @@
-//! The predicates over a link, one function each, seen from one of its ends.
+//! The predicates over a link, one function for each, seen from one end of the link.
 
 ghost use Rattle.std.specs.Prelude.{◌≡◌};
 ghost use Rattle.coord_link.specs.LaneMachine.{has_front_taken_at_most};
@@ -12,12 +12,13 @@ use crate::violation::Letter;
 use coord_link::Lane;
 use coord_types::{Mode, Msg};
 
-/// Tests whether a letter holds for the link with these ends, seen from `here`.
+/// Tests whether the predicate with this letter holds for the link with these ends, seen from
+/// `here`.
 pub(crate) fn holds(letter: Letter, here: &LinkEnd, there: &LinkEnd) -> bool
     ensures { result ≡ holds_of letter here.now.lane (seen here.now there.now) }
 {
     match letter {
-        // a node's alone
+        // N concerns only nodes.
         Letter::N => true,
         Letter::A => has_front_taken_at_most(&here.lane),
         Letter::B => has_ack_in_one_place(here, there),

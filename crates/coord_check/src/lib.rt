@@ -1,12 +1,12 @@
-//! The checker of worlds: it reports whether a world is legal, or else the first predicate that fails, in a
-//! stated order.
+//! The checker of worlds: it reports whether a world is legal, or else the first predicate that
+//! fails, in a stated order.
 //!
-//! coord_world defines legality: the node predicate N in `specs/protocol/Legal.antt`, A to H over a
-//! link in `specs/protocol/Links.antt` and coord_link's lane machine, each as a separate test.
-//! `specs/Faults.antt` lists every place where one of these tests fails, in the order in which
-//! `check` reports them. The main theorem is the contract of [`check`]: it returns None exactly if
-//! the world is legal, and else the first fault of that list, whose letter fails at the reported
-//! place.
+//! coord_world defines legality: the predicate N over a node in `specs/protocol/Legal.antt`, the
+//! predicates A to H over a link in `specs/protocol/Links.antt` and in coord_link's lane machine,
+//! each as a separate test. `specs/Faults.antt` lists every place where one of these tests fails,
+//! in the order in which `check` reports them. The main theorem is the contract of [`check`]: it
+//! returns None if and only if the world is legal, and otherwise the first fault of that list,
+//! whose letter fails at the reported place.
 #![tactic(auto)]
 
 mod in_transit;

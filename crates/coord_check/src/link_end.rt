@@ -9,22 +9,22 @@ use coord_link::Lane;
 use coord_types::{Mode, NodeId};
 use coord_world::World;
 
-/// One end of a link: its node's data about the other end, and the lane from it.
+/// One end of a link: what its node stores about the other end, and the lane to it.
 #[derive(Drop)]
 pub(crate) struct LinkEnd {
     pub mode: Mode,
-    /// Whether it awaits the other end.
+    /// Whether the node awaits an acknowledgement from the other end.
     pub awaits: bool,
-    /// Whether the other end is its parent.
+    /// Whether the other end is the node's parent.
     pub child: bool,
     pub distance: u64,
-    /// The distance that an Abort from it carries.
+    /// The distance that an Abort from the node carries.
     pub carries: u64,
     pub lane: Lane,
 }
 
 impl LinkEnd {
-    /// Returns the end of a link at `from`; None if there is no link.
+    /// Returns the end at `from` of its link to `to`, or None if there is no link.
     pub fn of(world: &World, from: NodeId, to: NodeId) -> Option<LinkEnd>
         requires { InRange world.now }
         ensures linked { is_linked world.now from to ≡ is_some result }

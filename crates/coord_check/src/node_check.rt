@@ -6,7 +6,7 @@ ghost use Rattle.coord_world.specs.protocol.Legal.{awaits_rightly, has_right_par
 use coord_node::Node;
 use coord_types::{Mode, NodeId, NodeSet};
 
-/// Tests the predicate N for a node, in a world with this many steps.
+/// Tests the predicate N for a node, in a world that has taken `count` steps.
 pub(crate) fn is_legal_node(node: &Node, count: u64) -> bool
     ensures { result ≡ is_legal_node count node.now }
 {
@@ -20,7 +20,7 @@ pub(crate) fn is_legal_node(node: &Node, count: u64) -> bool
         && is_distance_right(node.mode(), node.distance(), count)
 }
 
-/// Tests whether a node awaits somebody exactly if it is Abort.
+/// Tests whether a node awaits acknowledgements if and only if it is in Abort.
 fn awaits_rightly(mode: Mode, pend: NodeSet) -> bool
     ensures { result ≡ awaits_rightly mode pend }
 {
@@ -38,7 +38,8 @@ fn has_right_parent(mode: Mode, parent: Option<NodeId>) -> bool
     }
 }
 
-/// Tests whether a Ready node has distance 0, and any other node a distance below the count of steps.
+/// Tests whether a Ready node has distance 0, and any other node a distance below the number of
+/// steps.
 fn is_distance_right(mode: Mode, distance: u64, count: u64) -> bool
     ensures { result ≡ is_distance_right mode distance count }
 {
@@ -48,7 +49,7 @@ fn is_distance_right(mode: Mode, distance: u64, count: u64) -> bool
     }
 }
 
-/// Tests whether a parent is a neighbour that is not awaited.
+/// Tests whether the parent, if any, is a neighbour that the node does not await.
 fn is_parent_near(parent: Option<NodeId>, pend: NodeSet, neighbours: NodeSet) -> bool
     ensures { result ≡ is_parent_near parent pend neighbours }
 {

@@ -1,4 +1,4 @@
-//! Searches for the first fault.
+//! Searches for the first fault of a world.
 
 ghost use Rattle.std.specs.Prelude.{◌≡◌, ◌↔◌, IsNone, IfSome, [], nat_lt, if◌then◌else◌};
 ghost use Rattle.std.specs.List.{flat_map};
@@ -14,7 +14,7 @@ use crate::violation::{Letter, Violation};
 use coord_types::{END_OF_NODES, NodeId, NodeSet};
 use coord_world::World;
 
-/// The letters of links, in the order in which they are tested.
+/// The letters of the predicates over links, in the order in which they are tested.
 const LINK_LETTERS: [Letter; 8] = [
     Letter::A,
     Letter::B,
@@ -26,9 +26,9 @@ const LINK_LETTERS: [Letter; 8] = [
     Letter::H,
 ];
 
-/// Returns the first fault of a world; None if it is legal. Nodes come first, in ascending order. Then
-/// come the links, in ascending order of their lesser and then their greater end: for each link the
-/// letters from A to H, each seen from the lesser end and then from the greater one.
+/// Returns the first fault of a world, or None if it is legal. Nodes are tested first, in ascending
+/// order. Then come the links, in ascending order of their lesser and then their greater end: for
+/// each link the letters from A to H, each seen from the lesser end and then from the greater one.
 pub fn check(world: &World) -> Option<Violation>
     ensures first { result ≡ first (faults world.now) }
     ensures legal { IsNone result ↔ Legal world.now }
@@ -104,7 +104,8 @@ fn neighbours_of(world: &World, a: NodeId) -> NodeSet
     }
 }
 
-/// Returns the first fault of a link to a node with a greater number; None if that number is lesser.
+/// Returns the first fault of the link from `a` to a node with a greater number, or None if `b` is
+/// not greater.
 fn first_of_link_up(world: &World, a: NodeId, b: NodeId) -> Option<Violation>
     requires { InRange world.now }
     ensures { result ≡ first (if nat_lt a b then link_faults world.now a b else []) }

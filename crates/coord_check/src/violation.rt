@@ -1,4 +1,4 @@
-//! The report about a world that is not legal.
+//! The fault that the checker reports for a world that is not legal.
 
 ghost use Rattle.std.specs.Prelude.{◌≡◌};
 ghost use Rattle.coord_check.specs.Names.{letter_name};
@@ -6,16 +6,16 @@ ghost use Rattle.coord_check.specs.Names.{letter_name};
 use coord_types::NodeId;
 use std::fmt;
 
-/// The predicate that fails: `N` concerns one node, the others a link, seen from one end.
+/// The predicate that fails. `N` concerns one node; the others concern a link, seen from one end.
 #[derive(Clone, Copy, Debug, PartialEq, Eq)]
 pub enum Letter {
     /// The node's mode, parent, awaited neighbours and epochs agree.
     N,
-    /// At most the front of a lane was taken.
+    /// Of the messages in the queue, the other end has taken none, or only the front.
     A,
-    /// If an end awaits the other, exactly one of these represents the acknowledgement that will
-    /// come: an Abort in transit to the other end, the other end in Abort as its child, or an Ack in transit
-    /// back. If it does not await the other, there is none of these.
+    /// If an end awaits the other, exactly one of these three holds: an Abort is in transit to the
+    /// other end, the other end is in Abort and its parent is this end, or an Ack is in transit
+    /// back. If it does not await the other, none of the three holds.
     B,
     /// At most one Ready is in transit.
     C,
@@ -29,12 +29,12 @@ pub enum Letter {
     /// same lane.
     G,
     /// An Abort carries its sender's distance plus one. A child has exactly that distance, until a
-    /// Ready from its parent is in transit. In version 1 all distances are 0, and H always holds.
+    /// Ready from its parent is in transit. In version 1 all distances are 0, so H always holds.
     H,
 }
 
 impl Letter {
-    /// Returns the printed letter.
+    /// Returns the letter as printed.
     pub fn name(self) -> &'static str
         ensures { result.now ≡ letter_name self }
     {
@@ -62,7 +62,8 @@ impl fmt::Display for Letter {
     }
 }
 
-/// A fault: the letter that fails at node `a`, or at its link to `b`; for a node, both are the node.
+/// A fault: the letter that fails at node `a`, or at its link to `b`. For N, `a` and `b` are the
+/// same node.
 #[derive(Clone, Copy, Debug, PartialEq, Eq)]
 pub struct Violation {
     pub a: NodeId,

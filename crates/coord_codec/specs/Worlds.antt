@@ -19,7 +19,7 @@ use Rattle.coord_batch.specs.Facade.{at_most, client, command, distance, from_on
 
 -- ---- fields
 
--- 0 Ready, 1 Abort, 2 Converge
+-- a mode: 0 Ready, 1 Abort, 2 Converge
 unfoldable pub mode : Format Mode
 mode = made mode_from mode_number (such_that (λ n. nat_lt n 3) byte)
 
@@ -31,11 +31,11 @@ abbrev pub parent_number : Option ℕ → ℕ
 parent_number None = 0
 parent_number (Some p) = p
 
--- 0 for none, else the node
+-- a parent: 0 for none, otherwise the node's number
 unfoldable pub parent : Format (Option ℕ)
 parent = made parent_from parent_number (such_that (λ n. nat_le n MAX_NODES) byte)
 
--- node k is bit k - 1
+-- a set of nodes, as a mask: node k is bit k - 1
 unfoldable pub mask : Format NodeSet
 mask = made nodes_of mask_of u64
 
@@ -52,18 +52,18 @@ kind_number kinds.Finished = 2
 kind_number kinds.Joined = 3
 kind_number k = 4
 
--- 0 Done, 1 Started, 2 Finished, 3 Joined, if the command may get this reply
+-- the kind of a reply: 0 Done, 1 Started, 2 Finished, 3 Joined; only a kind that the command can get is valid
 unfoldable pub kind : Command → Format Kind
 kind x = such_that (answers x) (made kind_from kind_number (such_that (λ n. nat_lt n 4) byte))
 
 -- ---- nodes
 
--- the key of the last row, or a default if there is none
+-- the key of the last row, or `last` if there is no row
 abbrev pub last_by : {A K : Type 0} → (A → K) → K → List A → K
 last_by key last [] = last
 last_by key last (x ∷ xs) = last_by key (key x) xs
 
--- the maximum distance of a node: 0 if it is Ready
+-- the maximum distance of a node: 0 if it is Ready, otherwise the number of steps
 abbrev pub most_distance : Mode → ℕ → ℕ
 most_distance Ready count = 0
 most_distance Abort count = count
@@ -85,18 +85,18 @@ same_group None o = false
 same_group (Some g) None = false
 same_group (Some g) (Some h) = g == h
 
--- both are nodes of one group with room for a link
+-- whether both ends are nodes of one group, each with room for another link
 abbrev pub can_link : List NodeRow → List LinkRow → ℕ × ℕ → Bool
 can_link nodes front e = same_group (group_of nodes e.0) (group_of nodes e.1) && (nat_lt (degree e.0 front) MAX_DEGREE && nat_lt (degree e.1 front) MAX_DEGREE)
 
 abbrev pub last_ends : List LinkRow → ℕ × ℕ
 last_ends front = last_by (λ r. (r.a, r.b)) (0, 0) front
 
--- a is not below the lesser end of the last link
+-- whether a link whose lesser end is a may follow these links: a is not below the lesser end of the last one
 abbrev pub first_rises : List LinkRow → ℕ → Bool
 first_rises front a = nat_le (last_ends front).0 a
 
--- above its lesser end, and above the last link
+-- whether a link from a to b may follow these links: b is above a, and the link is above the last one
 abbrev pub second_rises : List LinkRow → ℕ → ℕ → Bool
 second_rises front a b = nat_lt a b && (not (a == (last_ends front).0) || nat_lt (last_ends front).1 b)
 
@@ -105,11 +105,11 @@ ends nodes front =
     such_that (can_link nodes front)
     (followed (such_that (first_rises front) node) (λ a. such_that (second_rises front a) node))
 
--- oldest first
+-- a lane's queue, oldest message first
 unfoldable pub queue : ℕ → ℕ → Format (List Msg)
 queue version count = counted (how_many PLACES) (λ _. message version count)
 
--- the fields of a lane besides its link's incarnation: base, got and queue
+-- the fields of a lane except its incarnation, which is that of its link: base, got and queue
 abbrev pub content_of_lane : Lane → ℕ × (ℕ × List Msg)
 content_of_lane l = (l.base, (l.got, l.queue))
 

@@ -7,19 +7,19 @@ pub use coord_batch::laws::{
     steps_are_prefix_free, worked_bytes,
 };
 
-/// No encoding of a world is a prefix of another one's.
+/// No encoding of a world is a prefix of the encoding of another world.
 #[tactic(auto, using(crate::proofs::WorldGrammars::worlds_prefix_free))]
 pub fn worlds_are_prefix_free()
     ensures { WorldsArePrefixFree }
 {}
 
-/// A truncated encoding of a world is `Short`, at its own length.
+/// A truncated encoding of a world is refused as `Short`, at its own length.
 #[tactic(auto, using(crate::proofs::WorldGrammars::cut_worlds_short))]
 pub fn cut_worlds_are_short()
     ensures { CutWorldsAreShort }
 {}
 
-/// An encoding of a world followed by more bytes is `Extra`, at the first of these.
+/// An encoding of a world followed by more bytes is refused as `Extra`, at the first of them.
 #[tactic(auto, using(crate::proofs::WorldGrammars::more_worlds_extra))]
 pub fn bytes_behind_worlds_are_extra()
     ensures { BytesBehindWorldsAreExtra }

@@ -1,14 +1,14 @@
-//! Worlds as bytes: the content of a snapshot. Batches are in coord_batch.
+//! Worlds, encoded as bytes: the content of a snapshot. (coord_batch encodes batches.)
 //!
 //! `specs/Worlds.antt` is the grammar of worlds, in the language of formats of coord_batch, over
-//! the rows of a world (`Rows` of coord_world). Each row's format depends on the rows before it,
-//! so that order, ends, groups and degrees are checked while they are read.
+//! the rows of a world (`Rows` of coord_world). Each row's format depends on the rows before it, so
+//! order, ends, groups and degrees are checked during reading.
 //!
-//! The main theorems are the contracts of `write_world`, which returns the unique encoding of a world,
-//! and of `read_world`, which accepts exactly the encodings: its world is in its ranges, and need not
-//! be legal. The functions of `laws` state the laws (`specs/Laws.antt`): no encoding is a prefix of
-//! another one, a truncated encoding is `Short` at its length, and one followed by more bytes is
-//! `Extra` there.
+//! The main theorems are the contracts of `write_world`, which returns the unique encoding of a
+//! world, and of `read_world`, which accepts exactly the encodings: the world that it returns is in
+//! its ranges, but need not be legal. The functions of `laws` state the laws (`specs/Laws.antt`):
+//! no encoding is a prefix of another one, a truncated encoding is `Short` at its length, and one
+//! followed by more bytes is `Extra` there.
 #![tactic(auto)]
 
 pub mod laws;

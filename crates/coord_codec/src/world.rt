@@ -1,4 +1,4 @@
-//! Worlds as bytes.
+//! Worlds, encoded as bytes.
 
 ghost use Rattle.std.specs.Prelude.{◌≡◌, false, ◌↔◌, ◌≤◌, ◌++◌, length, Ok, Err, IfOk, OnOk};
 ghost use Rattle.coord_world.specs.protocol.NumberedWorld.{World as Numbered};
@@ -16,14 +16,14 @@ use coord_types::{MAX_SNAPSHOT_BYTES, Version};
 use coord_world::{Parts, World};
 use std::alloc::{AllocError, Global};
 
-/// The number of bytes of the longest legal world: the count of its steps and three lengths, 64 nodes of 28
-/// bytes, 128 links of 52 and 16 clients of 28; in version 2 also a distance for each node, and for
-/// 2 Aborts in each direction of each link.
+/// The length of the longest legal world, in bytes: the step count and three numbers of rows, 64
+/// nodes of 28 bytes, 128 links of 52 bytes and 16 clients of 28 bytes; in version 2 also a
+/// distance of 8 bytes for each node and for 2 Aborts in each direction of each link.
 fn most_world_bytes(version: Version) -> usize {
     if version.number() == 1 { 8_907 } else { 13_515 }
 }
 
-/// Returns the rows that all of the bytes encode.
+/// Returns the rows whose encoding is exactly these bytes.
 fn decode(alloc: Global, version: u8, bytes: &[u8]) -> Result<Parts, CodecFault>
     ensures exact { AnswersDecoded (λ p. listed p) result (decoded world version bytes.now) }
     ensures version { is_version version ≡ false → result ≡ Err bad_version }
@@ -40,7 +40,7 @@ fn decode(alloc: Global, version: u8, bytes: &[u8]) -> Result<Parts, CodecFault>
     }
 }
 
-/// Returns the world with these rows.
+/// Returns the world whose encoding is exactly these bytes, or the fault.
 fn assembled(alloc: Global, version: u8, bytes: &[u8]) -> Result<World, CodecFault>
     ensures exact { AnswersDecoded rows_of result (decoded world version bytes.now) }
     ensures version { is_version version ≡ false → result ≡ Err bad_version }
@@ -53,8 +53,8 @@ fn assembled(alloc: Global, version: u8, bytes: &[u8]) -> Result<World, CodecFau
     }
 }
 
-/// Returns the world that all of the bytes encode in a version of the grammar, 1 or 2 (docs/FORMATS.md,
-/// "Worlds"). It need not be legal.
+/// Returns the world whose encoding is exactly these bytes, in version 1 or 2 of the grammar
+/// (docs/FORMATS.md, "Worlds"). The world need not be legal.
 pub fn read_world(alloc: Global, version: u8, bytes: &[u8]) -> Result<World, CodecFault>
     // The bytes are the encoding of the result.
     ensures found { IfOk result (λ w. (w.version ≡ version) × InRange w ×
@@ -63,7 +63,7 @@ pub fn read_world(alloc: Global, version: u8, bytes: &[u8]) -> Result<World, Cod
     ensures only { (w : Numbered) → w.version ≡ version → InRange w →
         bytes.now ≡ (world version).text (rows_of w)
         → AnswersDecoded (λ v. v) result (Ok w) }
-    // A wrong version is reported even if memory is short.
+    // A wrong version is reported even if memory runs out.
     ensures version { (result ≡ Err bad_version) ↔ (is_version version ≡ false) }
     // The fault and its place.
     ensures exact { AnswersDecoded rows_of result (decoded world version bytes.now) }
@@ -76,7 +76,7 @@ pub fn write_world(alloc: Global, written: &World) -> Result<Vec<u8>, AllocError
     ensures spelled { IfOk result (λ v. v.items ≡
         (world written.now.version).text (rows_of written.now)) }
     ensures len { Legal written.now → IfOk result (λ v. length v.items ≤ MAX_SNAPSHOT_BYTES) }
-    // 13,515 bytes, so that a snapshot has room for each legal world.
+    // At most 13,515 bytes, so a snapshot has room for each legal world.
     ensures most { Legal written.now → IfOk result (λ v. length v.items ≤ most_bytes) }
 {
     written.lemma_in_range();

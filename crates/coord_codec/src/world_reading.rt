@@ -84,7 +84,7 @@ fn read_node_row(
     })
 }
 
-/// Returns the maximum distance of a node: 0 if it is Ready.
+/// Returns the maximum distance of a node: 0 if it is Ready, otherwise the number of steps.
 fn most_distance(mode: Mode, count: u64) -> u64
     ensures { result ≡ most_distance mode count }
 {
@@ -159,7 +159,7 @@ fn read_queue(
     read_messages(input, version, most, lane, count)
 }
 
-/// Reads a lane of this incarnation.
+/// Reads a lane with this incarnation.
 #[tactic(auto, unfolding(crate::specs::Worlds::lane))]
 fn read_lane(input: &mut Input, version: Version, count: u64, inc: u64) -> Result<Lane, ReadError>
     ensures read { ReadsSpelled content_of_lane result ((lane version count).read input.old) input.new }
@@ -191,7 +191,7 @@ fn read_link_row(
     Ok(LinkRow { a, b, forth, back })
 }
 
-/// Reads the kind of a reply that the command may get.
+/// Reads the kind of a reply, which must be one that the command can get.
 #[tactic(auto, unfolding(crate::specs::Worlds::kind))]
 fn read_kind(input: &mut Input, order: &Command) -> Result<Kind, ReadError>
     ensures { ReadsSpelled (λ x. x) result ((kind order.now).read input.old) input.new }
@@ -211,7 +211,7 @@ fn read_kind(input: &mut Input, order: &Command) -> Result<Kind, ReadError>
 }
 
 #[tactic(auto, unfolding(crate::specs::Worlds::client_row))]
-/// Reads the row of a client after these, the last of which has this number, or 0.
+/// Reads the row of the next client. `last` is the number of the client before it, or 0.
 fn read_client_row(input: &mut Input, count: u64, last: u8) -> Result<ClientRow, ReadError>
     ensures { (front : List ClientRow) → last ≡ last_by (λ r. r.client) 0 front
         → ReadsSpelled (λ x. x) result ((client_row count front).read input.old) input.new }

@@ -20,10 +20,10 @@ use coord_types::{Identifier, Kind, Mode, Msg, NodeId, Session, Version};
 use coord_world::{LinkRow, World};
 use std::alloc::AllocError;
 
-/// An entry of a world's table, such as a node or a client's last order: it is encoded as
-/// a row.
+/// An entry of one of a world's tables, such as a node or a client's last order. It is encoded as a
+/// row.
 trait Row: Copy {
-    /// The bytes of its row in a version, with its number.
+    /// The encoding of the entry's row, given the version and the entry with its number.
     ghost text: { ℕ → ℕ × Self → List ℕ };
 
     fn put(&self, out: &mut Vec<u8>, version: Version, number: u8) -> Result<(), AllocError>
@@ -59,7 +59,7 @@ fn mode_byte(mode: Mode) -> u8
     }
 }
 
-/// Returns the byte of a kind of reply. Only replies to orders have one.
+/// Returns the byte of a kind of reply. Only kinds of replies to orders have one.
 fn kind_byte(kind: Kind) -> u8
     ensures { result ≡ kind_number kind }
 {
@@ -72,7 +72,7 @@ fn kind_byte(kind: Kind) -> u8
     }
 }
 
-/// Returns the byte of a parent, 0 for none.
+/// Returns the byte of a parent: its number, or 0 for none.
 fn parent_byte(parent: Option<NodeId>) -> u8
     ensures { result ≡ parent_number parent }
 {
@@ -82,7 +82,7 @@ fn parent_byte(parent: Option<NodeId>) -> u8
     }
 }
 
-/// Returns the first bytes of a node's row.
+/// Appends the first bytes of a node's row.
 fn put_node_bytes(out: &mut Vec<u8>, number: u8, node: &Node) -> Result<(), AllocError>
     ensures { OnOk result (out.new.items ≡ out.old.items
         ++ number ∷ node.now.group ∷ mode_number node.now.mode ∷ parent_number node.now.parent ∷
@@ -194,7 +194,7 @@ fn put_client_row(
     Ok(())
 }
 
-/// Appends the row of a number, if it has an entry.
+/// Appends the row of the entry with this number, if there is one.
 fn put_row<const MOST: u8, R: Row>(
     out: &mut Vec<u8>,
     version: Version,

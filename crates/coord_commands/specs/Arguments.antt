@@ -1,4 +1,4 @@
--- The request of the program's arguments.
+-- The request that the program's arguments make.
 use Rattle.std.specs.Prelude.{ℕ, ◌==◌, length, List, codes, bytes_eq, Option, Some, None, true, if◌then◌else◌, option_and_then, option_map}
 use Rattle.clap.specs.Words.{App, Row, Rule, Text, first_of, new_app, new_rule, subcommand_of, with_rule, with_subcommand}
 use Rattle.clap.specs.Simple.{on_top}
@@ -6,7 +6,7 @@ use Rattle.clap.specs.declared.builder.action.ArgAction.TheVariants.{Set}
 use Rattle.coord_commands.specs.declared.arguments.Task.{Task}
 use Rattle.coord_commands.specs.declared.arguments.Task.TheVariants as task
 
--- the request, with the arguments after the command's name
+-- the requested command, with the arguments after its name
 pub data AskedCommand : Type 0 where
   drill : AskedCommand
   check : Text → AskedCommand
@@ -15,7 +15,7 @@ pub data AskedCommand : Type 0 where
   init : Text → Text → AskedCommand
   serve : Text → Text → AskedCommand
 
--- the request of a task
+-- what a task requests
 abbrev pub asked_of : Task → AskedCommand
 asked_of task.Drill = drill
 asked_of (task.Check file) = check file.now
@@ -24,7 +24,7 @@ asked_of (task.Migrate file) = migrate file.now
 asked_of (task.Init file topology) = init file.now topology.now
 asked_of (task.Serve file address) = serve file.now address.now
 
--- the number of arguments, including the program's name
+-- the number of arguments that this command takes, including the program's name
 abbrev pub arguments_for : AskedCommand → ℕ
 arguments_for drill = 2
 arguments_for (check file) = 3
@@ -33,11 +33,11 @@ arguments_for (migrate file) = 3
 arguments_for (init file topology) = 4
 arguments_for (serve file address) = 4
 
--- the request, if the number of arguments is the one that the command takes
+-- the request; None if the number of arguments differs from what the command takes
 abbrev pub in_arguments : ℕ → AskedCommand → Option AskedCommand
 in_arguments count asked = if arguments_for asked == count then Some asked else None
 
--- the request of a command with a file and, if it has one, a second argument
+-- the request of a command with a file and, for some commands, a second argument
 abbrev pub asked_of_file : Text → Text → List Row → Option AskedCommand
 asked_of_file name file rows =
     if bytes_eq name (codes "check") then Some (check file)
@@ -57,7 +57,7 @@ asked_of_name name rows =
 abbrev pub argument_named : Text → Rule
 argument_named id = record (new_rule id) { action = Some Set; required = true }
 
--- the command-line grammar given to `clap`: arguments that it refuses are no request
+-- the command-line grammar given to `clap`; arguments that it rejects make no request
 abbrev pub resetd : App
 resetd =
     with_subcommand
@@ -71,7 +71,7 @@ resetd =
     (with_rule (with_rule (new_app (codes "serve")) (argument_named (codes "file"))) (argument_named (codes "address"))).top)
     (with_rule (new_app (codes "migrate")) (argument_named (codes "file"))).top
 
--- The request of the arguments, the first of which is the program's own name: that of the command that `clap` finds
--- in them, if there is no other argument among them, such as `--`.
+-- The request that the arguments make, the first of which is the program's name: the command that `clap`
+-- finds in them. They make none if they contain any other argument, such as `--`.
 abbrev pub task_of : List Text → Option AskedCommand
 task_of arguments = option_and_then (in_arguments (length arguments)) (option_and_then (λ found. asked_of_name found.0 found.1) (subcommand_of resetd arguments))

@@ -1,4 +1,4 @@
--- The reasons for which the store of a topology is not created.
+-- The reasons why the store of a topology is not created.
 use Rattle.std.specs.Prelude.{◌≡◌, ◌⊎◌, ℕ, List}
 use Rattle.coord_store.specs.Halves.{HasHalves}
 use Rattle.coord_store.specs.Recovered.{Recovered}
@@ -7,23 +7,24 @@ use Rattle.coord_world.specs.protocol.NumberedWorld.{no_world}
 use Rattle.coord_commands.specs.declared.fault.Fault.{Fault}
 use Rattle.coord_commands.specs.declared.fault.Fault.TheVariants.{OutOfMemory, Store, Refused}
 
--- no store is created, or one of its first orders is refused
+-- No store is created, or one of its first orders is refused.
 abbrev pub IsOfCreation : Fault → Type 0
 IsOfCreation OutOfMemory = Unit {0}
 IsOfCreation (Store fault) = IsCreateFault fault
 IsOfCreation (Refused refusal) = Unit {0}
 IsOfCreation fault = ⊥
 
--- opening a device of these bytes fails with this fault
+-- Opening a device with these bytes fails with this fault.
 abbrev pub RefusesCommitted : List ℕ → ℕ → Fault → Type 0
 RefusesCommitted bytes half_size (Store fault) = RefusesCreate bytes half_size fault
 RefusesCommitted bytes half_size fault = Unit {0}
 
--- a disk that was not empty is unchanged; an empty one has a store without any step, with halves of this size
+-- A disk that was not empty is unchanged. An empty one now has a store without any step, with halves of this
+-- size.
 abbrev pub LeavesNoStep : ℕ → List ℕ → List ℕ → Type 0
 LeavesNoStep half_size before after = (after ≡ before) ⊎ (Recovered after (no_world 2) × HasHalves half_size after)
 
--- the number of device failures that this refusal of a creation implies
+-- the number of device failures that this fault of a creation implies
 abbrev pub failures_at : Fault → ℕ
 failures_at (Store fault) = failed_in fault
 failures_at fault = 0

@@ -1,4 +1,4 @@
--- The end of a command: its exit status, and what it appends to the output and to standard error.
+-- The end of a command: its exit status, and what it appends to its output and to standard error.
 use Rattle.std.specs.Prelude.{◌≡◌, ◌⊎◌, ℕ, List, Option}
 use Rattle.std.specs.Io.KnownBytes.{Appends, Keeps}
 use Rattle.coord_lines.specs.Written.{WritesFirstPart}
@@ -7,27 +7,28 @@ use Rattle.coord_commands.specs.Streams.{Streams}
 use Rattle.coord_commands.specs.declared.fault.Fault.{Fault}
 use Rattle.coord_commands.specs.declared.fault.Fault.TheVariants.{Write, OutOfMemory}
 
--- a text that satisfies P is printed, and nothing else
+-- A text that satisfies P is printed, and nothing else.
 abbrev pub PrintsOne : (List ℕ → Type 0) → Option (List ℕ) → Option (List ℕ) → Type 0
 PrintsOne P old new = (text : List ℕ) × P text × Appends old new text
 
--- the faults of a writer that fails
+-- the possible faults when a write fails
 abbrev pub IsOfWriting : Fault → Type 0
 IsOfWriting Write = Unit {0}
 IsOfWriting OutOfMemory = Unit {0}
 IsOfWriting fault = ⊥
 
--- the output is unchanged, unless its writer fails: then it has a prefix of a text that satisfies P
+-- The output is unchanged unless a write fails; then a prefix of a text that satisfies P was appended.
 abbrev pub OutputCutShort : (List ℕ → Type 0) → Option (List ℕ) → Option (List ℕ) → Fault → Type 0
 OutputCutShort P old new fault = Keeps old new ⊎ (IsOfWriting fault × ((text : List ℕ) × P text × WritesFirstPart old new text))
 
--- a command succeeds: a text that satisfies P is printed, and standard error is unchanged
+-- A command succeeds: it prints a text that satisfies P, and nothing on standard error.
 pub record Succeeds (P : List ℕ → Type 0) (status : ℕ) (old new : Streams) : Type 0 where
   pub number : status ≡ 0
   pub printed : PrintsOne P old.output new.output
   pub silent : Keeps old.errors new.errors
 
--- a command ends with a fault that satisfies Q: a prefix of the fault's line is printed on standard error
+-- A command ends with a fault that satisfies Q. The fault's line, or a prefix of it, is printed on standard
+-- error.
 pub record CommandFails (Q : Fault → Type 0) (P : List ℕ → Type 0) (status : ℕ) (old new : Streams) : Type 0 where
   pub fault : Fault
   pub possible : Q fault
@@ -35,6 +36,6 @@ pub record CommandFails (Q : Fault → Type 0) (P : List ℕ → Type 0) (status
   pub answered : WritesFirstPart old.errors new.errors (fault_line fault)
   pub cut : OutputCutShort P old.output new.output fault
 
--- one of the two
+-- A command succeeds with a text that satisfies P, or fails with a fault that satisfies Q.
 abbrev pub CommandEnds : (Fault → Type 0) → (List ℕ → Type 0) → ℕ → Streams → Streams → Type 0
 CommandEnds Q P status old new = Succeeds P status old new ⊎ CommandFails Q P status old new

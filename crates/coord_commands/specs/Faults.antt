@@ -1,4 +1,4 @@
--- The texts and the exit statuses of faults, and their printed lines.
+-- The names of faults, their printed lines, and their exit statuses.
 use Rattle.std.specs.Prelude.{ℕ, List, ◌++◌, codes, decimal, Result, Ok, Err}
 use Rattle.coord_types.specs.Names.{refusal_text}
 use Rattle.coord_config.specs.Faults.{fault_name as topology_name}
@@ -15,7 +15,8 @@ use Rattle.coord_drill.specs.declared.fault.Fault.TheVariants as of_drill
 use Rattle.coord_commands.specs.declared.fault.Fault.{Fault}
 use Rattle.coord_commands.specs.declared.fault.Fault.TheVariants.{Usage, Read, Write, Socket, TooManyReads, OutOfMemory, Topology, Store, Refused, NotClosed}
 
--- a refusal is reported with its number, and a store that is not quiet with the node that is in a reset
+-- The text of a fault. A refusal has its number; a store that is not quiet has the number of the node that is
+-- in a reset.
 abbrev pub fault_text : Fault → List ℕ
 fault_text Usage = codes "Usage"
 fault_text Read = codes "Read"
@@ -67,7 +68,8 @@ fault_of_server of_server.Device = Store of_store.Device
 fault_of_server of_server.Write = Write
 fault_of_server (of_server.NotClosed fault) = NotClosed fault
 
--- a commit is refused for lack of memory, or because the device fails or has failed
+-- the fault for a commit that was refused because memory ran out, or because the device fails or has failed
+-- before
 abbrev pub fault_of_commit : CommitFault → Fault
 fault_of_commit of_commit.OutOfMemory = OutOfMemory
 fault_of_commit fault = Store of_store.Device

@@ -1,10 +1,10 @@
--- Facts about the named disks and texts.
+-- The contents of named disks and texts.
 use Rattle.std.specs.Prelude.{ℕ, List, [], ◌∷◌, bytes_eq, string_bytes, Option, Some, None, option_map, if◌then◌else◌}
 use Rattle.coord_disk.specs.Model.DiskModel.{DiskModel}
 use Rattle.coord_disk.specs.Model.Present.{Present}
 use Rattle.coord_commands.specs.declared.memory.Named.{Named}
 
--- the content of a disk, if it keeps the model
+-- the content of a disk, known only if the disk keeps the model
 abbrev pub known_of : {D : Type 0} → DiskModel D → D → Option Present
 known_of model disk = if model.keeps_model disk then Some (model.present disk) else None
 
@@ -12,7 +12,7 @@ known_of model disk = if model.keeps_model disk then Some (model.present disk) e
 abbrev pub reads : Option Present → Option (List ℕ)
 reads = option_map (λ known. known.read)
 
--- the bytes of a disk, if it keeps the model
+-- the bytes of a disk, known only if the disk keeps the model
 abbrev pub bytes_of : {D : Type 0} → DiskModel D → D → Option (List ℕ)
 bytes_of model disk = reads (known_of model disk)
 

@@ -25,11 +25,11 @@ adding node = Add node.id node.group
 abbrev pub joining : LinkEntry → Command
 joining link = Join link.a link.b
 
--- a topology's nodes are added and then its links joined, in the order of the file
+-- the commands that build a topology: its nodes are added and then its links joined, in the order of the file
 abbrev pub commands : Content → List Command
 commands topology = map adding topology.nodes ++ map joining topology.links
 
--- commands as the founder's orders, numbered from here on
+-- these commands as the founder's orders, numbered from n on
 abbrev pub numbered : ℕ → List Command → List Step
 numbered n [] = []
 numbered n (x ∷ xs) = Order founder n x ∷ numbered (n + 1) xs
@@ -37,7 +37,7 @@ numbered n (x ∷ xs) = Order founder n x ∷ numbered (n + 1) xs
 abbrev pub orders : Content → List Step
 orders topology = numbered 1 (commands topology)
 
--- the first step that an empty store refuses, and the refusal
+-- An empty store refuses one of these steps, and this is the first refusal.
 pub record IsRefusedBy (steps : List Step) (refusal : Refusal) : Type 0 where
   pub front : List Step
   pub refused : Step
@@ -50,7 +50,7 @@ pub record IsRefusedBy (steps : List Step) (refusal : Refusal) : Type 0 where
 abbrev pub RefusesToBegin : List Step → Refusal → Type 0
 RefusesToBegin steps refusal = IsRefusedBy steps refusal ⊎ ((refusal ≡ PendingFull) × (MAX_BATCH_STEPS < length steps))
 
--- All steps that were submitted to an empty store have been accepted, and none of them is settled yet.
+-- All steps submitted so far to an empty store were accepted, and none of them is settled yet.
 pub record IsUnderWay (f : Founding) : Type 0 where
   pub nothing_settled : f.settled ≡ no_world 2
   pub world : f.world ≡ fold (no_world 2) f.steps.items

@@ -1,4 +1,4 @@
--- The lines that `check` and `show` print for the store on a disk, and their faults.
+-- The lines that `check` and `show` print for the store on a disk, and the faults that they may end with.
 use Rattle.std.specs.Prelude.{◌≡◌, ◌⊎◌, ℕ, List, Option, IfSome}
 use Rattle.coord_check.specs.declared.violation.Violation.{Violation}
 use Rattle.coord_store.specs.Facade.{IsOpenFault, Recovered, RefusesOpen}
@@ -11,14 +11,14 @@ use Rattle.coord_commands.specs.declared.fault.Fault.{Fault}
 use Rattle.coord_commands.specs.declared.fault.Fault.TheVariants.{Write, OutOfMemory, Store}
 use Rattle.std.specs.Io.KnownBytes.{Keeps}
 
--- the bytes of a disk, if they are known, encode a legal world, and this is its line
+-- These bytes, if they are known, give a legal world, and this is its line.
 pub record IsLegalLine (bytes : Option (List ℕ)) (line : List ℕ) : Type 0 where
   pub world : World
   pub legal : Legal world
   pub given : IfSome bytes (λ known. Recovered known world)
   pub counted : line ≡ legal_line world.count
 
--- the world of their snapshot violates a predicate, and this is its line
+-- The snapshot in these bytes violates a predicate, and this is the line for it.
 pub record IsViolatedLine (bytes : Option (List ℕ)) (line : List ℕ) : Type 0 where
   pub violation : Violation
   pub refused : IfSome bytes (λ known. RefusesOpen known (Violated violation))
@@ -27,29 +27,29 @@ pub record IsViolatedLine (bytes : Option (List ℕ)) (line : List ℕ) : Type 0
 abbrev pub IsCheckedLine : Option (List ℕ) → List ℕ → Type 0
 IsCheckedLine bytes line = IsLegalLine bytes line ⊎ IsViolatedLine bytes line
 
--- the bytes encode a world, and these are its lines
+-- These bytes give a world, and these are its lines.
 pub record IsShown (bytes : Option (List ℕ)) (lines : List ℕ) : Type 0 where
   pub world : World
   pub given : IfSome bytes (λ known. Recovered known world)
   pub answered : lines ≡ shown world
 
--- output can't be written, memory runs out, or opening a device of these bytes fails with this fault
+-- Output can't be written, memory runs out, or opening a device with these bytes fails with this fault.
 abbrev pub IsOfOpening : Option (List ℕ) → Fault → Type 0
 IsOfOpening bytes Write = Unit {0}
 IsOfOpening bytes OutOfMemory = Unit {0}
 IsOfOpening bytes (Store fault) = (fault ≡ Device) ⊎ (IsOpenFault fault × IfSome bytes (λ known. RefusesOpen known fault))
 IsOfOpening bytes fault = ⊥
 
--- the status 1 and the line of a violation
+-- The command ends with status 1 and the line of a violation.
 pub record IsViolated (bytes : Option (List ℕ)) (status : ℕ) (old new : Streams) : Type 0 where
   pub number : status ≡ 1
   pub printed : PrintsOne (IsViolatedLine bytes) old.output new.output
   pub silent : Keeps old.errors new.errors
 
--- the effect of `check` on a disk of these bytes
+-- the effect of `check` on a disk with these bytes
 abbrev pub Checks : Option (List ℕ) → ℕ → Streams → Streams → Type 0
 Checks bytes status old new = Succeeds (IsLegalLine bytes) status old new ⊎ (IsViolated bytes status old new ⊎ CommandFails (IsOfOpening bytes) (IsCheckedLine bytes) status old new)
 
--- the effect of `show` on a disk of these bytes
+-- the effect of `show` on a disk with these bytes
 abbrev pub ShowsStore : Option (List ℕ) → ℕ → Streams → Streams → Type 0
 ShowsStore bytes status old new = CommandEnds (IsOfOpening bytes) (IsShown bytes) status old new

@@ -15,70 +15,74 @@ use Rattle.coord_commands.specs.Topology.{said_by}
 use Rattle.coord_commands.specs.declared.fault.Fault.{Fault}
 use Rattle.coord_commands.specs.declared.fault.Fault.TheVariants.{Read, Write, OutOfMemory, Topology, Store, Refused}
 
--- the world after the orders of a topology
+-- the world after the orders that build a topology
 abbrev pub begun : Content → World
 begun topology = fold (no_world 2) (orders topology)
 
--- the bytes of a store of this world, with halves of the topology's size
+-- These are the bytes of a store with this world, and with halves of the topology's size.
 pub record IsStore (topology : Content) (w : World) (bytes : List ℕ) : Type 0 where
   pub gives : Recovered bytes w
   pub halves : HasHalves topology.half bytes
 
--- A store of this world, for a topology, was created on a disk, as far as its bytes before and after are known.
+-- A store with this world was created for a topology on a disk whose bytes, before and after, may be known.
 pub record IsFounded (topology : Content) (w : World) (before after : Option (List ℕ)) : Type 0 where
   pub empty : IfSome before (λ bytes. length bytes ≡ 0)
   pub made : IfSome after (IsStore topology w)
 
--- the topology file, if it is known, contains this topology; at most one byte beyond the longest file is read
+-- The topology file, if it is known, contains this topology. Only one byte more than the longest valid file
+-- is read.
 abbrev pub Says : Option (List ℕ) → Content → Type 0
 Says file topology = IfSome file (λ bytes. said_by (take MOST_BYTES bytes) ≡ Ok topology)
 
--- the line of such a store, with this topology file
+-- the printed line for such a store, if this is the topology file
 pub record IsCreatedLine (file before after : Option (List ℕ)) (line : List ℕ) : Type 0 where
   pub topology : Content
   pub said : Says file topology
   pub is_made : IsFounded topology (begun topology) before after
   pub counted : line ≡ created_line (begun topology).count
 
--- known bytes are unchanged
+-- If the bytes are known, they are unchanged.
 abbrev pub StaysKnown : Option (List ℕ) → Option (List ℕ) → Type 0
 StaysKnown before after = IfSome before (λ old. IfSome after (λ new. new ≡ old))
 
--- a disk that was not empty is unchanged
+-- A disk that was not empty is unchanged.
 abbrev pub KeepsTaken : Option (List ℕ) → Option (List ℕ) → Type 0
 KeepsTaken before after = IfSome before (λ old. 0 < length old → IfSome after (λ new. new ≡ old))
 
--- The disk after running out of memory: unchanged if it was not empty; otherwise empty, or with the store of a
--- topology without any step.
+-- The disk after memory ran out. It is unchanged if it was not empty; otherwise it is empty, or has the
+-- topology's store without any step.
 pub record LeavesWithoutMemory (topology : Content) (before after : Option (List ℕ)) : Type 0 where
   pub taken : KeepsTaken before after
   pub empty : IfSome before (λ old. length old ≡ 0 → IfSome after (λ new. (length new ≡ 0) ⊎ IsStore topology (no_world 2) new))
 
--- a disk that is not empty is refused, and unchanged
+-- A disk that is not empty is refused, and left unchanged.
 abbrev pub RefusesDisk : Option (List ℕ) → Option (List ℕ) → Content → StoreFault → Type 0
 RefusesDisk before after topology NotEmpty = IfSome before (λ bytes. 0 < length bytes) × StaysKnown before after
 RefusesDisk before after topology HalfSize = StaysKnown before after
 RefusesDisk before after topology of_store.OutOfMemory = LeavesWithoutMemory topology before after
 RefusesDisk before after topology fault = IsCreateFault fault
 
--- the topology file, if it is known, contains no topology, for this reason; or memory to read it ran out
+-- The topology file, if it is known, contains no topology, for this reason; or memory to read it ran out.
 abbrev pub RefusesFile : Option (List ℕ) → ConfigFault → Type 0
 RefusesFile file of_topology.OutOfMemory = Unit {0}
 RefusesFile file reason = IfSome file (λ bytes. said_by (take MOST_BYTES bytes) ≡ Err reason)
 
--- the reasons for which the store of a topology is not created; if one of its orders is refused, it is created without any step
+-- the reasons why the store of a topology is not created; if one of its orders is refused, the disk has a
+-- store without any step
 abbrev pub RefusesStore : Option (List ℕ) → Option (List ℕ) → Content → Fault → Type 0
 RefusesStore before after topology OutOfMemory = LeavesWithoutMemory topology before after
 RefusesStore before after topology (Store fault) = RefusesDisk before after topology fault
 RefusesStore before after topology (Refused refusal) = RefusesToBegin (orders topology) refusal × IsFounded topology (no_world 2) before after
 RefusesStore before after topology fault = ⊥
 
--- the topology file, if it is known, contains a topology, and memory to create its store or to print its line ran out
+-- The topology file, if it is known, contains a topology, and memory to create its store or to print its line
+-- ran out.
 abbrev pub LacksMemoryToMake : Option (List ℕ) → Option (List ℕ) → Option (List ℕ) → Type 0
 LacksMemoryToMake file before after = (topology : Content) × Says file topology × (LeavesWithoutMemory topology before after ⊎ IsFounded topology (begun topology) before after)
 
--- The faults of `init`, other than those of its arguments. The topology file is checked first: it contains a topology
--- if its store is not created. If the line can't be written, the store was created.
+-- The faults of `init`, except those of its arguments. The topology file is checked first, so if the store is
+-- not created for another reason, the file contains a topology. If the line can't be written, the store was
+-- created.
 abbrev pub IsOfMaking : Option (List ℕ) → Option (List ℕ) → Option (List ℕ) → Fault → Type 0
 IsOfMaking file before after Read = StaysKnown before after
 IsOfMaking file before after Write = (topology : Content) × Says file topology × IsFounded topology (begun topology) before after

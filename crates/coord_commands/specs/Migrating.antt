@@ -1,4 +1,4 @@
--- The effect of `migrate` on the named disk, as far as its content before and after is known.
+-- The effect of `migrate` on the named disk, whose content before and after may be known.
 use Rattle.std.specs.Prelude.{◌≡◌, ◌⊎◌, ℕ, ◌+◌, true, List, Option, Some, IfSome, Result, Ok, Err}
 use Rattle.coord_disk.specs.Model.Moments.{LeavesOnly}
 use Rattle.coord_disk.specs.Model.DiskModel.{DiskModel}
@@ -14,37 +14,37 @@ use Rattle.coord_commands.specs.Streams.{Streams}
 use Rattle.coord_commands.specs.declared.fault.Fault.{Fault}
 use Rattle.coord_commands.specs.declared.fault.Fault.TheVariants.{Write, OutOfMemory, Store}
 
--- a disk reads unchanged
+-- The disk reads as before.
 abbrev pub ReadsAsBefore : Option Present → Option Present → Type 0
 ReadsAsBefore before after = IfSome before (λ old. IfSome after (λ new. new.read ≡ old.read))
 
--- The disk encodes its world in version 2 now. A disk that had version 2 is unchanged.
+-- The disk now gives its world in version 2. A disk that had version 2 is unchanged.
 pub record IsRaised (before after : Option Present) (world : World) : Type 0 where
   pub given : IfSome before (λ old. Recovered old.read world)
   pub raised : IfSome after (λ new. Recovered new.read (risen world))
   pub again : world.version ≡ 2 → ReadsAsBefore before after
 
--- the line of a migrated store
+-- the printed line for a migrated store
 pub record IsMigratedLine (before after : Option Present) (line : List ℕ) : Type 0 where
   pub world : World
   pub is_raised : IsRaised before after world
   pub counted : line ≡ migrated_line world.count
 
--- bytes that a crash could have left before, or that encode the disk's world in one version or the other
+-- These bytes could have been left by a crash before, or give the disk's world in one version or the other.
 abbrev pub IsEitherVersion : Present → List ℕ → Type 0
 IsEitherVersion old image = IsImage old image ⊎ ((w : World) × Recovered old.read w × GivesEither w (risen w) image)
 
--- a crash leaves nothing else
+-- A crash leaves only such bytes.
 abbrev pub GivesEitherVersion : Option Present → Option Present → Type 0
 GivesEitherVersion before after = IfSome before (λ old. IfSome after (λ new. (image : List ℕ) → IsImage new image → IsEitherVersion old image))
 
--- a migration: at no moment from the one disk to the other does a crash leave anything else, and this is the number of device
--- failures meanwhile
+-- A migration: a crash at any moment between the two states of the disk leaves only such bytes, and the device
+-- has failed this many times meanwhile.
 pub record Raises {D : Type 0} (model : DiskModel D) (failed : ℕ) (old new : D) : Type 0 where
   pub any_moment : model.keeps_model old ≡ true → LeavesOnly model old new (IsEitherVersion (model.present old))
   pub failures : model.failures new ≡ model.failures old + failed
 
--- a migration of the named disk, which was taken and put back
+-- A migration of the named disk, which was taken and put back.
 pub record RaisesNamed {D : Type 0} (model : DiskModel D) (failed : ℕ) (before after : Option Present) : Type 0 where
   pub taken : D
   pub back : D
@@ -52,14 +52,14 @@ pub record RaisesNamed {D : Type 0} (model : DiskModel D) (failed : ℕ) (before
   pub is : IfSome after (λ known. known_of model back ≡ Some known)
   pub raises : Raises model failed taken back
 
--- this is the lowest node in a reset of the disk's world, and the disk is unchanged
+-- This is the node with the lowest number among those in a reset, and the disk is unchanged.
 pub record IsNotQuiet (before after : Option Present) (node : ℕ) : Type 0 where
   pub world : World
   pub given : IfSome before (λ old. Recovered old.read world)
   pub refuses : RefusesMigration world (NotQuiet node)
   pub unchanged : ReadsAsBefore before after
 
--- the faults of a store that is not migrated: except for those of the device, the disk is unchanged
+-- The faults if the store is not migrated. Unless the device failed, the disk is unchanged.
 abbrev pub IsOfRaising : Option Present → Option Present → Fault → Type 0
 IsOfRaising before after OutOfMemory = ReadsAsBefore before after
 IsOfRaising before after (Store Device) = GivesEitherVersion before after
@@ -67,13 +67,13 @@ IsOfRaising before after (Store (NotQuiet node)) = IsNotQuiet before after node
 IsOfRaising before after (Store fault) = IsOpenFault fault × IfSome before (λ old. RefusesOpen old.read fault) × ReadsAsBefore before after
 IsOfRaising before after fault = ⊥
 
--- the faults of `migrate`: if the line cannot be written, the store was migrated
+-- The faults of `migrate`. If the line can't be written, the store was migrated.
 abbrev pub IsOfMigrating : Option Present → Option Present → Fault → Type 0
 IsOfMigrating before after Write = (w : World) × IsRaised before after w
 IsOfMigrating before after OutOfMemory = ReadsAsBefore before after ⊎ ((w : World) × IsRaised before after w)
 IsOfMigrating before after fault = IsOfRaising before after fault
 
--- the number of device failures if the store is not migrated
+-- the number of device failures, if the store is not migrated with this fault
 abbrev pub failed_in_migration : Fault → ℕ
 failed_in_migration (Store fault) = failed_in_store fault
 failed_in_migration fault = 0
@@ -82,17 +82,17 @@ abbrev pub failures_in_migration : {A : Type 0} → Result A Fault → ℕ
 failures_in_migration (Ok line) = 0
 failures_in_migration (Err fault) = failed_in_migration fault
 
--- the named disk was unavailable, or it was taken and put back
+-- The named disk was unavailable, or it was taken and put back.
 abbrev pub EndsRaising : {D : Type 0} → DiskModel D → Option Present → Option Present → Fault → Type 0
 EndsRaising model before after fault =
     ((fault ≡ Store Device) × (after ≡ before)) ⊎ RaisesNamed model (failed_in_migration fault) before after
 
--- the end of `migrate`, and the bytes that a crash may have left on the named disk at each moment of it
+-- The end of `migrate`, and the bytes that a crash may have left on the named disk at each moment of it.
 abbrev pub EndsMigrating : {D : Type 0} → DiskModel D → Option Present → Option Present → ℕ → Streams → Streams → Type 0
 EndsMigrating model before after =
     CommandEnds (λ fault. IsOfMigrating before after fault × EndsRaising model before after fault) (λ line. IsMigratedLine before after line × RaisesNamed model 0 before after)
 
--- the reasons for which an opened store is not migrated
+-- the reasons why an opened store is not migrated
 abbrev pub RefusesRaising : World → Fault → Type 0
 RefusesRaising w OutOfMemory = Unit {0}
 RefusesRaising w (Store fault) = RefusesMigration w fault

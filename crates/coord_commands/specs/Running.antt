@@ -1,4 +1,4 @@
--- The effect of a run of the program, for its arguments.
+-- The effect of a run of the program, by its arguments.
 use Rattle.std.specs.Prelude.{◌≡◌, ◌⊎◌, ℕ, true, List, Option, Some, None}
 use Rattle.std.specs.Io.KnownBytes.{IsAtEnd, Keeps}
 use Rattle.clap.specs.Words.{Text, takes}
@@ -19,35 +19,37 @@ use Rattle.coord_commands.specs.Arguments.{AskedCommand, check, drill, init, mig
 use Rattle.coord_commands.specs.declared.fault.Fault.{Fault}
 use Rattle.coord_commands.specs.declared.fault.Fault.TheVariants.{Usage, OutOfMemory}
 
--- the environment of a run: its streams, and by name the contents of disks and texts
+-- the environment in which the program runs: its streams and, by file name, the content of each store and the text
+-- of each topology file
 pub record Around : Type 0 where
   pub streams : Streams
   pub holds : List ℕ → Option Present
   pub says : List ℕ → Option (List ℕ)
 
--- a drill over a disk in memory has carried out its whole input
+-- A drill over a disk in memory has carried out its whole input.
 pub record HasDrilled (status : ℕ) (old new : Streams) : Type 0 where
   pub number : status ≡ 0
   pub drilled : DrillsInMemory old.input new.input old.output new.output
   pub end : IsAtEnd new.input
   pub silent : Keeps old.errors new.errors
 
--- it failed with this fault, at the end of the input read and the output written
+-- A drill over a disk in memory has failed with this fault, after the input that was read and the output that
+-- was written.
 pub record FailsToDrill (status : ℕ) (old new : Streams) : Type 0 where
   pub fault : DrillFault
   pub number : status ≡ fault_status (fault_of_drill fault)
   pub answered : WritesFirstPart old.errors new.errors (fault_line (fault_of_drill fault))
   pub broke : FailsInMemory old.input new.input old.output new.output fault
 
--- the drill
+-- the effect of the drill
 abbrev pub RunsDrill : ℕ → Streams → Streams → Type 0
 RunsDrill status old new = HasDrilled status old new ⊎ FailsToDrill status old new
 
--- the surroundings of a run over files, of which nothing is known
+-- the environment of a run over files, whose contents are unknown
 abbrev pub files_around : Streams → Around
 files_around streams = record { streams = streams; holds = λ _. None; says = λ _. None }
 
--- the request is carried out
+-- the effect of carrying out this request
 abbrev pub Does : AskedCommand → ℕ → Around → Around → Type 0
 Does drill status old new = RunsDrill status old.streams new.streams
 Does (init file topology) status old new =
@@ -57,27 +59,29 @@ Does (show file) status old new = ShowsStore (reads (old.holds file)) status old
 Does (migrate file) status old new = CommandEnds (IsOfMigrating (old.holds file) (new.holds file)) (IsMigratedLine (old.holds file) (new.holds file)) status old.streams new.streams
 Does (serve file address) status old new = ServesAt (IsOfServing (reads (old.holds file))) address (reads (old.holds file)) (reads (new.holds file)) status old.streams.errors new.streams.errors
 
--- the arguments are refused, or memory to read them runs out
+-- The arguments are refused, or memory to read them runs out.
 abbrev pub IsOfArguments : List Text → Fault → Type 0
 IsOfArguments arguments OutOfMemory = Unit {0}
 IsOfArguments arguments Usage = takes resetd arguments ≡ true → task_of arguments ≡ None
 IsOfArguments arguments fault = ⊥
 
--- if arguments are refused, only the fault's line is printed, nothing is read, and each disk is unchanged
+-- If the arguments are refused, only the fault's line is printed, nothing is read, and each disk is
+-- unchanged.
 pub record RefusesArguments (arguments : List Text) (status : ℕ) (old new : Around) : Type 0 where
   pub fails : CommandFails (IsOfArguments arguments) (λ _. ⊥) status old.streams new.streams
   pub unread : Keeps old.streams.input new.streams.input
   pub untouched : (name : List ℕ) → new.holds name ≡ old.holds name
 
--- the arguments could not be read: only this fault's line is printed, and nothing is read
+-- If the arguments could not be read, only this fault's line is printed, and nothing is read.
 pub record LacksArguments (fault : Fault) (status : ℕ) (old new : Around) : Type 0 where
   pub fails : CommandFails (λ answered. answered ≡ fault) (λ _. ⊥) status old.streams new.streams
   pub unread : Keeps old.streams.input new.streams.input
 
--- the arguments are refused, or the named disk is migrated as requested: at no moment may a crash have left anything else of it
+-- The arguments are refused, or the named disk is migrated as requested. A crash at any moment leaves nothing
+-- else on that disk.
 abbrev pub RunsMigrate : {D : Type 0} → DiskModel D → List Text → List ℕ → ℕ → Around → Around → Type 0
 RunsMigrate model arguments file status old new = RefusesArguments arguments status old new ⊎ EndsMigrating model (old.holds file) (new.holds file) status old.streams new.streams
 
--- the arguments are refused, or their request is carried out
+-- The arguments are refused, or the request that they make is carried out.
 abbrev pub RunsArguments : List Text → ℕ → Around → Around → Type 0
 RunsArguments arguments status old new = RefusesArguments arguments status old new ⊎ ((asked : AskedCommand) × (task_of arguments ≡ Some asked) × Does asked status old new)

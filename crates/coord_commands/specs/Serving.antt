@@ -1,4 +1,4 @@
--- The end of `serve`, with this argument as its address, as far as the content of the disk before and after it is
+-- The end of `serve` with this argument as its address, for a disk whose content before and after may be
 -- known.
 use Rattle.std.specs.Prelude.{◌≡◌, ◌⊎◌, ℕ, ◌+◌, true, List, Option, Some, None, IfSome, Result, Ok, Err}
 use Rattle.std.specs.Io.KnownBytes.{Keeps}
@@ -30,15 +30,17 @@ use Rattle.coord_commands.specs.Migrating.{ReadsAsBefore}
 use Rattle.coord_commands.specs.declared.fault.Fault.{Fault}
 use Rattle.coord_commands.specs.declared.fault.Fault.TheVariants.{Usage, Socket, Write, OutOfMemory, Store, NotClosed}
 
--- the bytes encode a world
+-- These bytes give a world.
 abbrev pub GivesWorld : Option (List ℕ) → Type 0
 GivesWorld bytes = IfSome bytes (λ known. (w : World) × Recovered known w)
 
--- the argument is an address
+-- The argument is an address.
 abbrev pub IsAddress : List ℕ → Type 0
 IsAddress argument = (address : SocketAddrV4) × IsSocketV4Text argument address
 
--- The faults of `serve` at an address, as far as the bytes of the disk determine them. The disk is opened, and then the socket is bound: the store is open if a fault of the socket or of serving is reported.
+-- The faults of `serve` at an address, as far as the bytes of the disk determine them. The disk is opened
+-- first and then the socket is bound, so a fault of the socket or of the serving implies that the store was
+-- opened.
 abbrev pub IsOfServing : Option (List ℕ) → Fault → Type 0
 IsOfServing bytes OutOfMemory = GivesWorld bytes
 IsOfServing bytes (Store fault) = IsOfOpening bytes (Store fault)
@@ -47,28 +49,30 @@ IsOfServing bytes Write = GivesWorld bytes
 IsOfServing bytes (NotClosed fault) = GivesWorld bytes
 IsOfServing bytes fault = ⊥
 
--- the fault with which this server returns, if there is one
+-- the fault that this server reports, if there is one
 abbrev pub fault_of_end : {D V W : Type 0} → ServerEnd D V W → Option ServerFault
 fault_of_end ended = fault_at_end (has_stopped ended.closed.store) ended.served (is_amiss ended.printer ended.closed.settled)
 
--- a server ran over this store, with the usual timeouts, and printed to an output whose known content was the one and then the other. `gives`: the signals of some steps, by step, node and epoch
+-- A server ran over this store, with the usual timeouts, and printed to an output with this known content
+-- before and after. `gives` defines the signals that a list of steps sends, by step, node and epoch.
 abbrev pub RunsWithOutput : {D : Type 0} → DiskModel D → (List Step → ℕ → ℕ → ℕ → Type 0) → Kept D → Option (List ℕ) → Option (List ℕ) → ServerEnd D Timeouts (Option (List ℕ)) → Type 0
 RunsWithOutput model gives store old new ended = HasServedUsual model (λ known. known) gives store (new_printer old store.world.count) ended × (ended.printer.output ≡ new)
 
--- the result of this server: the remaining parts, beside the fault if there is one
+-- the result of this server: the remaining parts, together with the fault if there is one
 abbrev pub ReportedAtEnd : {D V W : Type 0} → ServerEnd D V W → Result (Closed D) (ServerFault × Closed D) → Type 0
 ReportedAtEnd ended (Ok closed) = (closed ≡ ended.closed) × (fault_of_end ended ≡ None)
 ReportedAtEnd ended (Err answered) = (answered.1 ≡ ended.closed) × (fault_of_end ended ≡ Some answered.0)
 
--- a server ran, and returned this
+-- A server ran, and returned this result.
 pub record ServedWithOutput {D : Type 0} (model : DiskModel D) (gives : List Step → ℕ → ℕ → ℕ → Type 0) (store : Kept D) (old new : Option (List ℕ)) (answered : Result (Closed D) (ServerFault × Closed D)) : Type 0 where
   pub ended : ServerEnd D Timeouts (Option (List ℕ))
   pub run : RunsWithOutput model gives store old new ended
   pub reports : ReportedAtEnd ended answered
 
--- `model`: the meaning of a folder's disks
+-- `model`: the model of a folder's disks
 module _ {D : Type 0} (model : DiskModel D) where
-  -- the named disk was taken and put back. Its device failed this many times in between; if it never failed, the disk is unchanged
+  -- The named disk was taken and put back, and its device failed this many times in between. If it never
+  -- failed, the disk is unchanged.
   pub record IsPutBack (failed : ℕ) (before after : Option Present) : Type 0 where
     pub taken : D
     pub back : D
@@ -77,13 +81,14 @@ module _ {D : Type 0} (model : DiskModel D) where
     pub failures : model.failures back ≡ model.failures taken + failed
     pub reads : failed ≡ 0 → ReadsAsBefore before after
 
-  -- no store was opened: the disk was unavailable; or it was taken, refused and put back
+  -- No store was opened: the disk was unavailable, or its store was refused and the disk put back.
   pub record IsNotOpened (before after : Option Present) (answered : Fault) : Type 0 where
     pub fault : StoreFault
     pub named : answered ≡ Store fault
     pub why : ((fault ≡ Device) × (after ≡ before)) ⊎ (IsOfOpening (reads before) (Store fault) × IsPutBack (failed_in fault) before after)
 
-  -- a store was opened on the named disk, which was taken: it has the world that the bytes encode, and the disk is unchanged
+  -- A store was opened on the named disk, which was taken for it. The store has the world that the disk's
+  -- bytes give, and the disk is unchanged.
   pub record IsOpenedStore (before : Option Present) (store : Kept D) : Type 0 where
     pub taken : D
     pub was : known_of model taken ≡ before
@@ -93,11 +98,11 @@ module _ {D : Type 0} (model : DiskModel D) where
     pub any_moment : AddsNothing model taken store.disk
     pub same : model.keeps_model taken ≡ true → (model.present store.disk).read ≡ (model.present taken).read
 
-  -- no socket could be bound: the store of the disk was opened, and the disk put back
+  -- No socket could be bound: the store was opened, and the disk put back.
   abbrev pub IsNotBound : Option Present → Option Present → Fault → Type 0
   IsNotBound before after answered = (answered ≡ Socket) × GivesWorld (reads before) × IsPutBack 0 before after
 
-  -- The store of a disk was opened, a server ran over it, and the disk was put back as the server left it.
+  -- The store was opened, a server ran over it, and the disk was put back as the server left it.
   pub record IsServedDisk (before after : Option Present) (old new : Option (List ℕ)) : Type 0 where
     pub store : Kept D
     pub opened : IsOpenedStore before store
@@ -105,24 +110,26 @@ module _ {D : Type 0} (model : DiskModel D) where
     pub run : RunsWithOutput model (GivesSignal store.world) store old new ended
     pub put : IfSome after (λ known. known_of model ended.closed.store.disk ≡ Some known)
 
-  -- memory to begin a server ran out: the store of the disk was opened, nobody was served, and the disk put back
+  -- Memory to begin a server ran out: the store was opened, nobody was served, and the disk was put back.
   abbrev pub IsNotBegun : Option Present → Option Present → Fault → Type 0
   IsNotBegun before after answered = (answered ≡ OutOfMemory) × GivesWorld (reads before) × IsPutBack 0 before after
 
-  -- a server over the disk ended with this fault
+  -- A server over the disk ended with this fault.
   abbrev pub HasEnded : Option Present → Option Present → Option (List ℕ) → Option (List ℕ) → Fault → Type 0
   HasEnded before after old new answered = (is : IsServedDisk before after old new) × (fault : ServerFault) × (fault_of_end is.ended ≡ Some fault) × (answered ≡ fault_of_server fault)
 
-  -- the faults of `serve` at an address, and its output: nothing is printed before a server begins, over an open store and a bound socket
+  -- The faults of `serve` at an address, with its output. Nothing is printed before a server begins, which
+  -- requires an open store and a bound socket.
   abbrev pub EndsServing : Option Present → Option Present → Option (List ℕ) → Option (List ℕ) → Fault → Type 0
   EndsServing before after old new answered =
       ((IsNotOpened before after answered ⊎ (IsNotBound before after answered ⊎ IsNotBegun before after answered)) × Keeps old new) ⊎ HasEnded before after old new answered
 
--- The store of a disk was served until a line closed it, without a fault. The bytes that are put back encode the world that it left.
+-- The store on a disk was served until a line closed it, without a fault. The bytes that are put back give
+-- the world that the server left.
 abbrev pub ServedWhole : {D : Type 0} → DiskModel D → Option Present → Option Present → Option (List ℕ) → Option (List ℕ) → Type 0
 ServedWhole model before after old new = (is : IsServedDisk model before after old new) × (fault_of_end is.ended ≡ None) × IfSome (reads after) (λ known. Recovered known is.ended.closed.store.world)
 
--- the store was served until a line closed it, and the disk put back
+-- The command ended without a fault: the store was served until a line closed it, and the disk was put back.
 pub record ServesToEnd (argument : List ℕ) (bytes after : Option (List ℕ)) (status : ℕ) (old new : Option (List ℕ)) : Type 0 where
   pub number : status ≡ 0
   pub address : IsAddress argument
@@ -130,19 +137,19 @@ pub record ServesToEnd (argument : List ℕ) (bytes after : Option (List ℕ)) (
   pub closed : GivesWorld after
   pub silent : Keeps old new
 
--- `of`: the faults of `serve` at an address
+-- `of`: the faults of `serve` once the argument is known to be an address
 module _ (of : Fault → Type 0) where
-  -- the argument is checked first: it is no address, or it is one
+  -- The argument is checked first: either it is no address, which is the fault, or it is one.
   abbrev pub IsOfServingAt : List ℕ → Fault → Type 0
   IsOfServingAt argument answered = ((answered ≡ Usage) × ¬ IsAddress argument) ⊎ (IsAddress argument × of answered)
 
-  -- the command has ended with a fault
+  -- The command has ended with a fault.
   pub record IsNotServed (argument : List ℕ) (status : ℕ) (old new : Option (List ℕ)) : Type 0 where
     pub fault : Fault
     pub possible : IsOfServingAt argument fault
     pub number : status ≡ fault_status fault
     pub answered : WritesFirstPart old new (fault_line fault)
 
-  -- with this status, and on standard error
+  -- The end of `serve` with this argument, with its exit status, its output and standard error.
   abbrev pub ServesAt : List ℕ → Option (List ℕ) → Option (List ℕ) → ℕ → Option (List ℕ) → Option (List ℕ) → Type 0
   ServesAt argument bytes after status old new = ServesToEnd argument bytes after status old new ⊎ IsNotServed argument status old new

@@ -1,4 +1,4 @@
--- The topology in the bytes of a file.
+-- The topology that the bytes of a file contain.
 use Rattle.std.specs.Prelude.{ℕ, List, if◌then◌else◌, Result, Err}
 use Rattle.std.specs.Str.{is_utf8}
 use Rattle.coord_config.specs.Reading.{reading}
@@ -8,11 +8,11 @@ use Rattle.coord_config.specs.declared.fault.ConfigFault.TheVariants.{NotToml}
 use Rattle.coord_commands.specs.declared.fault.Fault.{Fault}
 use Rattle.coord_commands.specs.declared.fault.Fault.TheVariants.{Read, OutOfMemory, Topology}
 
--- bytes that are not UTF-8 are not TOML
+-- the topology, or the fault, in these bytes; bytes that are not UTF-8 are not TOML
 abbrev pub said_by : List ℕ → Result Content ConfigFault
 said_by bytes = if is_utf8 bytes then reading bytes else Err NotToml
 
--- the faults of a topology file: it cannot be read, or is refused
+-- The fault is that a topology file can't be read or is refused.
 abbrev pub IsOfText : Fault → Type 0
 IsOfText Read = Unit {0}
 IsOfText OutOfMemory = Unit {0}

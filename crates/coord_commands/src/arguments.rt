@@ -28,7 +28,7 @@ pub enum Task<'a> {
 }
 
 impl Task<'_> {
-    /// Returns the number of arguments that it takes, including the program's name.
+    /// Returns the number of arguments that the command takes, including the program's name.
     fn arguments(&self) -> usize
         ensures { result ≡ arguments_for (asked_of self.now) }
     {
@@ -40,9 +40,9 @@ impl Task<'_> {
     }
 }
 
-/// Returns the command that the program's arguments request; the first is the program's name. The
-/// commands are `drill`, `check FILE`, `show FILE`, `migrate FILE`, `init FILE TOPOLOGY` and
-/// `serve FILE ADDRESS`. Everything else is refused, also `--help` and `--version`.
+/// Returns the command that the program's arguments request; the first of them is the program's name.
+/// The commands are `drill`, `check FILE`, `show FILE`, `migrate FILE`, `init FILE TOPOLOGY` and `serve
+/// FILE ADDRESS`. Any other arguments are refused, for example `--help` and `--version`.
 pub fn read_arguments<'a>(alloc: Global, arguments: &'a [String]) -> Result<Task<'a>, Fault>
     ensures ok { IfOk result (λ task. task_of (map string_bytes arguments.now) ≡ Some (asked_of task)) }
     ensures err { IfErr result (λ fault. (fault ≡ OutOfMemory)
@@ -73,7 +73,7 @@ fn program<'a>(alloc: Global) -> Result<Command<'a>, AllocError>
     add_of_argument(with_serve, alloc, "migrate", "file")
 }
 
-/// Adds a command with one argument.
+/// Adds a command with one argument to the grammar.
 fn add_of_argument<'a>(
     program: Command<'a>,
     alloc: Global,
@@ -87,7 +87,7 @@ fn add_of_argument<'a>(
     program.subcommand(command)
 }
 
-/// Adds a command with two arguments.
+/// Adds a command with two arguments to the grammar.
 fn add_of_two_arguments<'a>(
     program: Command<'a>,
     alloc: Global,
@@ -105,7 +105,7 @@ fn add_of_two_arguments<'a>(
     program.subcommand(command)
 }
 
-/// Returns a required argument of a command.
+/// Returns a required argument with this name.
 fn argument_named(alloc: Global, id: &str) -> Arg<'_>
     ensures rule { rule_of result ≡ argument_named id.now }
     ensures local { result.global ≡ false }
@@ -113,7 +113,7 @@ fn argument_named(alloc: Global, id: &str) -> Arg<'_>
     Arg::new(alloc, id).required(true).action(ArgAction::Set)
 }
 
-/// Returns the request of the command that `clap` found in this many arguments.
+/// Returns the request that `clap` found in this many arguments.
 fn task_in<'a>(matches: &ArgMatches<'a>, count: usize) -> Option<Task<'a>>
     ensures { option_map asked_of result ≡ option_and_then (in_arguments count)
         (option_and_then (λ found. asked_of_name found.0 found.1) (subcommand_rows_of matches.now)) }

@@ -1,4 +1,4 @@
-//! The commands, over files.
+//! The commands, over the files of the system.
 
 ghost use Rattle.std.specs.Prelude.{◌≡◌, None, map, string_bytes};
 ghost use Rattle.coord_commands.specs.Ending.{CommandEnds};
@@ -23,7 +23,7 @@ use std::thread::Threads;
 use std::time::Clock;
 
 /// Carries out the command that the program's arguments request, and returns the exit status. Only
-/// `serve` may wait.
+/// `serve` may wait for others.
 pub fn run<
     S: Files<File = File> + Net + Threads + Wait + Clock + Sync + AllocGlobal,
     R: Read,
@@ -80,9 +80,9 @@ pub fn init<S: Files<File = File> + AllocGlobal, R: Read, W: Write, E: Write>(
     init_in(rt.alloc(), &mut folder, file, topology, streams)
 }
 
-/// Migrates the store in a file to version 2, prints its number of steps, and returns the exit
-/// status. The file is locked meanwhile, and created if it does not exist. A store of version 2 is
-/// unchanged, and the same is printed; one with a node in a reset is refused and unchanged too.
+/// Migrates the store in a file to version 2, prints its number of steps, and returns the exit status.
+/// The file is locked meanwhile, and created if it does not exist. For a store of version 2 the same is
+/// printed, and nothing changes. A store with a node in a reset is refused, and left unchanged.
 pub fn migrate<S: Files<File = File> + AllocGlobal, R: Read, W: Write, E: Write>(
     rt: &S,
     file: &str,
@@ -96,8 +96,8 @@ pub fn migrate<S: Files<File = File> + AllocGlobal, R: Read, W: Write, E: Write>
     migrate_in(rt.alloc(), &mut folder, file, streams)
 }
 
-/// Prints that the store in a file is legal, with its number of steps, or the first predicate that
-/// its snapshot violates, and returns the exit status: 1 for a violation.
+/// Prints that the store in a file is legal, with its number of steps; or the first predicate that its
+/// snapshot violates. Returns the exit status, which is 1 for a violation.
 pub fn check<S: Files<File = File> + AllocGlobal, R: Read, W: Write, E: Write>(
     rt: &S,
     file: &str,

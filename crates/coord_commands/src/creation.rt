@@ -20,8 +20,8 @@ use coord_disk::{Disk, Takable};
 use coord_store::Store;
 use std::alloc::Global;
 
-/// Creates a store on an empty disk and commits the nodes and links of a topology at once. If one
-/// of them is refused, the store is left empty.
+/// Creates a store on an empty disk, and commits the nodes and links of a topology in one commit. If
+/// one of them is refused, the store is left without any step.
 pub fn create_store<D: Disk + Takable>(
     alloc: Global,
     disk: D,
@@ -41,7 +41,7 @@ pub fn create_store<D: Disk + Takable>(
         (D.model.present disk).read topology.now.half refused.0) }
     ensures named { IfErr result (λ refused. IsOfCreation refused.0) }
 
-    // What a refusal leaves, the device's own faults aside.
+    // The disk after a refusal, unless its device failed.
     ensures unchanged { D.model.keeps_model disk ≡ true →
         IfErr result (λ refused. (refused.0 ≡ Failed NotEmpty) ⊎ (refused.0 ≡ Failed HalfSize) →
         IsUntouched D.model disk refused.1) }

@@ -26,9 +26,9 @@ pub enum Fault {
     Write,
     /// A socket could not be bound or listened to.
     Socket,
-    /// The input did not end within the number of reads that a command makes.
+    /// The input did not end within the allowed number of reads.
     TooManyReads,
-    /// There was not enough memory.
+    /// Memory ran out.
     OutOfMemory,
     /// The topology file was refused.
     Topology(ConfigFault),
@@ -41,7 +41,8 @@ pub enum Fault {
 }
 
 impl Fault {
-    /// Returns the fault of arguments that could not be read: out of memory, or else `Usage`.
+    /// Returns the fault for arguments that could not be read: `OutOfMemory` if the error says so,
+    /// otherwise `Usage`.
     pub fn of_arguments(error: &Error) -> Fault
         ensures memory { error_kind error.now ≡ ErrorKind.OutOfMemory → result ≡ Fault.OutOfMemory }
         ensures other { error_kind error.now ≢ ErrorKind.OutOfMemory → result ≡ Fault.Usage }
@@ -49,7 +50,7 @@ impl Fault {
         Fault::or_memory(error, Fault::Usage)
     }
 
-    /// Returns the fault of a failed call: out of memory if the error says so, else `other`.
+    /// Returns the fault for a failed call: `OutOfMemory` if the error says so, otherwise `other`.
     pub(crate) fn or_memory(error: &Error, other: Fault) -> Fault
         ensures memory { error_kind error.now ≡ ErrorKind.OutOfMemory → result ≡ Fault.OutOfMemory }
         ensures other { error_kind error.now ≢ ErrorKind.OutOfMemory → result ≡ other }
@@ -60,8 +61,8 @@ impl Fault {
         }
     }
 
-    /// Returns the exit status: 1 for a refusal, 2 for refused arguments, 3 for reading, writing,
-    /// sockets and the device, 4 for out of memory.
+    /// Returns the exit status: 1 for a refusal, 2 for refused arguments, 3 for a failure to read or
+    /// write or of a socket or the device, 4 if memory ran out.
     pub fn status(&self) -> u8
         ensures number { result ≡ fault_status self.now }
         ensures failed { 0 < result }

@@ -10,11 +10,11 @@ use std::io;
 use std::io::Read;
 use std::rt::Files;
 
-/// A folder of named disks and texts. `holds` is the content of a named disk, and `says` the bytes
-/// of a named text, if they are known. Nothing is known of real files, everything of disks in
-/// memory.
+/// A folder of named disks and texts. `holds` is the content of a named disk, and `says` the bytes of a
+/// named text, as far as they are known. The contents of real files are unknown, and the contents of
+/// disks in memory are known.
 pub trait Folder {
-    /// A disk under a name.
+    /// A named disk.
     type Disk: Disk + Send + Takable;
 
     /// A named text, read whole.
@@ -29,7 +29,7 @@ pub trait Folder {
         ensures { IfOk result (λ disk. bytes_of Self.Disk.model disk ≡
             reads (holds self.now name.now)) };
 
-    /// Takes the named disk, to read and write it. Nobody else has it until it is put back.
+    /// Takes the named disk, for reading and writing. Nobody else can take it until it is put back.
     fn open(&mut self, name: &str) -> Result<Self::Disk, DiskFault>
         ensures taken { IfOk result (λ disk. known_of Self.Disk.model disk ≡
             holds self.old name.now) }
@@ -45,7 +45,7 @@ pub trait Folder {
         ensures { IfOk result (λ text. Self.Text.remaining text ≡ says self.now name.now) };
 }
 
-/// The files of the system, by their paths. Nothing is known of them.
+/// The files of the system, by their paths. Their contents are unknown to contracts.
 #[derive(Drop)]
 pub struct FileFolder<'a, S> {
     rt: &'a S,
@@ -73,7 +73,7 @@ impl<S: Files<File = File>> Folder for FileFolder<'_, S> {
         FileDisk::open_to_read(self.rt, name)
     }
 
-    /// The file is locked until the disk is dropped.
+    /// Opens the file, and locks it until the disk is dropped.
     fn open(&mut self, name: &str) -> Result<FileDisk, DiskFault> {
         FileDisk::open(self.rt, name)
     }

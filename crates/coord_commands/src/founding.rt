@@ -21,8 +21,8 @@ use std::alloc::{AllocError, Global};
 pub const VERSION: u8 = 2;
 
 /// Returns the first steps of a store with a topology: the founder's orders, numbered from 1, each
-/// fresh after those before it in an empty store. Returns the first refusal otherwise; more than
-/// 256 steps, which no store takes at once, are `PendingFull`.
+/// fresh after those before it in an empty store. If one of them is refused, returns the first refusal.
+/// More than 256 steps, which do not fit into one commit, are refused as `PendingFull`.
 pub fn founding_steps(alloc: Global, topology: &Topology) -> Result<Vec<Step>, Fault>
     ensures steps { IfOk result (λ steps. steps.items ≡ orders (content topology.now)) }
     ensures fresh { IfOk result (λ steps. AllFresh (no_world 2) (no_world 2) steps.items) }
@@ -35,8 +35,8 @@ pub fn founding_steps(alloc: Global, topology: &Topology) -> Result<Vec<Step>, F
     submit_all(alloc, &commands)
 }
 
-/// Returns the commands that build a topology: an Add for each node, then a Join for each link, in
-/// the order of the file.
+/// Returns the commands that build a topology, in the order of the file: an Add for each node, then a
+/// Join for each link.
 fn commands(alloc: Global, topology: &Topology) -> Result<Vec<Command>, AllocError>
     ensures { IfOk result (λ list. list.items ≡ commands (content topology.now)) }
 {
@@ -64,7 +64,7 @@ fn join_all(list: &mut Vec<Command>, links: &[LinkEntry]) -> Result<(), AllocErr
     Ok(())
 }
 
-/// Submits commands as the founder's orders.
+/// Submits these commands as the founder's orders to an empty store, and returns the steps.
 fn submit_all(alloc: Global, commands: &[Command]) -> Result<Vec<Step>, Fault>
     ensures steps { IfOk result (λ steps. steps.items ≡ numbered 1 commands.now) }
     ensures fresh { IfOk result (λ steps. AllFresh (no_world 2) (no_world 2) steps.items) }
@@ -127,14 +127,14 @@ impl Founding {
     }
 }
 
-/// The same.
+/// Returns the version of a new store's world.
 fn version() -> Version
     ensures { result ≡ 2 }
 {
     Version::new(VERSION).unwrap()
 }
 
-/// Returns the client of the first orders of a store.
+/// Returns the client of a store's first orders.
 fn founder() -> Client
     ensures { result ≡ founder }
 {

@@ -18,9 +18,9 @@ use coord_world::World;
 use std::alloc::{AllocError, Global};
 use std::io::{Read, Write};
 
-/// Prints that the store on the named disk is legal, with its number of steps, or the first
-/// predicate that its snapshot violates, and returns the exit status: 1 for a violation. The disk
-/// is opened for reading only.
+/// Prints that the store on the named disk is legal, with its number of steps; or the first predicate
+/// that its snapshot violates. Returns the exit status, which is 1 for a violation. The disk is opened
+/// for reading only.
 pub fn check_in<F: Folder, R: Read, W: Write, E: Write>(
     alloc: Global,
     folder: &F,
@@ -92,8 +92,8 @@ fn show_at<F: Folder, W: Write>(
     show_store(alloc, disk, output)
 }
 
-/// Opens the store on a disk, and prints that it is legal, with its number of steps, or the first
-/// predicate that its snapshot violates. Returns whether it is legal.
+/// Opens the store on a disk, and prints that it is legal, with its number of steps; or the first
+/// predicate that its snapshot violates. Returns whether the store is legal.
 pub fn check_store<D: Disk, W: Write>(alloc: Global, disk: D, output: &mut W) -> Result<bool, Fault>
     ensures legal { IfOk result (λ legal. legal ≡ true →
         PrintsOne (IsLegalLine (bytes_of D.model disk)) (W.contents output.old)
@@ -154,7 +154,7 @@ pub fn show_store<D: Disk, W: Write>(alloc: Global, disk: D, output: &mut W) -> 
 fn shown_text(alloc: Global, world: &World) -> Result<String, AllocError>
     ensures { IfOk result (λ text. string_bytes text ≡ shown world.now) }
 {
-    // All accepted steps of a store that is not being served are settled.
+    // While a store is not being served, all its accepted steps are settled.
     let view = view_of(alloc, world.count(), world)?;
     let mut text = String::new(alloc);
     print_view(&mut text, &view)?;

@@ -4,9 +4,9 @@ use coord_server::TakableOutput;
 use std::io;
 use std::io::Write;
 
-/// An output lent to a server. The bytes that contracts see begin with the number that
-/// identifies this output: so if a server returns one that holds the lent bytes, and more after
-/// them, it is exactly this output.
+/// An output lent to a server. The bytes that contracts see begin with the number that identifies this
+/// output. So if a server returns an output whose bytes begin with the lent ones, it is exactly this
+/// output.
 #[derive(Drop)]
 pub struct Lent<'a, W: Write> {
     pub output: &'a mut W,

@@ -1,25 +1,25 @@
 //! The program's commands: each is a function that returns its exit status.
 //!
-//! `specs/Arguments.antt` defines the request of the program's arguments, `specs/Faults.antt` the
-//! name, the status and the printed line of each fault, and `specs/Printed.antt` the lines of a
+//! `specs/Arguments.antt` defines the request that the program's arguments make, `specs/Faults.antt`
+//! the name, the status and the printed line of each fault, and `specs/Printed.antt` the lines for a
 //! store. `run` carries out the arguments.
 //!
-//! Each command but the drill works in a `Folder`, which has the named disks and texts: `run_in`,
-//! `init_in`, `check_in`, `show_in`, `migrate_in` and `serve_in`. The public commands are thin
-//! calls of these over the files of the system, of which nothing is claimed; of a `MemFolder`,
-//! whose disk and texts are in memory, everything is known. `run_in` waits for nobody, and leaves
-//! `serve` to its caller.
+//! Each command except the drill works in a `Folder`, which has the named disks and texts: `run_in`,
+//! `init_in`, `check_in`, `show_in`, `migrate_in` and `serve_in`. The public commands only call these
+//! over the files of the system, whose contents are unknown. A `MemFolder` has its disk and texts in
+//! memory, and their contents are known. `run_in` never waits for others; it leaves `serve` to its
+//! caller.
 //!
 //! The input, the output and standard error of a run are passed as one value, `Streams`. A contract
 //! sees the three and their known contents (`specs/Streams.antt`).
 //!
-//! Below them are functions over any disk: `create_store`, whose store begins with the orders of
-//! a topology (`specs/Founding.antt`), `check_store` and `show_store` (`specs/Inspection.antt`),
-//! `migrate_store` (`specs/Migrating.antt`), and `serve_store` of coord_server. The main theorems
-//! are the contracts of `run_in` and `serve_in`: which line is printed for the world that the bytes
-//! of the named disk give, which status is returned, and with which faults each command may end, in
-//! which order (`specs/Running.antt`, `specs/Making.antt`, `specs/Migrating.antt`,
-//! `specs/Inspection.antt`, `specs/Serving.antt`).
+//! The functions below the commands work on any disk: `create_store`, whose store begins with the
+//! orders of a topology (`specs/Founding.antt`); `check_store` and `show_store`
+//! (`specs/Inspection.antt`); `migrate_store` (`specs/Migrating.antt`); and `serve_store` of
+//! coord_server. The main theorems are the contracts of `run_in` and `serve_in`: which line is printed
+//! for the world that the bytes of the named disk give, which status is returned, and with which faults
+//! each command may end, in which order (`specs/Running.antt`, `specs/Making.antt`,
+//! `specs/Migrating.antt`, `specs/Inspection.antt`, `specs/Serving.antt`).
 #![tactic(auto)]
 
 mod arguments;

@@ -1,4 +1,4 @@
-//! The lines that the commands print.
+//! Prints the lines of the commands.
 
 ghost use Rattle.std.specs.Prelude.{IfErr, OnErr, OnOk};
 ghost use Rattle.std.specs.Io.KnownBytes.{Appends};
@@ -14,7 +14,7 @@ use room::Room;
 use std::io;
 use std::io::Write;
 
-/// Writes a whole text. If that fails, exactly a prefix of it was written.
+/// Writes a whole text. If a write fails, exactly a prefix of the text was written.
 pub fn print<W: Write>(output: &mut W, text: &str) -> Result<(), Fault>
     ensures ok { OnOk result (Appends (W.contents output.old) (W.contents output.new) text.now) }
     ensures err { OnErr result (WritesFirstPart (W.contents output.old)
@@ -30,7 +30,7 @@ pub fn print<W: Write>(output: &mut W, text: &str) -> Result<(), Fault>
     Ok(())
 }
 
-/// Prints the line of a fault, which needs no memory.
+/// Prints the line of a fault. It allocates nothing.
 pub fn print_fault<W: Write>(output: &mut W, fault: &Fault) -> io::Result<()>
     ensures ok { OnOk result (Appends (W.contents output.old) (W.contents output.new)
         (fault_line fault.now)) }

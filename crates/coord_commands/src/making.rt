@@ -18,9 +18,9 @@ use coord_disk::{Disk, Takable};
 use std::alloc::Global;
 use std::io::{Read, Write};
 
-/// Creates a store on the named disk, which must be empty, with the nodes and links of a topology
-/// file, prints its number of steps, and returns the exit status. The topology is read and checked
-/// before the disk is opened.
+/// Creates a store on the named disk, which must be empty, with the nodes and links of a topology file.
+/// Prints its number of steps, and returns the exit status. The topology is read and checked before the
+/// disk is opened.
 pub fn init_in<F: Folder, R: Read, W: Write, E: Write>(
     alloc: Global,
     folder: &mut F,

@@ -1,4 +1,4 @@
-//! A disk and texts in memory, by their names.
+//! A folder in memory: a named disk, and named texts.
 
 ghost use Rattle.std.specs.Prelude.{◌≡◌, None, bytes_eq, if◌then◌else◌, option_map, string_bytes};
 ghost use Rattle.std.specs.Option.{option_copied};
@@ -11,15 +11,15 @@ use std::alloc::Global;
 use std::io;
 use std::io::Cursor;
 
-/// A text and its name.
+/// A text with its name.
 #[derive(Drop)]
 pub struct Named {
     pub name: String,
     pub bytes: Vec<u8>,
 }
 
-/// A folder of one named disk in memory, and texts, all of them known. While the disk is taken it
-/// is absent; a disk of another name can't be opened.
+/// A folder with one named disk in memory, and texts, whose contents are all known. While the disk is
+/// taken, it is absent. A disk with another name can't be opened.
 #[derive(Drop)]
 pub struct MemFolder {
     pub alloc: Global,
@@ -56,7 +56,7 @@ impl Folder for MemFolder {
 
     ghost says = { λ folder. text_under folder.texts.items };
 
-    /// Opens a copy, of which a crash leaves only the synced bytes.
+    /// Opens a copy of the disk. A crash of the copy leaves only the synced bytes.
     fn open_to_read(&self, name: &str) -> Result<MemDisk, DiskFault> {
         if self.name.as_str() != name {
             return Err(DiskFault);
@@ -74,7 +74,7 @@ impl Folder for MemFolder {
         self.disk.take().ok_or(DiskFault)
     }
 
-    /// Drops a disk of another name.
+    /// Puts the disk back, or drops it if it has another name.
     fn close(&mut self, name: &str, disk: MemDisk) {
         if self.name.as_str() == name {
             self.disk = Some(disk);

@@ -21,13 +21,13 @@ use coord_store::Store;
 use std::alloc::Global;
 use std::io::{Read, Write};
 
-/// Migrates the store on the named disk to version 2, prints its number of steps, and returns the
-/// exit status. A store of version 2 is unchanged, and the same is printed; one with a node in a
-/// reset is refused and unchanged too.
+/// Migrates the store on the named disk to version 2, prints its number of steps, and returns the exit
+/// status. For a store of version 2 the same is printed, and nothing changes. A store with a node in a
+/// reset is refused, and left unchanged.
 ///
-/// At each moment, from the taking of the disk until it is put back, a crash leaves what it could
-/// have left before or the world in one version or the other. `Device` is reported only if the disk
-/// is unavailable, or its count of failures rose.
+/// From the moment when the disk is taken until it is put back, a crash leaves only what a crash could
+/// have left before, or the world in one version or the other. `Device` is reported only if the disk is
+/// unavailable or its device has failed in between.
 pub fn migrate_in<F: Folder, R: Read, W: Write, E: Write>(
     alloc: Global,
     folder: &mut F,
@@ -66,7 +66,7 @@ fn migrate_at<F: Folder, W: Write>(
     print(output, &line)
 }
 
-/// Migrates the store on the named disk, and returns the line to print. The disk is put back.
+/// Migrates the store on the named disk, puts the disk back, and returns the line to print.
 fn migrate_named<F: Folder>(alloc: Global, folder: &mut F, file: &str) -> Result<String, Fault>
     ensures line { IfOk result (λ line. IsMigratedLine (F.holds folder.old file.now)
         (F.holds folder.new file.now) (string_bytes line)) }
@@ -101,9 +101,9 @@ fn migrate_disk<D: Disk + Takable>(alloc: Global, disk: D) -> (Result<String, Fa
     }
 }
 
-/// Migrates an opened store to version 2, and returns the line to print, with its number of steps,
-/// which stays. The line is made before the store is migrated: if memory for it runs out the store
-/// is unchanged.
+/// Migrates an opened store to version 2, and returns the line to print, with the store's number of
+/// steps, which does not change. The line is made before the store is migrated, so the store is
+/// unchanged if memory for it runs out.
 pub fn migrate_store<D: Disk + Takable>(
     alloc: Global,
     store: &mut Store<D>,
@@ -117,7 +117,8 @@ pub fn migrate_store<D: Disk + Takable>(
         (store.new.torn ≡ Some (risen store.old.world)) }
     ensures stopped { IsErrOf result (Failed Stopped) → has_stopped store.old ≡ true }
     ensures fault { IfErr result (RefusesRaising store.old.world) }
-    // A crash at any moment of the call leaves what gives the world in one version or the other, and unless the device fails in a refusal, the one from before it.
+    // A crash at any moment of the call leaves bytes that give the world in one version or the other.
+    // After a refusal without a device failure, they give the world before the call.
     ensures any_moment { D.model.keeps_model store.old.disk ≡ true → store.old.torn ≡ None
         → LeavesOnly D.model store.old.disk store.new.disk
         (GivesEither store.old.world (risen store.old.world)) }

@@ -1,4 +1,4 @@
-//! The whole program, over its arguments, its streams and a runtime.
+//! The whole program, given its arguments, its streams and a runtime.
 
 ghost use Rattle.std.specs.Prelude.{◌≡◌, ◌≢◌, ◌⊎◌, List, String, Err, IfErr, IfOk, map, string_bytes};
 ghost use Rattle.std.specs.Global.{Global};
@@ -21,9 +21,9 @@ use std::sync::Wait;
 use std::thread::Threads;
 use std::time::Clock;
 
-/// Carries out the program's arguments, the first of which is its own name, and returns the exit
-/// status: the drill reads the input, results are printed on the output, and the line of a fault on
-/// standard error. If the arguments could not be read, that is reported, and nothing is done.
+/// Carries out the program's arguments, the first of which is the program's name, and returns the exit
+/// status. The drill reads the input; results are printed on the output, and the line of a fault on
+/// standard error. If the arguments could not be read, only that is reported, and nothing is done.
 pub fn run_program<
     S: Files<File = File> + Net + Threads + Wait + Clock + Sync + AllocGlobal,
     I: Iterator<Item = String>,
@@ -49,9 +49,9 @@ pub fn run_program<
     }
 }
 
-/// Opens a folder for reading, so that each standard descriptor that was closed when the program
-/// began is taken, and a read or write of it fails. Otherwise a file that is opened later would get
-/// its number, and output would go into that file.
+/// Opens a folder for reading three times, so that each standard descriptor that was closed at the
+/// program's start is taken, and reading or writing it fails. Otherwise a file that is opened later
+/// would get its number, and output would be written into that file.
 fn take_descriptors<S: Files<File = File>>(rt: &S) -> [io::Result<File>; 3] {
     [
         File::open(rt, "/"),
@@ -60,7 +60,7 @@ fn take_descriptors<S: Files<File = File>>(rt: &S) -> [io::Result<File>; 3] {
     ]
 }
 
-/// Returns the program's arguments; the first is its own name.
+/// Returns the program's arguments, the first of which is the program's name.
 fn gathered<I: Iterator<Item = String>>(
     alloc: Global,
     arguments: io::Result<I>,

@@ -16,16 +16,16 @@ use coord_drill::coord_drill;
 use std::alloc::Global;
 use std::io::{Read, Write};
 
-/// The name of a store to serve, and the address to serve it at.
+/// The name of a store to serve, and the address at which to serve it.
 #[derive(Clone, Copy)]
 pub struct ToServe<'a> {
     pub file: &'a str,
     pub address: &'a str,
 }
 
-/// Carries out the program's arguments in a folder, and returns the exit status; for `serve` it
-/// does nothing and returns what to serve. It waits for nobody. For `migrate` it also states what a
-/// crash may leave at each moment.
+/// Carries out the program's arguments in a folder, and returns the exit status; for `serve` it does
+/// nothing and returns what to serve. It never waits for others. For `migrate` its contract also states
+/// what a crash may leave at each moment.
 pub fn run_in<'a, F: Folder, R: Read, W: Write, E: Write>(
     alloc: Global,
     folder: &mut F,

@@ -33,8 +33,8 @@ use std::sync::Wait;
 use std::thread::Threads;
 use std::time::Clock;
 
-/// Serves the store on a file to the connections that come to an address, until one of them closes
-/// it, and returns the exit status. The file is locked while it is served. The address, of the form
+/// Serves the store in a file to the connections made to an address, until one of them closes it, and
+/// returns the exit status. The file is locked while it is served. The address, in the form
 /// `A.B.C.D:P`, is checked before the file is opened.
 pub fn serve<
     S: Files<File = File> + Net + Threads + Wait + Clock + Sync + AllocGlobal,
@@ -51,10 +51,10 @@ pub fn serve<
     serve_in(rt, &mut folder, file, address, streams)
 }
 
-/// Serves the store on the named disk to the connections at an address, until one of them closes
-/// it, and returns the exit status. The address is checked before the disk is opened, and the
-/// socket is bound once the store is open. The disk is put back in any case: as a server has left
-/// it; or unchanged, if it is refused, no socket can be bound, or memory to begin runs out. Only
+/// Serves the store on the named disk to the connections made to an address, until one of them closes
+/// it, and returns the exit status. The address is checked before the disk is opened, and the socket is
+/// bound once the store is open. The disk is put back in any case: as a server has left it, or
+/// unchanged if its store is refused, no socket can be bound, or memory runs out at the beginning. Only
 /// the server prints to the output.
 pub fn serve_in<
     S: Net + Threads + Wait + Clock + Sync + AllocGlobal,
@@ -122,9 +122,9 @@ fn serve_at<S: Net + Threads + Wait + Clock + Sync + AllocGlobal, F: Folder, W: 
     }
 }
 
-/// Serves an opened store to the connections of a listener, until a line closes it, and returns the
-/// last engine's state, beside the fault if there is one; or the store and the output unchanged, if
-/// memory to begin ran out. Only the server prints to the output.
+/// Serves an opened store to the connections of a listener, until a line closes it. Returns the parts
+/// of the last engine, together with the fault if there is one; or, if memory ran out at the beginning,
+/// the store and the output unchanged. Only the server prints to the output.
 fn serve_open<
     'a,
     D: Disk + Send,
@@ -196,8 +196,8 @@ fn serve_and_report<
     }
 }
 
-/// Returns a listener at an address if a descriptor is left for a connection: without one the
-/// server would listen, and answer nobody.
+/// Returns a listener at an address if a descriptor is left for a connection. Without one the server
+/// would listen but answer nobody.
 fn listening<S: Net>(rt: &S, address: SocketAddrV4) -> io::Result<S::Listener> {
     let listener = TcpListener::bind(rt, SocketAddr::V4(address))?;
     let spare = listener.try_clone()?;
@@ -205,7 +205,7 @@ fn listening<S: Net>(rt: &S, address: SocketAddrV4) -> io::Result<S::Listener> {
     Ok(listener)
 }
 
-/// Opens the disk with this name, and the store on it. A disk that is refused is put back.
+/// Opens the disk with this name, and the store on it. If the store is refused, puts the disk back.
 fn opened<F: Folder>(alloc: Global, folder: &mut F, file: &str) -> Result<Store<F::Disk>, Fault>
     ensures opened { IfOk result (IsOpenedStore F.Disk.model (F.holds folder.old file.now)) }
     ensures going { IfOk result (λ store. has_stopped store ≡ false) }

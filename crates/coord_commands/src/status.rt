@@ -9,8 +9,8 @@ use crate::fault::Fault;
 use crate::lines::print_fault;
 use std::io::Write;
 
-/// Prints the line of a fault, if the command ended with one, and returns the exit status. If the
-/// write fails, a prefix of the line is printed.
+/// Prints the fault's line if the command ended with a fault, and returns the exit status. If the write
+/// fails, a prefix of the line is printed.
 pub fn report<E: Write>(ended: Result<(), Fault>, errors: &mut E) -> u8
     ensures status { result ≡ status_of ended }
     ensures done { result ≡ 0 → IsOk ended }

@@ -1,12 +1,12 @@
-//! The input of a command, its output, and standard error.
+//! The three streams of a command: its input, its output, and standard error.
 
 ghost use Rattle.coord_commands.specs.Streams.{StreamsState};
 
 use std::io::{Read, Write};
 use std::marker::Model;
 
-/// The input, the output and standard error of a run. A contract sees the three themselves and
-/// their known contents.
+/// The input, the output and standard error of a run. A contract sees these three and their known
+/// contents.
 #[derive(Drop)]
 pub struct Streams<R: Read, W: Write, E: Write> {
     pub input: R,

@@ -1,4 +1,4 @@
--- The topology of a TOML text.
+-- The topology that a TOML text describes.
 use Rattle.std.specs.Prelude.{ℕ, nat_le, if◌then◌else◌, List, length, Option, Some, None, Result, Err}
 use Rattle.toml.specs.Data.{Members}
 use Rattle.toml.specs.Parse.{parse_document}
@@ -11,6 +11,6 @@ abbrev pub topology_if : Option Members → Result Content ConfigFault
 topology_if None = Err NotToml
 topology_if (Some ms) = topology_of ms
 
--- the topology of the text's table; a text that is too long has none
+-- the topology that a text describes, or the fault; a text that is too long is refused as NotToml
 abbrev pub reading : List ℕ → Result Content ConfigFault
 reading text = if nat_le (length text) MAX_TEXT_BYTES then topology_if (parse_document text) else Err NotToml

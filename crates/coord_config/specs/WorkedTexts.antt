@@ -11,7 +11,7 @@ node id group = record { id = id; group = group }
 abbrev link : ℕ → ℕ → LinkEntry
 link a b = record { a = a; b = b }
 
--- valid files
+-- valid files are read as the topologies that they describe
 pub record GoodTexts : Type 0 where
   pub blank : reading [] ≡ Ok (record { half = 65536; nodes = []; links = [] })
   pub linked :
@@ -19,13 +19,13 @@ pub record GoodTexts : Type 0 where
       ≡ Ok (record { half = 32768; nodes = node 1 2 ∷ node 2 2 ∷ []; links = link 2 1 ∷ [] })
   pub repeated : reading (codes "node = [{id = 64, group = 16}, {id = 64, group = 16}]") ≡ Ok (record { half = 65536; nodes = node 64 16 ∷ node 64 16 ∷ []; links = [] })
 
--- an unknown key, a missing key, and a surplus key
+-- files with an unknown, a missing or an extra key are refused as BadKey
 pub record WrongKeys : Type 0 where
   pub unknown : reading (codes "halves = 1") ≡ Err BadKey
   pub missing : reading (codes "half = 1\n[[node]]\nid = 1\n") ≡ Err BadKey
   pub extra : reading (codes "[[link]]\na = 1\nb = 2\nc = 3\n") ≡ Err BadKey
 
--- values of a wrong type, and values out of range
+-- files with a value of a wrong type or out of range are refused as BadValue
 pub record WrongValues : Type 0 where
   pub small_half : reading (codes "half = 32767") ≡ Err BadValue
   pub large_half : reading (codes "half = 16777217") ≡ Err BadValue
@@ -37,7 +37,7 @@ pub record WrongValues : Type 0 where
   pub node_65 : reading (codes "[[node]]\nid = 65\ngroup = 1\n") ≡ Err BadValue
   pub group_17 : reading (codes "[[node]]\nid = 1\ngroup = 17\n") ≡ Err BadValue
 
--- texts that are not TOML
+-- texts that are not TOML are refused as NotToml
 pub record WrongTexts : Type 0 where
   pub open_header : reading (codes "[[node]") ≡ Err NotToml
   pub repeated_key : reading (codes "half = 32768\nhalf = 32768\n") ≡ Err NotToml

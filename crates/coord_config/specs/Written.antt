@@ -1,4 +1,4 @@
--- The TOML table of a topology, and the law that reading it returns the topology.
+-- The TOML table that a topology is written as, and the law that reading it returns the topology.
 use Rattle.std.specs.Prelude.{◌≡◌, ℕ, ◌≤◌, pos, Bool, List, [], ◌∷◌, codes, length, Ok}
 use Rattle.std.specs.List.{AllByRecursion}
 use Rattle.toml.specs.Data.{Data, integer, array, table, Items, no_items, item, Members, no_members, member}
@@ -24,7 +24,7 @@ abbrev pub array_of : {X : Type 0} → (X → Data) → List X → Items
 array_of f [] = no_items
 array_of f (x ∷ xs) = item (f x) (array_of f xs)
 
--- all three keys are given, in ascending order
+-- the table has all three keys, in ascending order
 abbrev pub written : Content → Members
 written t =
     member (codes "half") (number t.half)
@@ -42,6 +42,7 @@ pub record IsInLimits (t : Content) : Type 0 where
   pub nodes : AllByRecursion IsNodeEntry t.nodes
   pub links : AllByRecursion IsLinkEntry t.links
 
--- a TOML text that writes a topology within its limits is read as that topology, in either style of the writer
+-- reading returns the topology, for every TOML text that writes a topology within its limits, in either style of the
+-- writer
 abbrev pub WrittenIsRead : Type 0
 WrittenIsRead = (t : Content) (pretty : Bool) (text : List ℕ) → IsInLimits t → IsDocumentText pretty (written t) text → length text ≤ MAX_TEXT_BYTES → reading text ≡ Ok t

@@ -1,4 +1,4 @@
-//! The reason for which a topology file is refused.
+//! The reasons for which a topology file is refused.
 
 ghost use Rattle.std.specs.Prelude.{◌≡◌, Some};
 ghost use Rattle.coord_config.specs.Faults.{fault_name, fault_number};
@@ -12,7 +12,7 @@ use std::fmt;
 #[derive(Clone, Copy, Debug, PartialEq, Eq)]
 pub enum ConfigFault {
     OutOfMemory,
-    /// The text is over its limit, or is not TOML.
+    /// The text is longer than 65,536 bytes, or is not TOML.
     NotToml,
     /// A key is missing or unknown.
     BadKey,

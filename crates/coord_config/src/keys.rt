@@ -8,7 +8,7 @@ ghost use Rattle.coord_config.specs.Keys.{entries_have_just, has_all, has_only, 
 use toml::value::Array;
 use toml::{Table, Value};
 
-/// Returns the value at a key.
+/// Returns the value at a key, or None if there is none.
 #[tactic(auto, using(toml::proofs::Views::table_get))]
 pub fn value_at<'a>(table: &'a Table, key: &str) -> Option<&'a Value>
     ensures { option_map (λ value. view value.now) result ≡
@@ -73,7 +73,8 @@ fn items_have_just(names: &[&str], array: &Array) -> bool
     true
 }
 
-/// Tests whether each table in the array at this key, if there is one, has exactly these keys.
+/// Tests whether each table in the array at this key has exactly these keys. If there is no array,
+/// it returns true.
 fn entries_have_just(names: &[&str], table: &Table, key: &str) -> bool
     ensures { result ≡ entries_have_just (map (λ name. name.now) names.now)
         (get_member key.now (table_view table.now)) }
@@ -87,7 +88,7 @@ fn entries_have_just(names: &[&str], table: &Table, key: &str) -> bool
     }
 }
 
-/// Tests whether each key of a topology file is known, and none is missing.
+/// Tests whether each key of a topology file is known, and no node or link lacks a key.
 pub fn has_right_keys(table: &Table) -> bool
     ensures { result ≡ has_right_keys (table_view table.now) }
 {

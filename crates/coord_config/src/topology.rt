@@ -2,14 +2,14 @@
 
 use coord_types::{Group, NodeId};
 
-/// A node that is to be added, and its group.
+/// A node to add, and its group.
 #[derive(Clone, Copy, Debug, PartialEq, Eq)]
 pub struct NodeEntry {
     pub id: NodeId,
     pub group: Group,
 }
 
-/// Two nodes that are to be linked.
+/// Two nodes to link.
 #[derive(Clone, Copy, Debug, PartialEq, Eq)]
 pub struct LinkEntry {
     pub a: NodeId,

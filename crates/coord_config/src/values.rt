@@ -14,7 +14,7 @@ use std::alloc::Global;
 use toml::value::Array;
 use toml::{Table, Value};
 
-/// The default size of a half.
+/// The default size of a half, in bytes.
 pub const DEFAULT_HALF: u64 = 65_536;
 
 /// The minimum size of a half, in bytes, the same as in coord_journal.
@@ -23,7 +23,8 @@ pub const MIN_HALF: u64 = 32_768;
 /// The maximum size of a half, in bytes, the same as in coord_journal.
 pub const MAX_HALF: u64 = 16_777_216;
 
-/// Returns the size of a half in the table, if it is in range, or the default.
+/// Returns the size of a half in the table, in bytes, or the default if the table has none. Returns
+/// None if the size is out of range.
 fn half_of(table: &Table) -> Option<u64>
     ensures { result ≡ half_of (get_member (codes "half") (table_view table.now)) }
 {
@@ -38,7 +39,7 @@ fn half_of(table: &Table) -> Option<u64>
     }
 }
 
-/// Returns the id at a key of a node or a link.
+/// Returns the node id at a key of a table, or None if there is no valid one.
 fn node_id_at(table: &Table, key: &str) -> Option<NodeId>
     ensures { result ≡ number_at key.now 1 MAX_NODES (table_view table.now) }
 {
@@ -57,7 +58,7 @@ fn group_at(table: &Table, key: &str) -> Option<Group>
 trait Entry: Drop {
     ghost reads: { Data → Option Self };
 
-    /// Returns the value as an entry, if it is one.
+    /// Returns the entry that a value describes, or None if it describes none.
     fn of(value: &Value) -> Option<Self>
         ensures { result ≡ reads (view value.now) };
 }
@@ -86,7 +87,7 @@ impl Entry for LinkEntry {
     }
 }
 
-/// Returns all items of an array, if each is an entry.
+/// Returns all items of an array as entries, or `BadValue` if some item is not an entry.
 fn each<E: Entry>(alloc: Global, array: &Array) -> Result<Vec<E>, ConfigFault>
     ensures ok { IfOk result (λ entries. each E.reads (array_view array.now) ≡ Some entries.items) }
     ensures bad { IfErr result (λ fault. fault ≢ OutOfMemory →
@@ -102,7 +103,7 @@ fn each<E: Entry>(alloc: Global, array: &Array) -> Result<Vec<E>, ConfigFault>
     Ok(entries)
 }
 
-/// Returns the entries of the array at a key, in order; none if the key is absent.
+/// Returns the entries of the array at a key, in order, or an empty list if the key is absent.
 fn entries_at<E: Entry>(alloc: Global, table: &Table, key: &str) -> Result<Vec<E>, ConfigFault>
     ensures ok { IfOk result (λ entries.
         entries_of E.reads (get_member key.now (table_view table.now)) ≡ Some entries.items) }
@@ -120,7 +121,8 @@ fn entries_at<E: Entry>(alloc: Global, table: &Table, key: &str) -> Result<Vec<E
     }
 }
 
-/// Returns the topology of the values, if each has its type and is in range.
+/// Returns the topology that these values describe, or `BadValue` if some value has a wrong type or
+/// is out of range.
 pub fn values_of(alloc: Global, table: &Table) -> Result<Topology, ConfigFault>
     ensures ok { IfOk result (λ t. values_of (table_view table.now) ≡ Some (content t)) }
     ensures bad { IfErr result (λ fault. fault ≢ OutOfMemory →

@@ -1,4 +1,4 @@
--- The meaning of a disk for its users.
+-- The model of a disk, which is all that its users see.
 pub mod Model
 -- The disks of this crate, and why each of them keeps the model.
 pub mod Disks

@@ -1,12 +1,13 @@
-//! Which of its images a crash of a disk in memory leaves.
+//! The choice of the image that a crash of a disk in memory leaves.
 
-/// The bytes that a crash leaves: a test chooses them.
+/// The bytes that a crash leaves, as chosen by a test.
 #[derive(Drop)]
 pub enum Choice {
-    /// Exactly the synced bytes.
+    /// Only the synced bytes.
     Lost,
-    /// Everything that was written, as a read gives it.
+    /// All written bytes, as a read gives them.
     Kept,
-    /// The length that a read gives, with these bytes, repeated, at the unsynced places. An empty list counts as one 0.
+    /// The bytes that a read gives, but with the unsynced places filled from this list, which is
+    /// repeated. An empty list counts as a single 0.
     Filled(Vec<u8>),
 }

@@ -1,4 +1,4 @@
-//! The bytes that a crash leaves of a disk in memory.
+//! Computes the bytes that a crash of a disk in memory leaves.
 
 ghost use Rattle.std.specs.Prelude.{◌≡◌, ◌+◌, ◌&&◌, nat_le, nat_lt, List, ℕ, Some};
 ghost use Rattle.coord_disk.specs.Model.Present.{is_within, whole};
@@ -9,14 +9,14 @@ ghost use Rattle.coord_disk.specs.Disks.Left.{IsLeft};
 use crate::Choice;
 use crate::history::{Entry, History};
 
-// Whether this many bytes from `at` on cover the place.
+// Tests whether the `len` bytes from `at` on include the place.
 fn covers(at: u64, len: u64, place: u64) -> bool
     ensures { result ≡ (nat_le at place && nat_lt place (at + len)) }
 {
     at <= place && place - at < len
 }
 
-// Whether the place was written since the last sync.
+// Tests whether the place was written since the last sync.
 fn is_written(entries: &[Entry], place: u64) -> bool
     ensures { (first : List ℕ) → result ≡
         is_within (replayed (whole first) entries.now).written place }
@@ -36,7 +36,7 @@ fn is_written(entries: &[Entry], place: u64) -> bool
     false
 }
 
-// The n-th byte of an infinite repetition of these.
+// Returns the n-th byte of the endless repetition of `filler`.
 fn filling(filler: &[u8], n: usize) -> u8
     ensures { result ≡ repeated filler.now n }
 {
@@ -60,7 +60,7 @@ fn fill(read: &mut [u8], history: &History, filler: &[u8])
     }
 }
 
-/// Replaces the bytes that a read gives by those that a crash leaves, as the choice says.
+/// Replaces the bytes that a read gives by the bytes that a crash with this choice leaves.
 pub fn crash_bytes(read: &mut Vec<u8>, history: History, choice: &Choice)
     requires { LedTo history read.old.items }
     ensures { IsLeft choice.now (present_after (past_with read.old.items (Some history)))

@@ -1,4 +1,4 @@
-//! A disk that fails some calls itself, and then leaves the disk inside untouched.
+//! A disk that fails some calls itself, without passing them to the disk inside.
 
 ghost use Rattle.std.specs.Prelude.{◌≡◌, ◌+◌, ◌<◌, ◌^◌, Bool, ℕ, Option, None, length};
 ghost use Rattle.coord_disk.specs.Model.Calls.{Crashes, HasBytes, HasCause, Measures, Reads, Syncs, Writes};
@@ -16,27 +16,29 @@ pub enum Call {
     Sync,
 }
 
-/// A rule that says which calls a disk fails.
+/// A rule that decides which calls a disk fails.
 pub trait Rule: Drop {
     ghost use Rattle.coord_disk.specs.declared.failing.Call.{Call};
 
-    /// Decides whether a call fails, and returns the rule for the calls after it.
+    /// Whether the rule may answer a call with this boolean (true: the call fails) and then become
+    /// the other rule.
     ghost says: { Self → Call → Bool → Self → Type 0 };
 
-    /// How many bytes of a failing write are written. None: the write does not reach the disk
-    /// inside.
+    /// The number of bytes that are still written of a failing write. None: the write does not
+    /// reach the disk inside.
     ghost torn: { Self → Option ℕ } = { λ _. None };
 
-    /// Whether the disk fails this call.
+    /// Decides whether the disk fails this call.
     fn fails(&mut self, call: Call) -> bool
         ensures { says self.old call result self.new };
 
-    /// How it tears a failing write.
+    /// Returns the number of bytes that are still written of a failing write, or None if the write
+    /// does not reach the disk inside.
     fn tears(&self) -> Option<usize>
         ensures { result ≡ torn self.now };
 }
 
-/// A disk that fails some calls by a rule, and passes the others on.
+/// A disk that fails some calls, as a rule decides, and passes the others on.
 #[derive(Drop)]
 pub struct FailingDisk<D, R> {
     inner: D,
@@ -48,7 +50,7 @@ pub struct FailingDisk<D, R> {
 impl<D: Disk, R: Rule> FailingDisk<D, R> {
     ghost use Rattle.coord_disk.specs.Disks.Failing.{IsOver, inner_of, rule_of, calls_of, failed_of, one_more};
 
-    /// Wraps this disk, with this rule.
+    /// Wraps a disk with a rule.
     pub fn over(inner: D, rule: R) -> Self
         ensures { IsOver inner rule result }
     {
@@ -60,7 +62,7 @@ impl<D: Disk, R: Rule> FailingDisk<D, R> {
         }
     }
 
-    /// The number of calls so far. It stays at the greatest u64.
+    /// Returns the number of calls so far, but at most the greatest u64.
     pub fn calls(&self) -> u64
         ensures { result ≡ calls_of self.now }
     {
@@ -159,7 +161,7 @@ impl<D: CrashDisk, R: Rule> CrashDisk for FailingDisk<D, R> {
 
     ghost crashes = { λ f. CrashesInside D.crashes f };
 
-    /// Crashes the disk inside. The rule and the counts continue.
+    /// Crashes the disk inside. The rule and the counts are kept.
     fn crash(self) -> Self
         ensures crashes { CrashesInside D.crashes self result }
         ensures leaves { Crashes D.model (inner_of self) (inner_of result) }

@@ -7,7 +7,7 @@ use http_server::Log;
 use std::error::Error;
 use std::fmt;
 
-/// The device failed in this call. Only its images describe its content now.
+/// The device failed in this call. After that, only its images describe its content.
 #[derive(Clone, Copy, Debug, PartialEq, Eq, Hash)]
 pub struct DiskFault;
 
@@ -26,7 +26,7 @@ pub(crate) fn counted<T, E: Drop>(
     }
 }
 
-/// Counts a call that fails.
+/// Counts a failed call, and returns its fault.
 pub(crate) fn fail(failed: &mut Log<u8, u8>) -> DiskFault
     ensures { length failed.new.items ≡ length failed.old.items + 1 }
 {

@@ -1,4 +1,4 @@
-//! A disk whose sync waits at a gate.
+//! A disk whose syncs wait at a gate.
 
 ghost use Rattle.coord_disk.specs.Disks.Failing.{IsOver};
 ghost use Rattle.coord_disk.specs.Disks.Gate.{GateSays, gate_of};
@@ -8,21 +8,22 @@ use crate::failing::{Call, FailingDisk, Rule};
 use std::sync::Arc;
 use std::sync::atomic::{AtomicBool, Ordering};
 
-/// How often a sync checks whether the gate is open.
+/// The number of times that a sync checks whether the gate is open.
 const LOOKS: u64 = 100_000_000;
 
-/// Holds each sync until another thread opens the gate.
+/// A rule that holds each sync until another thread opens the gate.
 #[derive(Drop)]
 pub struct Gate {
     entered: Arc<AtomicBool>,
     answered: Arc<AtomicBool>,
 }
 
-/// A disk whose sync waits until another thread opens a gate.
+/// A disk whose syncs wait until another thread opens a gate.
 pub type GateDisk<D> = FailingDisk<D, Gate>;
 
 impl Gate {
-    // Signals that a sync has reached the gate, and waits for the gate to open.
+    // Signals that a sync has reached the gate, and waits for the gate to open. Returns whether it
+    // did.
     fn opens(&self) -> bool {
         self.entered.store(true, Ordering::SeqCst);
         for _ in 0..LOOKS {
@@ -50,8 +51,8 @@ impl Rule for Gate {
 }
 
 impl<D: Disk> FailingDisk<D, Gate> {
-    /// Wraps this disk. Each sync sets the first flag, and reads the second up to 100,000,000
-    /// times: once that is set the sync is passed on; if it stays clear the sync fails.
+    /// Wraps a disk. Each sync sets the first flag and then reads the second up to 100,000,000
+    /// times: once that is set, the sync is passed on; if it stays clear, the sync fails.
     pub fn new(inner: D, entered: Arc<AtomicBool>, answered: Arc<AtomicBool>) -> Self
         ensures { IsOver inner (gate_of entered answered) result }
     {

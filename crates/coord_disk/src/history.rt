@@ -21,8 +21,8 @@ pub struct History {
     pub entries: Vec<Entry>,
 }
 
-// Writes over the bytes, and past their end, filling a gap with zeros. If it runs out of memory
-// nothing changes.
+// Overwrites the bytes from `at` on, appending past their end and filling a gap with zeros. If it
+// runs out of memory, nothing changes.
 fn overwrite(bytes: &mut Vec<u8>, at: usize, new: &[u8]) -> Result<(), AllocError>
     requires { at + length new.now < 2 ^ 64 }
     ensures ok { OnOk result (bytes.new.items ≡ overwritten bytes.old.items at new.now) }
@@ -37,7 +37,7 @@ fn overwrite(bytes: &mut Vec<u8>, at: usize, new: &[u8]) -> Result<(), AllocErro
     Ok(())
 }
 
-/// Writes to the current bytes, and records the write. If it runs out of memory nothing changes.
+/// Writes to the current bytes, and records the write. If it runs out of memory, nothing changes.
 pub fn write(
     alloc: Global,
     read: &mut Vec<u8>,
@@ -64,7 +64,7 @@ pub fn write(
     Ok(())
 }
 
-// Copies to the synced bytes exactly the ranges written since the last sync: elsewhere both are
+// Copies to the synced bytes the ranges written since the last sync; elsewhere both are already
 // equal.
 fn copy_written(entries: &[Entry], read: &[u8], synced: &mut [u8])
     requires { length synced.old ≡ length read.now }
@@ -77,7 +77,7 @@ fn copy_written(entries: &[Entry], read: &[u8], synced: &mut [u8])
         match &entries[n] {
             Entry::Synced => return,
             Entry::Wrote { at, bytes } => {
-                // A write of no bytes may be past the end.
+                // A write of no bytes may begin past the end.
                 let start = read.len().min(*at as usize);
                 let end = start + bytes.len().min(read.len() - start);
                 synced[start..end].copy_from_slice(&read[start..end]);
@@ -86,7 +86,7 @@ fn copy_written(entries: &[Entry], read: &[u8], synced: &mut [u8])
     }
 }
 
-/// Syncs the current bytes, and records the sync. If it runs out of memory nothing changes.
+/// Syncs the current bytes, and records the sync. If it runs out of memory, nothing changes.
 pub fn record_sync(read: &Vec<u8>, history: &mut History) -> Result<(), AllocError>
     requires led { LedTo history.old read.now.items }
     ensures led { LedTo history.new read.now.items }

@@ -1,20 +1,20 @@
-//! Disks that may crash at any moment: synced bytes stay, and the places written
-//! since may hold anything.
+//! Disks that may crash at any moment: synced bytes stay, and the places written since may hold
+//! anything.
 //!
-//! `Disk` is the trait that users see. `specs/Model` defines its meaning: `Present` says what a
-//! disk holds and which bytes a crash may leave of it, `Moments` what holds at each moment of a run
-//! of calls. A reader has to trust these definitions; `specs/Disks` only describes the disks in
-//! this crate. The main theorem is that `MemDisk` keeps the model, proved from its record of its
-//! writes and syncs (`write_at` and `sync`, clauses `crash` and `time`); its `crash` leaves what
-//! was chosen. A `FailingDisk` is any disk with calls that fail by a `Rule`, as a fuse
-//! (`FuseDisk`), a blip (`BlipDisk`) or a gate at which syncs wait (`GateDisk`); all other calls
-//! are passed on once. A `TornDisk` writes the first bytes of a write that fails.
+//! `Disk` is the trait that users see. `specs/Model` defines its model: `Present` defines the
+//! content of a disk and the bytes that a crash may leave of it, `Moments` what holds at each
+//! moment of a list of calls. A reader has to trust these definitions; `specs/Disks` only describes
+//! the disks of this crate. The main theorem is that `MemDisk` keeps the model, proved from its
+//! record of its writes and syncs (`write_at` and `sync`, clauses `crash` and `time`); its `crash`
+//! leaves the bytes that a test chose. A `FailingDisk` is any disk with a `Rule` that fails some
+//! calls: a fuse (`FuseDisk`), a blip (`BlipDisk`) or a gate at which syncs wait (`GateDisk`); each
+//! other call is passed on once. A `TornDisk` still writes the first bytes of a write that fails.
 //!
-//! `RawFile` is a file of the operating system: the calls that a disk makes, and the model that the file may keep.
-//! A `RawDisk` is the disk over such a file. It keeps the model if the file does, and its clauses
-//! `call` and `none` say which calls it makes. A `MemFile`, in memory, keeps the model and promises
-//! no more; a `SystemFile` claims nothing: that a file of the system keeps the model is the premise.
-//! A `FileDisk` is the disk over one.
+//! `RawFile` is the trait of a file of the operating system: the calls that a disk makes, and the
+//! model that the file may keep. A `RawDisk` is the disk over such a file. It keeps the model if
+//! the file does, and its clauses `call` and `none` state which calls it makes. A `MemFile`, in
+//! memory, keeps the model and promises nothing more. A `SystemFile` claims no model: that a file
+//! of the system keeps the model is a premise. A `FileDisk` is the disk over a `SystemFile`.
 #![tactic(auto)]
 
 mod choice;

@@ -13,7 +13,7 @@ use crate::{Choice, CrashDisk, Disk, DiskFault, Takable};
 use http_server::Log;
 use std::alloc::{AllocError, Global};
 
-/// A disk in memory. It records all its writes and syncs, and fails a call if memory runs out.
+/// A disk in memory. It records its writes and syncs, and fails a call if memory runs out.
 #[derive(Drop)]
 pub struct MemDisk {
     alloc: Global,
@@ -28,7 +28,8 @@ impl MemDisk {
     ghost use Rattle.coord_disk.specs.Disks.Memory.{CrashesByChoice, in_memory, past_of, present_of, choice_of, failures_of};
     ghost use Rattle.coord_disk.specs.declared.choice.Choice.TheVariants.{Lost};
 
-    /// Returns an empty disk whose crash loses everything that is not synced.
+    /// Returns an empty disk. A crash loses everything that is not synced, until `choose` is
+    /// called.
     pub fn new(alloc: Global) -> Self
         ensures present { present_of result ≡ whole [] }
         ensures choice { choice_of result ≡ Lost }
@@ -37,7 +38,8 @@ impl MemDisk {
         MemDisk::over(alloc, Vec::new(alloc))
     }
 
-    /// Returns a disk with these bytes, all synced, whose crash loses everything that is not synced.
+    /// Returns a disk with these bytes, all synced. A crash loses everything that is not synced,
+    /// until `choose` is called.
     pub fn from_bytes(alloc: Global, bytes: &[u8]) -> Result<Self, AllocError>
         ensures present { IfOk result (λ disk. present_of disk ≡ whole bytes.now) }
         ensures choice { IfOk result (λ disk. choice_of disk ≡ Lost) }
@@ -60,14 +62,14 @@ impl MemDisk {
         }
     }
 
-    /// Returns the bytes as a read gives them.
+    /// Returns the bytes that a read gives.
     pub fn bytes(&self) -> &[u8]
         ensures { result.now ≡ (present_of self.now).read }
     {
         self.read.as_slice()
     }
 
-    /// Chooses the bytes that the next crash leaves.
+    /// Sets the choice of the bytes that the next crash leaves.
     pub fn choose(&mut self, choice: Choice)
         ensures past { past_of self.new ≡ past_of self.old }
         ensures choice { choice_of self.new ≡ choice }
@@ -76,7 +78,7 @@ impl MemDisk {
         self.choice = choice;
     }
 
-    /// Tests whether the length is the synced one.
+    /// Tests whether the length equals the length at the last sync.
     pub(crate) fn is_level(&self) -> bool
         ensures { IsTrue result ↔ (length (present_of self.now).synced ≡
             length (present_of self.now).read) }
@@ -87,7 +89,7 @@ impl MemDisk {
         }
     }
 
-    // From here on, operations are recorded.
+    // Begins to record writes and syncs, if it does not yet.
     fn begin(&mut self) -> Result<(), AllocError>
         ensures past { past_of self.new ≡ past_of self.old }
         ensures failures { failures_of self.new ≡ failures_of self.old }
@@ -171,7 +173,7 @@ impl Disk for MemDisk {
         Ok(())
     }
 
-    /// If memory runs out it fails and changes nothing.
+    /// Fails if memory runs out, and then changes nothing.
     fn write_at(&mut self, at: u64, bytes: &[u8]) -> Result<(), DiskFault>
         requires { at + length bytes.now < 2 ^ 64 }
         ensures ok { OnOk result (Adds (past_of self.old) (past_of self.new)
@@ -186,7 +188,7 @@ impl Disk for MemDisk {
         }
     }
 
-    /// If memory runs out it fails and changes nothing.
+    /// Fails if memory runs out, and then changes nothing.
     fn sync(&mut self) -> Result<(), DiskFault>
         ensures ok { OnOk result (Adds (past_of self.old) (past_of self.new)
             (whole (present_of self.old).read)) }
@@ -209,7 +211,7 @@ impl CrashDisk for MemDisk {
 
     ghost crashes = { CrashesByChoice };
 
-    /// The crash leaves the chosen bytes.
+    /// Leaves the chosen bytes.
     fn crash(mut self) -> Self
         ensures crashes { CrashesByChoice self result }
         ensures leaves { Crashes in_memory self result }

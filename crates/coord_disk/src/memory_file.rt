@@ -1,4 +1,4 @@
-//! A raw file in memory, which may be crashed at will.
+//! A raw file in memory that a test can crash at will.
 
 ghost use Rattle.std.specs.Prelude.{◌≡◌, ◌<◌, [], true, false, is_ok, Ok, IfOk};
 ghost use Rattle.coord_disk.specs.Disks.Memory.{present_of};
@@ -9,19 +9,19 @@ use crate::{Choice, CrashDisk, Disk, DiskFault, MemDisk, RawFile};
 use std::alloc::Global;
 use std::io;
 
-/// The number of syncs of each kind. Each count stays at the greatest u64.
+/// The number of syncs of each kind, each at most the greatest u64.
 #[derive(Clone, Copy, Debug, PartialEq, Eq)]
 pub struct Syncs {
-    /// Of the bytes only.
+    /// Syncs of the bytes only.
     pub bytes: u64,
-    /// Of the bytes and the length.
+    /// Syncs of the bytes and the length.
     pub all: u64,
-    /// Of the folder.
+    /// Syncs of the folder.
     pub folder: u64,
 }
 
-/// A raw file in memory. It syncs only what it has to, counts its syncs, and fails a call if it
-/// runs out of memory.
+/// A raw file in memory. Each sync makes durable only the bytes that its contract promises. The
+/// file counts its syncs, and fails a call if it runs out of memory.
 #[derive(Drop)]
 pub struct MemFile {
     disk: MemDisk,
@@ -35,8 +35,8 @@ impl MemFile {
     ghost use Rattle.coord_disk.specs.Disks.MemoryFile.{disk_of, has_entry, syncs_of};
     ghost use Rattle.coord_disk.specs.declared.choice.Choice.TheVariants.{Lost};
 
-    /// An empty new file, whose folder may lack its entry, and which loses unsynced bytes in a
-    /// crash.
+    /// Returns a new, empty file. Its entry in its folder is not synced, and a crash loses unsynced
+    /// bytes.
     pub fn new(alloc: Global) -> Self
         ensures present { present_of (disk_of result) ≡ whole [] }
         ensures choice { choice_of (disk_of result) ≡ Lost }
@@ -54,21 +54,21 @@ impl MemFile {
         }
     }
 
-    /// The bytes that a read gives.
+    /// Returns the bytes that a read gives.
     pub fn bytes(&self) -> &[u8]
         ensures { result.now ≡ (present_of (disk_of self.now)).read }
     {
         self.disk.bytes()
     }
 
-    /// The syncs so far.
+    /// Returns the number of syncs of each kind so far.
     pub fn syncs(&self) -> Syncs
         ensures { result ≡ syncs_of self.now }
     {
         self.syncs
     }
 
-    /// Chooses the bytes that the next crash leaves.
+    /// Sets the choice of the bytes that the next crash leaves.
     pub fn choose(&mut self, choice: Choice)
         ensures present { present_of (disk_of self.new) ≡ present_of (disk_of self.old) }
         ensures choice { choice_of (disk_of self.new) ≡ choice }
@@ -78,8 +78,8 @@ impl MemFile {
         self.disk.choose(choice);
     }
 
-    /// A crash leaves what was chosen. If that has a byte or more, the file's folder has the file
-    /// then.
+    /// Crashes the file, which leaves the chosen bytes. If there is at least one, the file's entry
+    /// in its folder is synced afterwards.
     pub fn crash(self) -> Self
         ensures crashes { CrashesByChoice (disk_of self) (disk_of result) }
         ensures leaves { Crashes in_memory (disk_of self) (disk_of result) }
@@ -96,7 +96,8 @@ impl MemFile {
     }
 }
 
-/// A disk in memory fails only if it runs out of memory.
+/// Returns the result of a call as a result of input and output. A disk in memory fails only if it
+/// runs out of memory.
 fn io_answer<T>(answer: Result<T, DiskFault>) -> io::Result<T>
     ensures ok { IfOk result (λ value. answer ≡ Ok value) }
     ensures same { is_ok result ≡ is_ok answer }
@@ -136,7 +137,7 @@ impl RawFile for MemFile {
         io_answer(self.disk.write_at(at, bytes))
     }
 
-    /// Does nothing if the length is not synced.
+    /// Makes nothing durable if the length is not synced.
     fn sync_data(&mut self) -> io::Result<()> {
         self.syncs.bytes = self.syncs.bytes.saturating_add(1);
         if !self.entered || !self.disk.is_level() {
@@ -145,7 +146,7 @@ impl RawFile for MemFile {
         io_answer(self.disk.sync())
     }
 
-    /// Does nothing if the folder may lack the file.
+    /// Makes nothing durable if the file's entry in its folder is not synced.
     fn sync_all(&mut self) -> io::Result<()> {
         self.syncs.all = self.syncs.all.saturating_add(1);
         if !self.entered {

@@ -13,15 +13,16 @@ use std::io;
 /// One past the last position that a file can have.
 const END: u64 = 1 << 63;
 
-/// A raw file as a disk. It keeps the model if the file does.
+/// A disk over a raw file. It keeps the model if the file does.
 ///
-/// After a failed sync each later one fails, since the system may call bytes synced that it has lost.
+/// After a failed sync, every sync fails, because the system may report bytes as synced that it has
+/// lost.
 #[derive(Drop)]
 pub struct RawDisk<F: RawFile> {
     file: F,
-    /// The file has at least this many bytes.
+    /// A lower bound of the length of the file, in bytes.
     size: u64,
-    /// Whether the length may differ from that at the last sync.
+    /// Whether the length may have changed since the last sync.
     grown: bool,
     lost: bool,
     failed: Log<u8, u8>,
@@ -35,8 +36,8 @@ pub struct RawDisk<F: RawFile> {
 impl<F: RawFile> RawDisk<F> {
     ghost use Rattle.coord_disk.specs.Disks.Raw.{file_of, failures_of, has_grown, has_lost};
 
-    /// Wraps a file that another process may have made and not synced: the entry in its folder is
-    /// synced here, and its length by the first sync.
+    /// Wraps a file that another process may have made and not synced: `over` syncs its entry in
+    /// its folder, and the first sync of the disk also syncs its length.
     pub fn over(mut file: F) -> Result<Self, DiskFault>
         ensures calls { IfOk result (λ disk. (entered : F) × F.made file SyncFolder true entered ×
             F.made entered Len true (file_of disk)) }
@@ -64,7 +65,7 @@ impl<F: RawFile> RawDisk<F> {
     }
 }
 
-/// Syncs the file's entry in its folder, and returns its length.
+/// Syncs the file's entry in its folder, and returns the file's length.
 fn opened<F: RawFile>(file: &mut F) -> io::Result<u64>
     ensures calls { OnOk result ((entered : F) × F.made file.old SyncFolder true entered ×
         F.made entered Len true file.new) }
@@ -77,7 +78,7 @@ fn opened<F: RawFile>(file: &mut F) -> io::Result<u64>
     file.len()
 }
 
-/// Returns the position this many bytes after another one, if a file can have it.
+/// Returns `at + len`, or an error if a file cannot have that position.
 fn end_of(at: u64, len: usize) -> io::Result<u64>
     ensures ok { IfOk result (λ end. (end ≡ at + len) × (end < 2 ^ 63)) }
     ensures within { at + len < 2 ^ 63 → IsOk result }
@@ -108,7 +109,7 @@ impl<F: RawFile> Disk for RawDisk<F> {
         counted(&mut self.failed, answer)
     }
 
-    /// Fails past the end of the file, and past position 2^63 - 1.
+    /// Fails if the range ends after the end of the file or after position 2^63 - 1.
     fn read(&mut self, at: u64, buf: &mut [u8]) -> Result<(), DiskFault>
         requires { HasBytes F.model (file_of self.old) at (length buf.old) }
         ensures bound { OnOk result (at + length buf.old < 2 ^ 63) }
@@ -123,7 +124,7 @@ impl<F: RawFile> Disk for RawDisk<F> {
         counted(&mut self.failed, answer)
     }
 
-    /// Fails past position 2^63 - 1.
+    /// Fails if the range ends after position 2^63 - 1.
     fn write_at(&mut self, at: u64, bytes: &[u8]) -> Result<(), DiskFault>
         requires { at + length bytes.now < 2 ^ 64 }
         ensures bound { OnOk result (at + length bytes.now < 2 ^ 63) }
@@ -135,7 +136,7 @@ impl<F: RawFile> Disk for RawDisk<F> {
     {
         let end = counted(&mut self.failed, end_of(at, bytes.len()))?;
         let grows = !bytes.is_empty() && self.size < end;
-        // A write that fails may have changed the length too.
+        // A failed write may have changed the length too.
         self.grown = self.grown || grows;
         let answer = self.file.write_at(at, bytes);
         counted(&mut self.failed, answer)?;
@@ -145,8 +146,8 @@ impl<F: RawFile> Disk for RawDisk<F> {
         Ok(())
     }
 
-    /// Syncs the length too if it may have changed. After a failure each later call fails, and
-    /// makes no call of the file.
+    /// Also syncs the length if it may have changed. After a failed sync, every later one fails
+    /// without calling the file.
     fn sync(&mut self) -> Result<(), DiskFault>
         ensures ok { OnOk result ((has_lost self.old ≡ false) × (has_lost self.new ≡ false)) }
         ensures err { OnErr result (has_lost self.new ≡ true) }
@@ -160,7 +161,7 @@ impl<F: RawFile> Disk for RawDisk<F> {
         if self.lost {
             return Err(fail(&mut self.failed));
         }
-        // No later sync can make up for a failure from here on.
+        // Assume a failure until the sync succeeds: no later sync can make up for a failed one.
         self.lost = true;
         let answer = if self.grown {
             self.file.sync_all()

@@ -1,4 +1,4 @@
-//! A file of the system, and what it may keep of written and synced bytes.
+//! The trait of a raw file of the operating system, and the model that it may keep.
 
 ghost use Rattle.std.specs.Prelude.{◌≡◌, ◌+◌, ◌<◌, ◌^◌, true, false, Bool, [], length, is_ok};
 ghost use Rattle.coord_disk.specs.Model.Calls.{HasBytes, Measures, Reads, Syncs, Writes};
@@ -8,19 +8,20 @@ ghost use Rattle.coord_disk.specs.Model.RawCalls.RawCall.{Len, Read, Write, Sync
 
 use std::io;
 
-/// A file, and its entry in a folder. If the file does not keep the model, only the clauses on
-/// which call was made hold.
+/// A file, and its entry in a folder. If the file does not keep the model, only the clauses that
+/// state which call was made hold.
 ///
-/// A sync counts only once the folder has the file: before that a crash may leave no file, which is
-/// read as an empty one.
+/// A sync counts only once the file's entry in its folder is synced: before that, a crash may leave
+/// no file, which is read as an empty one.
 pub trait RawFile: Drop {
-    /// The meaning of a file as a disk. It need not count its failures.
+    /// The model of the file as a disk. The model need not count failures.
     ghost model: { DiskModel Self };
 
-    /// Whether the folder's entry of the file is synced.
+    /// Whether the file's entry in its folder is synced.
     ghost is_entered: { Self → Bool };
 
-    /// Whether this call, which succeeds or fails, may turn one file into another.
+    /// Whether a call that succeeds (true) or fails (false) may turn the first file into the
+    /// second.
     ghost made: { Self → RawCall → Bool → Self → Type 0 };
 
     /// Returns the number of bytes.
@@ -29,23 +30,24 @@ pub trait RawFile: Drop {
         ensures entered { StaysEntered model is_entered self.old self.new }
         ensures made { made self.old Len (is_ok result) self.new };
 
-    /// Reads the bytes from a place on, as many as the buffer has.
+    /// Fills the buffer with the bytes from position `at` on.
     fn read(&mut self, at: u64, buf: &mut [u8]) -> io::Result<()>
         requires { HasBytes model self.old at (length buf.old) }
         ensures call { Reads model at buf.old buf.new self.old self.new result }
         ensures entered { StaysEntered model is_entered self.old self.new }
         ensures made { made self.old (Read at (length buf.old)) (is_ok result) self.new };
 
-    /// Writes over the present bytes, and past the end, filling a gap with zeros.
+    /// Writes bytes at position `at`. If that is past the end, zeros fill the gap.
     ///
-    /// Until a sync a crash may leave any bytes in the range, also if the write failed.
+    /// Until the next sync, a crash may leave any bytes in the range, even if the write failed.
     fn write_at(&mut self, at: u64, bytes: &[u8]) -> io::Result<()>
         requires { at + length bytes.now < 2 ^ 64 }
         ensures call { Writes model at bytes.now self.old self.new result }
         ensures entered { StaysEntered model is_entered self.old self.new }
         ensures made { made self.old (Write at bytes.now) (is_ok result) self.new };
 
-    /// Syncs the bytes. After it a crash leaves what a read gives, if the length is synced.
+    /// Syncs the bytes. After it, a crash leaves the bytes that a read gives, provided that the
+    /// length and the file's entry in its folder are synced.
     fn sync_data(&mut self) -> io::Result<()>
         ensures call { SyncsBytes model ((is_entered self.old ≡ true) ×
             (length (model.present self.old).synced ≡ length (model.present self.old).read))
@@ -53,21 +55,23 @@ pub trait RawFile: Drop {
         ensures entered { StaysEntered model is_entered self.old self.new }
         ensures made { made self.old SyncData (is_ok result) self.new };
 
-    /// Syncs the bytes and the length. After it a crash leaves what a read gives.
+    /// Syncs the bytes and the length. After it, a crash leaves the bytes that a read gives,
+    /// provided that the file's entry in its folder is synced.
     fn sync_all(&mut self) -> io::Result<()>
         ensures call { SyncsBytes model (is_entered self.old ≡ true) self.old self.new result }
         ensures entered { StaysEntered model is_entered self.old self.new }
         ensures made { made self.old SyncAll (is_ok result) self.new };
 
-    /// Syncs the folder's entry of the file.
+    /// Syncs the file's entry in its folder.
     fn sync_folder(&mut self) -> io::Result<()>
         ensures call { Enters model is_entered self.old self.new result }
         ensures made { made self.old SyncFolder (is_ok result) self.new };
 
-    /// The past of a file agrees with its present.
+    /// The model is consistent: the images since a moment include the images of the present
+    /// content.
     ghost laws: { IsModel model };
 
-    /// As long as its folder may lack the file, nothing of it is synced.
+    /// As long as the file's entry in its folder is not synced, none of its bytes is.
     ghost may_be_absent: { (file : Self) → model.keeps_model file ≡ true →
         is_entered file ≡ false → (model.present file).synced ≡ [] };
 }

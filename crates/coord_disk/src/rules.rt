@@ -1,4 +1,5 @@
-//! Rules by the number of a call: which one a disk fails, or from which one on.
+//! Rules that decide by the number of the call: which call a disk fails, or after which call all
+//! fail.
 
 ghost use Rattle.coord_disk.specs.Disks.Failing.{IsOver};
 ghost use Rattle.coord_disk.specs.Disks.Rules.{BlipSays, FuseSays, TearSays, blip_at, fuse_of, tear_at, torn_by};
@@ -6,7 +7,7 @@ ghost use Rattle.coord_disk.specs.Disks.Rules.{BlipSays, FuseSays, TearSays, bli
 use crate::Disk;
 use crate::failing::{Call, FailingDisk, Rule};
 
-/// Passes some calls, and fails each one after them.
+/// Passes some calls, and fails all later ones.
 #[derive(Drop)]
 pub struct Fuse {
     left: u64,
@@ -25,13 +26,13 @@ pub struct Tear {
     kept: usize,
 }
 
-/// A disk whose calls all fail after this many.
+/// A disk that passes some calls and fails all later ones.
 pub type FuseDisk<D> = FailingDisk<D, Fuse>;
 
 /// A disk that fails one call.
 pub type BlipDisk<D> = FailingDisk<D, Blip>;
 
-/// A disk that tears a write: it writes the first bytes, and fails.
+/// A disk that fails one call. If that is a write, its first bytes are still written.
 pub type TornDisk<D> = FailingDisk<D, Tear>;
 
 impl Rule for Fuse {
@@ -77,7 +78,7 @@ impl Rule for Tear {
 }
 
 impl<D: Disk> FailingDisk<D, Fuse> {
-    /// Wraps this disk, and passes this many calls.
+    /// Wraps a disk. The first `passes` calls are passed on; all later ones fail.
     pub fn new(inner: D, passes: u64) -> Self
         ensures { IsOver inner (fuse_of passes) result }
     {
@@ -86,7 +87,7 @@ impl<D: Disk> FailingDisk<D, Fuse> {
 }
 
 impl<D: Disk> FailingDisk<D, Blip> {
-    /// Wraps this disk. `fails` is the index of the call that fails, from 0.
+    /// Wraps a disk. `fails` is the index of the failing call, counted from 0.
     pub fn new(inner: D, fails: u64) -> Self
         ensures { IsOver inner (blip_at fails) result }
     {
@@ -95,8 +96,8 @@ impl<D: Disk> FailingDisk<D, Blip> {
 }
 
 impl<D: Disk> FailingDisk<D, Tear> {
-    /// Wraps this disk. `fails` is the index of the call that fails, and `kept` how many bytes of
-    /// it are written if it is a write.
+    /// Wraps a disk. `fails` is the index of the failing call, counted from 0. If that call is a
+    /// write, its first `kept` bytes are still written.
     pub fn new(inner: D, fails: u64, kept: usize) -> Self
         ensures { IsOver inner (tear_at fails kept) result }
     {

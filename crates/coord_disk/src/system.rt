@@ -1,4 +1,4 @@
-//! A file of the system.
+//! A file of the operating system.
 
 ghost use Rattle.std.specs.Prelude.{◌≡◌, false, IfOk};
 ghost use Rattle.coord_disk.specs.Disks.Raw.{failures_of, has_lost};
@@ -11,22 +11,22 @@ use std::io;
 use std::os::unix::fs::FileExt;
 use std::rt::Files;
 
-/// A file of the system, and its folder. Each call is one system call, or several until all bytes
-/// are read or written.
+/// A file of the operating system, and its folder. Each call makes one system call, or several
+/// until all bytes are read or written.
 ///
-/// It claims no model: that a file keeps it is a premise.
+/// It claims no model: that a file keeps one is a premise.
 #[derive(Drop)]
 pub struct SystemFile<F> {
     file: F,
-    /// None if there is no entry to sync.
+    /// The folder, or None if there is no entry to sync.
     folder: Option<F>,
 }
 
-/// A file of the system as a disk.
+/// A disk over a file of the operating system.
 pub type FileDisk = RawDisk<SystemFile<File>>;
 
 impl<F: OpenFile + FileExt + Drop> SystemFile<F> {
-    /// An open file, and its folder if its entry there has to be synced.
+    /// Wraps an open file, with its folder if its entry there has to be synced.
     pub fn over(file: F, folder: Option<F>) -> Self
         ensures file { result.file ≡ file }
         ensures folder { result.folder ≡ folder }
@@ -34,7 +34,7 @@ impl<F: OpenFile + FileExt + Drop> SystemFile<F> {
         SystemFile { file, folder }
     }
 
-    /// Returns both.
+    /// Returns the file and its folder.
     pub fn into_parts(self) -> (F, Option<F>)
         ensures { result ≡ (self.file, self.folder) }
     {
@@ -43,11 +43,11 @@ impl<F: OpenFile + FileExt + Drop> SystemFile<F> {
 }
 
 impl RawDisk<SystemFile<File>> {
-    /// Opens a file for reading and writing. If it does not exist, an empty one is created, which
-    /// only its owner may read and write. Its entry in its folder is synced.
+    /// Opens a file for reading and writing. If it does not exist, creates an empty one that only
+    /// its owner may read and write. Syncs the file's entry in its folder.
     ///
-    /// The file is locked until the disk is dropped, and nothing is read of it before that. It is a
-    /// fault if another process holds that lock, or if the path does not name a regular file.
+    /// The file is locked, before any of it is read, until the disk is dropped. The call fails if
+    /// another process holds the lock, or if the path does not name a regular file.
     pub fn open<R: Files<File = File>>(rt: &R, path: &str) -> Result<FileDisk, DiskFault>
         ensures failures { IfOk result (λ disk. failures_of disk ≡ 0) }
         ensures whole { IfOk result (λ disk. has_lost disk ≡ false) }
@@ -58,8 +58,8 @@ impl RawDisk<SystemFile<File>> {
         }
     }
 
-    /// Opens a file read-only, without a lock: writes fail. If it does not exist, an empty one is
-    /// created, as by `open`.
+    /// Opens a file read-only, without a lock: writes fail. If it does not exist, creates an empty
+    /// one, like `open`.
     pub fn open_to_read<R: Files<File = File>>(rt: &R, path: &str) -> Result<FileDisk, DiskFault>
         ensures failures { IfOk result (λ disk. failures_of disk ≡ 0) }
         ensures whole { IfOk result (λ disk. has_lost disk ≡ false) }

@@ -1,4 +1,4 @@
--- The output of a drill for each request. Each line comes from the call of the ledger that it reports.
+-- The output of a drill for each request. Each line reports the result of one call of the ledger.
 use Rattle.std.specs.Prelude.{◌≡◌, ◌≢◌, ℕ, nat_le, List, [], ◌∷◌, ◌++◌, take, Option, Some, None, Result, Ok, Err, if◌then◌else◌}
 use Rattle.std.specs.List.{AllByRecursion}
 use Rattle.coord_types.specs.declared.refusals.Refusal.{Refusal}
@@ -21,17 +21,17 @@ use Rattle.coord_drill.specs.declared.asked.Asked.{Asked}
 use Rattle.coord_drill.specs.declared.asked.Asked.TheVariants.{Submit, Refuse, Nothing, Resend, Check, Show, Hold, Flush, Crash, Version2}
 use Rattle.coord_drill.specs.declared.request.Request.{Request}
 
--- ---- flights: begin_flush, commit, end_flush, and for each settled step collect and the releases
+-- ---- flights: begin_flush, commit, end_flush; then for each settled step collect, and its releases
 
--- a flight of the next steps settles them, or reports why it was not committed
+-- The next steps leave in a flight: the lines report the settled steps, or why the flight was not committed.
 abbrev pub flight_lines : Log → List Answer → List ℕ
 flight_lines log (Begun b ∷ Committed ∷ given) = settled_lines (settled_world log).version (outs (settled_world log) (take (next_size log) (pending log)))
 flight_lines log (Begun b ∷ Failed fault ∷ given) = commit_line fault
 flight_lines log given = []
 
--- ---- steps: submit, and for a repeat collect
+-- ---- steps: submit; for a repeat also collect
 
--- a kept reply is printed once its step is settled
+-- A kept reply is printed once its step is settled, and before that the line for a pending step.
 abbrev pub kept_line : ℕ → Reply → List ℕ
 kept_line count reply = if nat_le reply.step count then reply_line reply else pending_line reply.step
 
@@ -48,7 +48,7 @@ step_lines s x given = []
 
 -- ---- all requests
 
--- the settled world, unless the ledger has stopped
+-- the lines of the settled world, or of a refusal if the ledger has stopped
 abbrev pub shown_lines : Log → List ℕ
 shown_lines log = if has_stopped log then refusal_line Stopped else view_lines (shown (accepted_count log) (settled_world log))
 
@@ -70,16 +70,16 @@ asked_lines s Version2 given = []
 
 -- ---- possible answers
 
--- With these answers to its events, the request may print this and leave this drill: the event machine allows it,
--- and memory did not run out.
+-- With these answers to its events, the request may print this and leave the drill in the state `t`: the
+-- event machine allows the answers, and memory did not run out.
 pub record IsAnswered (s : DrillState) (a : Asked) (given : List Answer) (reported : List ℕ) (t : DrillState) : Type 0 where
   pub answered : Answered (machine_of s) (line_events s.holds a given) given
   pub with_memory : AllByRecursion (λ answer. answer ≢ Refused OutOfMemory) given
   pub printed : reported ≡ asked_lines s a given
   pub goes_on : t ≡ after_asked s a given
 
--- the line with this number may, with these answers, print this and leave this drill; a bad line makes no
--- request
+-- With these answers, the line with this number may print this and leave the drill in this state. A bad line
+-- makes no request.
 abbrev pub Responds : DrillState → ℕ → Option Request → List Answer → List ℕ → DrillState → Type 0
 Responds s n None given reported t = (given ≡ []) × (reported ≡ bad_line n) × (t ≡ s)
 Responds s n (Some r) given reported t = IsAnswered s (asked (front_world s.log) r) given reported t

@@ -1,4 +1,4 @@
--- The meaning of a request for a drill with this front world.
+-- What a request asks a drill to do, which depends on the front world.
 use Rattle.std.specs.Prelude.{ℕ, ◌+◌, List, [], ◌∷◌, Option, Some, None, Result, Ok, Err}
 use Rattle.coord_types.specs.Table.{get}
 use Rattle.coord_types.specs.declared.messages.Msg.{Msg}
@@ -14,7 +14,7 @@ use Rattle.coord_drill.specs.declared.request.Request.TheVariants as request
 use Rattle.coord_drill.specs.declared.asked.Asked.{Asked}
 use Rattle.coord_drill.specs.declared.asked.Asked.TheVariants.{Submit, Refuse, Nothing, Resend, Check, Show, Hold, Flush, Crash, Version2}
 
--- the packet of the front of a lane from u to v, if there is one
+-- the first packet of a lane from u to v, if it has one
 abbrev pub packet_of : ℕ → ℕ → Lane → List Msg → Option DataPacket
 packet_of u v l [] = None
 packet_of u v l (m ∷ ms) = Some (front_packet (u, v) l m)
@@ -23,7 +23,7 @@ abbrev pub packet_on : ℕ → ℕ → Option Lane → Result (Option DataPacket
 packet_on u v None = Err NoLink
 packet_on u v (Some l) = Ok (packet_of u v l l.queue)
 
--- the packet that travels from u to v; an error if they are not linked
+-- the packet that is in transit from u to v, if there is one; an error if u and v are not linked
 unfoldable pub front : World → ℕ → ℕ → Result (Option DataPacket) Refusal
 front w u v = packet_on u v (lane_at w.links u v)
 
@@ -32,14 +32,14 @@ asked_of_front f (Err refusal) = Refuse refusal
 asked_of_front f (Ok None) = Nothing
 asked_of_front f (Ok (Some p)) = Submit (f p)
 
--- the operator is client 1
+-- the operator's client number
 abbrev pub operator : ℕ
 operator = 1
 
 unfoldable pub next_number : World → ℕ → ℕ
 next_number w c = last_number (get w.sessions c) + 1
 
--- the meaning of a request
+-- what this request asks for in this front world
 abbrev pub asked : World → Request → Asked
 asked w (request.Next x) = Submit (step.Order operator (next_number w operator) x)
 asked w (request.Order c n x) = Submit (step.Order c n x)

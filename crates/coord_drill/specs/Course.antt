@@ -1,19 +1,21 @@
--- The course of a drill and its disk while the drill reads its input.
+-- The course of a drill: what it prints and what its disk holds while it reads its input.
 --
--- A drill is at a place: its state, the lines carried out so far, their output, the steps whose
--- reply, packet or signal that output shows, the event machine since it began, and its disk. The trail of that machine has the
--- accepted steps, from the empty world on, without those that a crash has lost.
+-- A place of a drill consists of its state; the lines carried out so far; their output; the steps whose
+-- reply, packet or signal that output shows; the event machine since the drill began; and the disk. The trail
+-- of that machine is the accepted steps over the empty world, without those that a crash has lost.
 --
--- A line leads from one place to the next (`LineGoes`). Its output and the state that it leaves depend only on the answers
--- to its events. These events are a run of the ledger's machine on the disk (`RunsOn`), with the headline at each of its
--- moments (`EachMoment`). Each step with visible output is settled after its line (`settled`), before the writer gets a
--- byte of it, so whatever a crash may leave from then on has that step (`PrintedSurvives`). The line `version 2` is not an
--- event: it migrates the empty store, and at each moment of that the bytes give the empty world of one version or the other.
+-- A line leads from one place to the next (`LineGoes`). Its output and the state after it depend only on the
+-- answers to its events. These events are a run of the ledger's machine on the disk (`RunsOn`), and the
+-- headline holds at each moment of that run (`EachMoment`). After the line, each step with visible output is
+-- settled (`settled`), before the writer gets a byte of the output. So whatever a crash may leave from then
+-- on includes that step (`PrintedSurvives`). The line `version 2` is not an event: it migrates the empty
+-- store, and at each moment of the migration the bytes give the empty world in one version or the other.
 --
--- `Goes` says the same for lines one after the other, and `Course` from the store that was created on the given disk. If
--- a drill ends, its course has all lines of its input, all their output was written, and the disk that it returns
--- is the one at the end of the course (`DrillEnded`). If it fails, the course has the lines carried out, and `StopsDrill` says
--- why there are no more, how much of their output was written, and which disk the drill returns (`BrokeOff`).
+-- `Goes` states this for one line after another, and `Course` for lines from the creation of the store on the
+-- given disk. If a drill reaches the end of its input, its course has all lines of the input, all their
+-- output was written, and the returned disk is the one at the end of the course (`DrillEnded`). If it fails,
+-- its course has the lines that were carried out. `StopsDrill` then states why there are no more, how much of
+-- their output was written, and which disk the drill returns (`BrokeOff`).
 use Rattle.std.specs.Prelude.{◌≡◌, ◌⊎◌, ℕ, ◌+◌, ◌≤◌, true, List, [], ◌∷◌, ◌++◌, length, take, option_map, Option, Some, None, if◌then◌else◌}
 use Rattle.std.specs.List.{AllByRecursion}
 use Rattle.coord_disk.specs.Model.Moments.{IsUntouched, LeavesOnly}
@@ -43,17 +45,17 @@ use Rattle.coord_drill.specs.declared.fault.Fault.TheVariants.{Read, TooManyRead
 
 pub record Place (D : Type 0) : Type 0 where
   pub state : DrillState
-  pub lines : ℕ  -- how many were carried out
-  pub printed : List ℕ  -- all that they have printed
-  pub reported : List ℕ  -- the steps of which that has reported
-  pub machine : Machine  -- since the drill began, or since its line `version 2`
+  pub lines : ℕ  -- the number of lines carried out
+  pub printed : List ℕ  -- the output of these lines
+  pub reported : List ℕ  -- the steps that the output shows
+  pub machine : Machine  -- the event machine since the drill began, or since its line `version 2`
   pub disk : D
 
--- the state in which a drill begins, after its store was created on this disk
+-- the place at which a drill begins, once its store was created on this disk
 abbrev pub start : {D : Type 0} → D → Place D
 start disk = record { state = drill_over (no_world 1); lines = 0; printed = []; reported = []; machine = adopted (no_world 1); disk = disk }
 
--- these steps are settled
+-- These steps are settled.
 abbrev pub IsSettled : Machine → List ℕ → Type 0
 IsSettled s reported = AllByRecursion (λ n. n ≤ settled_count s.log) reported
 
@@ -68,27 +70,27 @@ abbrev pub reported_in : DrillState → Option Asked → List Answer → List �
 reported_in s None given = []
 reported_in s (Some a) given = reported_by s a given
 
--- Events with answers that the machine may give are a run of it on a disk, from one state of the disk to another. The
--- disk has failed exactly in the commits that report it.
+-- Events with possible answers are a run of the machine on a disk, from one state of the disk to another. The
+-- device has failed exactly in the commits that report it.
 pub record RunsOn {D : Type 0} (disk : DiskModel D) (crashes : D → D → Type 0) (s : Machine) (events : List Event) (given : List Answer) (old new : D) : Type 0 where
   pub in_range : AllByRecursion EventInRange events
   pub answered : Answered s events given
   pub moments : EachMoment disk crashes true s events given old new
   pub failed : disk.failures new ≡ disk.failures old + failed_until events given
 
--- the events take the drill from the place p to the place q
+-- These events take the drill from the place p to the place q.
 abbrev pub RunsTo : {D : Type 0} → DiskModel D → (D → D → Type 0) → List Event → List Answer → Place D → Place D → Type 0
 RunsTo disk crashes events given p q = (q.machine ≡ run p.machine events given) × RunsOn disk crashes p.machine events given p.disk q.disk
 
--- these bytes give the world of this version before any step, and it is legal
+-- These bytes give the world of this version without any step, and it is legal.
 abbrev pub GivesEmpty : ℕ → List ℕ → Type 0
 GivesEmpty version bytes = Recovered bytes (no_world version) × Legal (no_world version)
 
--- the empty store is migrated: at each moment the disk gives the empty world of one version or the other
+-- The empty store is migrated: at each moment the disk gives the empty world in one version or the other.
 abbrev pub RaisesEmpty : {D : Type 0} → DiskModel D → D → D → Type 0
 RaisesEmpty disk old new = LeavesOnly disk old new (λ bytes. GivesEmpty 1 bytes ⊎ GivesEmpty 2 bytes)
 
--- the request takes the drill from the place p to the place q
+-- This request takes the drill from the place p to the place q.
 abbrev pub Moves : {D : Type 0} → DiskModel D → (D → D → Type 0) → Option Asked → List Answer → Place D → Place D → Type 0
 Moves disk crashes None given p q = RunsTo disk crashes [] given p q
 Moves disk crashes (Some Version2) given p q = (q.machine ≡ adopted (no_world 2)) × RaisesEmpty disk p.disk q.disk × (disk.failures q.disk ≡ disk.failures p.disk)
@@ -96,7 +98,7 @@ Moves disk crashes (Some a) given p q = RunsTo disk crashes (line_events p.state
 
 -- ---- lines
 
--- a line takes the drill from the place p to the place q
+-- This line takes the drill from the place p to the place q.
 pub record LineGoes {D : Type 0} (disk : DiskModel D) (crashes : D → D → Type 0) (p : Place D) (line : Line) (q : Place D) : Type 0 where
   pub given : List Answer
   pub text : List ℕ
@@ -107,12 +109,12 @@ pub record LineGoes {D : Type 0} (disk : DiskModel D) (crashes : D → D → Typ
   pub settled : IsSettled q.machine q.reported
   pub moves : Moves disk crashes (asked_in p.state line) given p q
 
--- lines lead from one place to another, at which whatever a crash may leave survives
+-- These lines lead from one place to another. At each place in between, whatever a crash may leave survives.
 abbrev pub Goes : {D : Type 0} → DiskModel D → (D → D → Type 0) → Place D → List Line → Place D → Type 0
 Goes disk crashes p [] q = (q ≡ p) × CrashPrefix p.machine true (disk.present p.disk)
 Goes {D} disk crashes p (l ∷ ls) q = (next : Place D) × LineGoes disk crashes p l next × Goes disk crashes next ls q
 
--- the same from a store that was just created on the given disk
+-- These lines lead to this place from a store that was just created on the given disk.
 pub record Course {D : Type 0} (disk : DiskModel D) (crashes : D → D → Type 0) (given : D) (lines : List Line) (place : Place D) : Type 0 where
   pub begun : D
   pub made : disk.present begun ≡ made HALF_SIZE 1
@@ -121,77 +123,80 @@ pub record Course {D : Type 0} (disk : DiskModel D) (crashes : D → D → Type 
 
 -- ---- the end
 
--- All lines of the input were carried out, their output was written, and this disk is returned.
+-- All lines of the input were carried out, all their output was written, and this disk is returned.
 pub record DrillEnded {D : Type 0} (disk : DiskModel D) (crashes : D → D → Type 0) (given : D) (input written : List ℕ) (last : D) : Type 0 where
   pub place : Place D
   pub course : Course disk crashes given (lines_of input) place
   pub wrote : written ≡ place.printed
   pub given_back : last ≡ place.disk
 
--- The request was cut short, and the drill gives up this disk: after some of its events, which led to this machine and
--- disk; in a crash possibly after an image was chosen, and in `version 2` at a moment of the migration.
+-- The request was cut short, and the drill returns this disk. Some of its events had led to this machine and
+-- disk. In a crash, an image may already have been chosen; in `version 2`, it was at some moment of the
+-- migration.
 abbrev pub IsLeftBy : {D : Type 0} → DiskModel D → (D → D → Type 0) → Asked → Machine → D → D → Type 0
 IsLeftBy disk crashes Crash s mid lost = (lost ≡ mid) ⊎ Reopens disk crashes (Survives s) mid lost
 IsLeftBy disk crashes Version2 s mid lost = RaisesEmpty disk mid lost
 IsLeftBy disk crashes a s mid lost = lost ≡ mid
 
--- The reason is the fault beside the disk, and the disk has failed if that fault says so.
+-- A line was cut short with this fault and this disk. The device has failed if the fault says so.
 pub record CutShort {D : Type 0} (disk : DiskModel D) (crashes : D → D → Type 0) (p : Place D) (a : Asked) (refused : Fault × D) : Type 0 where
   pub cause : MayCutShort (opens_disk a) refused.0
-  pub none_reported : a ≡ Version2 → IsSettled (adopted (no_world 2)) p.reported  -- of no step, for the world is empty
-  pub given : List Answer  -- so far
+  pub none_reported : a ≡ Version2 → IsSettled (adopted (no_world 2)) p.reported  -- no step: the world is empty
+  pub given : List Answer  -- the answers so far
   pub mid : D
   pub runs : RunsOn disk crashes p.machine (take (length given) (line_events p.state.holds a given)) given p.disk mid
   pub left : IsLeftBy disk crashes a (run p.machine (take (length given) (line_events p.state.holds a given)) given) mid refused.1
   pub failed : disk.failures refused.1 ≡ disk.failures mid + failed_by refused.0
 
--- a line with this request; if it has no request, memory ran out for its output
+-- The line with this request was cut short. If it has no request, memory for its output ran out.
 abbrev pub LineCutShort : {D : Type 0} → DiskModel D → (D → D → Type 0) → Place D → Option Asked → Fault × D → Type 0
 LineCutShort disk crashes p None refused = IsOfMemory refused.0 × (refused.1 ≡ p.disk)
 LineCutShort disk crashes p (Some a) refused = CutShort disk crashes p a refused
 
--- the first of these lines was cut short
+-- The first of these lines was cut short.
 abbrev pub FirstCutShort : {D : Type 0} → DiskModel D → (D → D → Type 0) → Place D → List Line → Fault × D → Type 0
 FirstCutShort disk crashes p [] refused = ⊥
 FirstCutShort disk crashes p (l ∷ ls) refused = LineCutShort disk crashes p (asked_in p.state l) refused
 
 -- ---- why the lines after a place were not carried out, and which disk is returned
 
--- The input could not be read to its end. All output is written, and only the last line is left, whose
--- line feed did not arrive.
+-- The input could not be read to its end. All output is written. Only the last line is left, whose line feed
+-- did not arrive.
 pub record StopsReading {D : Type 0} (p : Place D) (others : List Line) (written : List ℕ) (refused : Fault × D) : Type 0 where
   pub cause : (refused.0 ≡ Read) ⊎ (refused.0 ≡ TooManyReads)
   pub wrote : written ≡ p.printed
   pub unended : length others ≡ 1
   pub same : refused.1 ≡ p.disk
 
--- The first of them was cut short, and the fault reports it. All output before it is written.
+-- The first of the remaining lines was cut short by the returned fault. All output before it is written.
 pub record StopsAtLine {D : Type 0} (disk : DiskModel D) (crashes : D → D → Type 0) (p : Place D) (others : List Line) (written : List ℕ) (refused : Fault × D) : Type 0 where
   pub wrote : written ≡ p.printed
   pub cut : FirstCutShort disk crashes p others refused
 
--- Some of the output could not be written. By then the first of them may have been cut short, by another fault.
+-- Some of the output could not be written. By then another fault may already have cut short the first of the
+-- remaining lines.
 pub record StopsWriting {D : Type 0} (disk : DiskModel D) (crashes : D → D → Type 0) (p : Place D) (others : List Line) (written : List ℕ) (refused : Fault × D) : Type 0 where
   pub cause : IsOfWriting refused.0
   pub wrote : IsShortPart written p.printed
   pub given_back : (refused.1 ≡ p.disk) ⊎ ((why : Fault) × FirstCutShort disk crashes p others (why, refused.1))
 
--- all lines were carried out and written, and then flushing the writer failed
+-- All lines were carried out and their output was written, but flushing the writer failed.
 pub record StopsFlushing {D : Type 0} (p : Place D) (others : List Line) (written : List ℕ) (refused : Fault × D) : Type 0 where
   pub cause : IsOfWriting refused.0
   pub wrote : written ≡ p.printed
   pub ended : others ≡ []
   pub same : refused.1 ≡ p.disk
 
--- a line or the writer stopped the drill
+-- A line or the writer stopped the drill.
 abbrev pub StopsWork : {D : Type 0} → DiskModel D → (D → D → Type 0) → Place D → List Line → List ℕ → Fault × D → Type 0
 StopsWork disk crashes p others written refused = StopsAtLine disk crashes p others written refused ⊎ StopsWriting disk crashes p others written refused
 
--- a line, the writer, the input or the end of the input stopped the drill
+-- A line, the writer, the input or the end of the input stopped the drill.
 abbrev pub StopsDrill : {D : Type 0} → DiskModel D → (D → D → Type 0) → Place D → List Line → List ℕ → Fault × D → Type 0
 StopsDrill disk crashes p others written refused = StopsReading p others written refused ⊎ (StopsFlushing p others written refused ⊎ StopsWork disk crashes p others written refused)
 
--- A prefix of the input's lines was carried out, and for this reason no more; this was written.
+-- A prefix of the input's lines was carried out, and the drill stopped for this reason. `written` is what it
+-- has written.
 pub record BrokeOff {D : Type 0} (disk : DiskModel D) (crashes : D → D → Type 0) (given : D) (input written : List ℕ) (refused : Fault × D) : Type 0 where
   pub lines : List Line
   pub others : List Line
@@ -200,7 +205,7 @@ pub record BrokeOff {D : Type 0} (disk : DiskModel D) (crashes : D → D → Typ
   pub course : Course disk crashes given lines place
   pub why : StopsDrill disk crashes place others written refused
 
--- no store was created on the given disk; a disk that was not empty is unchanged
+-- No store was created on the given disk. A disk that was not empty is unchanged.
 pub record NotMade {D : Type 0} (disk : DiskModel D) (given : D) (refused : Fault × D) : Type 0 where
   pub why : StoreFault
   pub fault_is : refused.0 ≡ store_fault why
@@ -208,14 +213,14 @@ pub record NotMade {D : Type 0} (disk : DiskModel D) (given : D) (refused : Faul
   pub untouched : why ≡ NotEmpty → IsUntouched disk given refused.1
   pub failed : disk.failures refused.1 ≡ disk.failures given + failed_by refused.0
 
--- ---- a whole drill, with its reader and its writer before and after it
+-- ---- a whole drill, with the states of its reader and writer
 
--- the input was carried out to its end, its output was written, and this disk is returned
+-- The input was carried out to its end, its output was written, and this disk is returned.
 abbrev pub Drills : {D : Type 0} → DiskModel D → (D → D → Type 0) → D → InOut → InOut → D → Type 0
 Drills disk crashes given old new last = Exchanges old new (λ seen written. DrillEnded disk crashes given seen written last)
 
--- It failed: after some lines of the input, or in too many reads of at least this many bytes; or no store was created, and
--- then nothing was read or written.
+-- The drill failed: after some lines of the input, because the input needed too many reads, or because no
+-- store was created. In the last case nothing was read or written.
 abbrev pub DrillFails : {D : Type 0} → DiskModel D → (D → D → Type 0) → D → InOut → InOut → Fault × D → Type 0
 DrillFails disk crashes given old new refused =
     Exchanges old new (λ seen written. BrokeOff disk crashes given seen written refused × (refused.0 ≡ TooManyReads → MOST_READS ≤ length seen))

@@ -1,8 +1,8 @@
--- The state of a drill, and its transitions.
+-- The states of a drill, and its transitions.
 --
--- A drill is the event machine, seen here by its log only: it holds a ticket for each pending step. A line is a
--- few events of the machine. If the machine may give several answers to an event, memory, the
--- device or the crash chooses, and the answer says which choice was made.
+-- A drill is the event machine, of which only the log is visible here; it holds a ticket for each pending
+-- step. A line consists of a few events of the machine. If the machine may give more than one answer to an
+-- event, memory, the device or the crash decides, and the answer shows the choice.
 use Rattle.std.specs.Prelude.{ℕ, Bool, false, true, List, [], ◌∷◌, if◌then◌else◌}
 use Rattle.coord_types.specs.declared.steps.Step.{Step}
 use Rattle.coord_world.specs.protocol.NumberedWorld.{World, no_world}
@@ -17,28 +17,28 @@ use Rattle.coord_drill.specs.declared.asked.Asked.TheVariants.{Submit, Refuse, N
 
 pub record DrillState : Type 0 where
   pub log : Log
-  pub holds : Bool  -- accepted steps are not settled at once
-  pub has_begun : Bool  -- a step was accepted, be it lost since
+  pub holds : Bool  -- whether accepted steps wait for `flush`; otherwise each is settled at once
+  pub has_begun : Bool  -- whether a step was ever accepted, even if a crash lost it
 
 -- the visible part of a machine
 abbrev pub seen_as : Machine → Bool → Bool → DrillState
 seen_as m holds begun = record { log = m.log; holds = holds; has_begun = begun }
 
--- the machine before a line: no flight is out, and this line has released nothing yet
+-- the machine before a line: no flight is out, and the line has released nothing yet
 abbrev pub machine_of : DrillState → Machine
 machine_of s = machine_over s.log
 
--- over a running ledger with this world
+-- a drill over a running ledger with this world
 abbrev pub drill_over : World → DrillState
 drill_over w = seen_as (adopted w) false false
 
--- a drill has its world's version
+-- the version of a drill's world
 abbrev pub version_of : DrillState → ℕ
 version_of s = (front_world s.log).version
 
 -- ---- the events of a line, by their answers
 
--- a flight that is out is committed and returns
+-- the events that commit a flight and take it back
 abbrev pub landing_events : List Event
 landing_events = event.Commit ∷ event.Finish ∷ []
 
@@ -46,12 +46,12 @@ abbrev pub flight_events : List Answer → List Event
 flight_events (Begun b ∷ given) = event.Begin ∷ landing_events
 flight_events given = event.Begin ∷ []
 
--- an accepted step is settled at once, unless steps are held
+-- the events of submitting a step: an accepted step is settled at once, unless steps are held
 abbrev pub step_events : Bool → Step → List Answer → List Event
 step_events holds x (Accepted n ∷ given) = event.Submit x ∷ (if holds then [] else flight_events given)
 step_events holds x given = event.Submit x ∷ []
 
--- a request that changes nothing has no event
+-- the events of a request; a request that changes nothing has none
 abbrev pub line_events : Bool → Asked → List Answer → List Event
 line_events holds (Submit x) given = step_events holds x given
 line_events holds Flush given = flight_events given
@@ -60,7 +60,7 @@ line_events holds asked given = []
 
 -- ---- the state after a line
 
--- requests that only print: no step, no flight, no crash
+-- requests that only print: they make no step, flight or crash
 abbrev pub changes_nothing : Asked → Bool
 changes_nothing (Refuse refusal) = true
 changes_nothing Nothing = true
@@ -69,11 +69,12 @@ changes_nothing Check = true
 changes_nothing Show = true
 changes_nothing asked = false
 
--- the same machine, with its log seen from the settled world
+-- the same machine, with the settled world as its base
 abbrev pub from_settled : Machine → Machine
 from_settled m = rebased_machine m m.log.settled
 
--- after a crash its log is seen from the opened world; a drill of version 2 begins before any step
+-- The machine after a line. A crash makes the opened world its base, and `version 2` starts a machine without
+-- steps.
 abbrev pub machine_after : DrillState → Asked → List Answer → Machine
 machine_after s Crash given = from_settled (run (machine_of s) (event.Crash ∷ []) given)
 machine_after s Version2 given = adopted (no_world 2)

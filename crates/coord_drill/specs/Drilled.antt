@@ -11,7 +11,7 @@ use Rattle.coord_drill.specs.Drill.{DrillState, drill_over, version_of}
 use Rattle.coord_drill.specs.Format.{◌>>=◌}
 use Rattle.coord_drill.specs.Grammar.{request_of}
 
--- an empty line and a comment
+-- whether a line is skipped: it is empty, or a comment
 abbrev pub is_skipped : List ℕ → Bool
 is_skipped [] = true
 is_skipped (c ∷ cs) = c == 35
@@ -20,7 +20,7 @@ is_skipped (c ∷ cs) = c == 35
 abbrev pub parsed : ℕ → List ℕ → Option Request
 parsed version line = if is_utf8 line then request_of version line else None
 
--- version 2 can be chosen only before the first accepted step
+-- the request, unless it is `version 2` and comes after the first accepted step
 abbrev pub unless_late : DrillState → Request → Option Request
 unless_late s Version2 = if s.has_begun then None else Some Version2
 unless_late s request = Some request
@@ -29,18 +29,18 @@ unless_late s request = Some request
 abbrev pub asked_by : DrillState → List ℕ → Option Request
 asked_by s line = parsed (version_of s) line >>= unless_late s
 
--- a skipped line prints nothing and changes nothing
+-- A skipped line prints nothing and changes nothing.
 abbrev pub UnlessSkipped : Bool → DrillState → List Answer → List ℕ → DrillState → Type 0 → Type 0
 UnlessSkipped true s given reported t Otherwise = (given ≡ []) × (reported ≡ []) × (t ≡ s)
 UnlessSkipped false s given reported t Otherwise = Otherwise
 
--- With these answers to its events, the line with this number may print this and leave this drill; a line over the limit
--- is bad, even if it is a comment.
+-- With these answers to its events, the line with this number may print this and leave the drill in this
+-- state. A line over the limit is bad, even if it is a comment.
 abbrev pub LineResponds : DrillState → ℕ → Line → List Answer → List ℕ → DrillState → Type 0
 LineResponds s n None given reported t = Responds s n None given reported t
 LineResponds s n (Some line) given reported t = UnlessSkipped (is_skipped line) s given reported t (Responds s n (asked_by s line) given reported t)
 
--- a text that is the output of a line, followed by the output of the drill that it leaves
+-- A text consists of the output of one line, and then the output of a drill in the state after it.
 pub record PrintsOn (Line : List Answer → List ℕ → DrillState → Type 0) (Behind : DrillState → List ℕ → Type 0) (text : List ℕ) : Type 0 where
   pub given : List Answer
   pub reported : List ℕ
@@ -50,11 +50,11 @@ pub record PrintsOn (Line : List Answer → List ℕ → DrillState → Type 0) 
   pub behind : Behind after rest
   pub whole : text ≡ reported ++ rest
 
--- lines, the first of which has this number, may print this
+-- A drill in this state may print this for these lines, the first of which has this number.
 abbrev pub Prints : DrillState → ℕ → List Line → List ℕ → Type 0
 Prints s n [] text = text ≡ []
 Prints s n (l ∷ ls) text = PrintsOn (LineResponds s n l) (λ t rest. Prints t (n + 1) ls rest) text
 
--- a drill may print this for its input; it begins in version 1
+-- A drill may print this for its input. It begins in version 1.
 abbrev pub IsDrilled : List ℕ → List ℕ → Type 0
 IsDrilled input text = Prints (drill_over (no_world 1)) 1 (lines_of input) text

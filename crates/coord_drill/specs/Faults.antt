@@ -1,4 +1,4 @@
--- The possible faults, and how they are reported.
+-- The possible faults of a drill, and how it reports faults of the store.
 use Rattle.std.specs.Prelude.{◌≡◌, ◌≢◌, ◌⊎◌, ℕ, Bool, true, false, Result, Ok, IsErr, MatchResult}
 use Rattle.coord_store.specs.Refused.{failed_in}
 use Rattle.coord_store.specs.declared.faults.StoreFault.{StoreFault}
@@ -10,29 +10,29 @@ use Rattle.coord_drill.specs.declared.asked.Asked.TheVariants.{Crash, Version2}
 use Rattle.coord_drill.specs.declared.fault.Fault.{Fault}
 use Rattle.coord_drill.specs.declared.fault.Fault.TheVariants.{OutOfMemory, Read, Store, TooManyReads, Write}
 
--- out of memory
+-- The fault is out of memory.
 abbrev pub IsOfMemory : Fault → Type 0
 IsOfMemory fault = fault ≡ OutOfMemory
 
--- the fault is out of memory, or a refusal of the store on the drill's disk
+-- The fault is out of memory, or a fault of the store on the drill's disk.
 abbrev pub IsOfDisk : Fault → Type 0
 IsOfDisk fault = IsOfMemory fault ⊎ ((why : StoreFault) × (fault ≡ Store why))
 
--- the fault is out of memory, or one of the writer
+-- The fault is out of memory, or a fault of the writer.
 abbrev pub IsOfWriting : Fault → Type 0
 IsOfWriting fault = IsOfMemory fault ⊎ (fault ≡ Write)
 
--- any fault except those of the reader
+-- The fault is not a fault of the reader.
 abbrev pub IsOfWork : Fault → Type 0
 IsOfWork fault = (fault ≢ Read) × (fault ≢ TooManyReads)
 
--- a request that may migrate a store, or open one again
+-- whether a request may migrate a store, or open one again
 abbrev pub opens_disk : Asked → Bool
 opens_disk Crash = true
 opens_disk Version2 = true
 opens_disk asked = false
 
--- only then may a refused store end it
+-- A fault of the store may end a request only if the request migrates a store or opens one again.
 abbrev pub MayEndBy : Bool → Fault → Type 0
 MayEndBy true fault = IsOfDisk fault
 MayEndBy false fault = IsOfMemory fault
@@ -40,31 +40,32 @@ MayEndBy false fault = IsOfMemory fault
 abbrev pub MayEnd : Asked → Fault → Type 0
 MayEnd a fault = MayEndBy (opens_disk a) fault
 
--- how a refused store is reported
+-- the fault that a drill reports for a fault of the store
 abbrev pub store_fault : StoreFault → Fault
 store_fault store.OutOfMemory = OutOfMemory
 store_fault why = Store why
 
--- a crash after which the disk could not be opened is reported as out of memory, or as its store's fault
+-- the fault that a drill reports if the disk could not be opened after a crash
 abbrev pub reopen_fault : RunFaultKind → Fault
 reopen_fault of_run.OutOfMemory = OutOfMemory
 reopen_fault (of_run.Store fault) = store_fault fault
 
--- the number of the disk's failures for this fault
+-- the number of device failures that this fault implies
 abbrev pub failed_by : Fault → ℕ
 failed_by (Store why) = failed_in why
 failed_by fault = 0
 
--- out of memory, or a failure of the disk
+-- The fault is out of memory, or a failure of the device.
 abbrev pub IsPassingFault : Fault → Type 0
 IsPassingFault fault = IsOfMemory fault ⊎ (fault ≡ Store store.Device)
 
--- on a disk that keeps the model only these faults cut a line short, and the disk only if the line migrates a store
--- or opens one again
+-- On a disk that keeps the model only these faults cut a line short. A failure of the device does so only if
+-- the line migrates a store or opens one again.
 abbrev pub MayCutShort : Bool → Fault → Type 0
 MayCutShort true why = IsPassingFault why
 MayCutShort false why = IsOfMemory why
 
--- the result of a write: the number of bytes written; a fault writes none, and a success may write none
+-- The reported result of a write: the number of bytes written. A fault writes no bytes, and a success may
+-- also write none.
 abbrev pub ReportsOfWrite : {E : Type 0} → Result ℕ E → Result ℕ Fault → Type 0
 ReportsOfWrite answer reported = MatchResult reported (λ count. (answer ≡ Ok count) ⊎ (IsErr answer × (count ≡ 0))) (λ _. (answer ≡ Ok 0) ⊎ IsErr answer)

@@ -1,4 +1,4 @@
--- Formats of words: one description of how values are written as words, which gives both the writer and the reader.
+-- Formats of word lists. One description states how a value is written as words and how it is read again.
 use Rattle.std.specs.Prelude.{◌≡◌, ℕ, List, [], ◌∷◌, ◌++◌, bytes_eq, Option, Some, None, option_and_then, if◌then◌else◌}
 
 infixl 10 ◌>>=◌
@@ -8,16 +8,16 @@ o >>= f = option_and_then f o
 abbrev pub Word : Type 0
 Word = List ℕ
 
--- reading gives a value and the remaining words, or None
+-- the result of reading: a value and the remaining words, or None
 abbrev pub Read : Type 0 → Type 0
 Read A = Option (A × List Word)
 
--- a value that cannot be written has None
+-- a format; writing returns None for a value that it can't write
 pub record Format (A : Type 0) : Type 0 where
   pub spell : A → Option (List Word)
   pub read : List Word → Read A
 
--- one word
+-- reads one word
 abbrev pub read_word : {A : Type 0} → (Word → Option A) → List Word → Read A
 read_word of_word [] = None
 read_word of_word (w ∷ ws) = of_word w >>= λ x. Some (x, ws)
@@ -25,11 +25,11 @@ read_word of_word (w ∷ ws) = of_word w >>= λ x. Some (x, ws)
 abbrev pub field : {A : Type 0} → (A → Option Word) → (Word → Option A) → Format A
 field word_of of_word = record { spell = λ x. word_of x >>= λ w. Some (w ∷ []); read = read_word of_word }
 
--- no word
+-- the format that has no words
 abbrev pub nothing : Format (Unit {0})
 nothing = record { spell = λ _. Some []; read = λ ws. Some (tt, ws) }
 
--- one after the other
+-- one format followed by another
 infixr 20 ◌&◌
 abbrev pub ◌&◌ : {A B : Type 0} → Format A → Format B → Format (A × B)
 f & g = record {
@@ -37,14 +37,14 @@ f & g = record {
   read = λ ws. f.read ws >>= λ x. g.read x.1 >>= λ y. Some ((x.0, y.0), y.1);
 }
 
--- a value made of its parts
+-- the format of a value that is made of its parts
 abbrev pub made : {A B : Type 0} → (A → B) → (B → Option A) → Format A → Format B
 made make parts f = record {
   spell = λ y. parts y >>= f.spell;
   read = λ ws. f.read ws >>= λ x. Some (make x.0, x.1);
 }
 
--- a row of a table: a verb and its fields
+-- a row of a table: a verb, and the format of its fields
 pub record Row (A : Type 0) : Type 0 where
   pub verb : Word
   pub fields : Format A
@@ -60,7 +60,7 @@ abbrev pub spell_by : {A : Type 0} → List (Row A) → A → Option (List Word)
 spell_by [] x = None
 spell_by (row ∷ rows) x = or_else (spell_row row x) (spell_by rows x)
 
--- the row of this verb reads the words after it
+-- reads the words after this verb, by the row of that verb
 abbrev pub read_by : {A : Type 0} → List (Row A) → Word → List Word → Read A
 read_by [] verb ws = None
 read_by (row ∷ rows) verb ws = if bytes_eq verb row.verb then row.fields.read ws else read_by rows verb ws
@@ -69,11 +69,11 @@ abbrev pub read_first : {A : Type 0} → List (Row A) → List Word → Read A
 read_first rows [] = None
 read_first rows (verb ∷ ws) = read_by rows verb ws
 
--- one of the rows of a table
+-- a format that is one of the rows of a table
 abbrev pub one_of : {A : Type 0} → List (Row A) → Format A
 one_of rows = record { spell = spell_by rows; read = read_first rows }
 
--- the result of a reader in the program: its answer, and the words that it leaves
+-- A parser of the program returns this value and leaves these words unread.
 abbrev pub ReadsWords : {A : Type 0} → Read A → Option A → List Word → Type 0
 ReadsWords read None left = read ≡ None
 ReadsWords read (Some x) left = read ≡ Some (x, left)

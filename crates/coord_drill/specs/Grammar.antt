@@ -1,4 +1,5 @@
--- The grammar of a drill's lines: a table of verbs and their fields. Only in version 2 is an Abort followed by its distance.
+-- The grammar of a drill's lines: a table of verbs and their fields. An Abort is followed by its distance
+-- only in version 2.
 use Rattle.std.specs.Prelude.{ℕ, ◌^◌, ◌==◌, ◌&&◌, nat_le, nat_lt, Bool, List, [], ◌∷◌, ◌++◌, length, map, codes, decimal, bytes_eq, Option, Some, None, if◌then◌else◌}
 use Rattle.std.specs.List.{slice_split, join_with_byte}
 use Rattle.std.specs.Str.{all_ascii_digits}
@@ -17,13 +18,13 @@ use Rattle.coord_drill.specs.Format.{◌>>=◌, Word, Format, field, nothing, �
 abbrev pub is_space : ℕ → Bool
 is_space c = c == 32
 
--- the words of a line: the parts before, between and after its spaces
+-- the words of a line: the parts before, between and after its spaces, some possibly empty
 abbrev pub words_of : List ℕ → List Word
 words_of line = slice_split is_space line
 
 -- ---- fields
 
--- one or more decimal digits, with a value that fits into 64 bits
+-- whether a word is one or more decimal digits whose value fits into 64 bits
 abbrev pub is_number : Word → Bool
 is_number word = all_ascii_digits word && (nat_lt 0 (length word) && nat_lt (digits_value 10 word) (2 ^ 64))
 
@@ -36,7 +37,7 @@ up_to most n = if nat_le 1 n && nat_le n most then Some n else None
 unfoldable pub number : Format ℕ
 number = field (λ n. if nat_lt n (2 ^ 64) then Some (decimal n) else None) number_of
 
--- a number from 1 to this one
+-- a number from 1 to this maximum
 abbrev pub number_to : ℕ → Format ℕ
 number_to most = field (λ n. up_to most n >>= λ m. Some (decimal m)) (λ word. number_of word >>= up_to most)
 
@@ -49,7 +50,7 @@ group = number_to MAX_GROUPS
 unfoldable pub client : Format ℕ
 client = number_to MAX_CLIENTS
 
--- the distance of an Abort: a number in version 2; nothing in version 1, where it is 0
+-- the distance of an Abort: a number in version 2; no word in version 1, where the distance is 0
 unfoldable pub distance : ℕ → Format ℕ
 distance version = record {
   spell = λ k. if version == 2 then number.spell k else (if k == 0 then Some [] else None);
@@ -58,7 +59,7 @@ distance version = record {
 
 -- ---- the tables
 
--- a row: its verb, the request made of its fields, and the fields of such a request
+-- the row of the grammar for this verb: `make` builds the value from its fields, and `parts` takes such a value apart
 abbrev pub row : {A B : Type 0} → Word → Format A → (A → B) → (B → Option A) → Row B
 row verb fields make parts = record { verb = verb; fields = made make parts fields }
 
@@ -79,7 +80,7 @@ commands =
     ∷ row (codes "confirm") (node & number) (λ p. Confirm p.0 p.1) (λ x. elim x [ Confirm u e ↦ Some (u, e) | _ ↦ None ])
     ∷ []
 
--- a bare command is an order of the operator
+-- a bare command, which is an order of the operator
 abbrev pub next_row : Row Command → Row Request
 next_row r = row r.verb r.fields Next (λ x. elim x [ Next c ↦ Some c | _ ↦ None ])
 
@@ -96,7 +97,7 @@ receipt_fields = made (λ p. Receipt (record { from = p.0; to = p.1.0; inc = p.1
     (λ x. elim x [ Receipt r ↦ Some (r.from, (r.to, (r.inc, r.number))) | _ ↦ None ])
     (node & (node & (number & number)))
 
--- the word 2, in no other spelling
+-- the word `2`, in no other spelling
 unfoldable pub version_fields : Format Request
 version_fields = made (λ _. Version2) (λ x. elim x [ Version2 ↦ Some tt | _ ↦ None ])
     (field (λ _. Some (codes "2")) (λ word. if bytes_eq word (codes "2") then Some (tt {0}) else None))

@@ -1,4 +1,4 @@
--- The state of the code: a ledger with its store at home, and a ticket for each pending step; and its output.
+-- The state of the drill's code: a ledger with its store, a ticket for each pending step, and the output.
 use Rattle.std.specs.Prelude.{◌≡◌, ◌⊎◌, ℕ, ◌-◌, ◌==◌, nat_le, List, [], ◌∷◌, ◌++◌, Option, Some, None, if◌then◌else◌, Bool}
 use Rattle.std.specs.List.{AllByRecursion}
 use Rattle.coord_types.specs.declared.steps.Step.{Step}
@@ -13,16 +13,16 @@ use Rattle.coord_drill.specs.declared.drill.Drill.{Drill}
 use Rattle.coord_drill.specs.declared.drill.flying.Flown.{Flown}
 use Rattle.coord_drill.specs.declared.drill.flying.Flown.TheVariants as flown
 
--- the claims of tickets for steps from a world on
+-- the claims of the tickets for these steps, from this world on
 abbrev pub claims_of : World → List Step → List Claim
 claims_of w [] = []
 claims_of w (s ∷ ss) = claimed s (reply w s) ∷ claims_of (next w s) ss
 
--- a ticket for each pending step
+-- The tickets are those of the ledger's pending steps, in order.
 abbrev pub IsHeld : {D : Type 0} → LedgerState D → List Claim → Type 0
 IsHeld l claims = claims ≡ claims_of (settled_world l.log) (pending l.log)
 
--- a driver with these tickets and no flight out
+-- The driver has no flight out, and the tickets are those of its pending steps.
 abbrev pub IsReadyWith : {D : Type 0} → DriverState D → List Claim → Type 0
 IsReadyWith v claims = (v.flight ≡ None) × IsHeld v.ledger claims
 
@@ -41,49 +41,49 @@ front_of d = front_world d.driver.ledger.log
 
 -- ---- the effects of calls on a ledger
 
--- no step was accepted: it is over the world of version 1 or 2 before any step
+-- No step was accepted: the log is over the world of version 1 or 2 without any step.
 abbrev pub IsEmptyLog : Log → Type 0
 IsEmptyLog log = (log ≡ log_over (no_world 1)) ⊎ (log ≡ log_over (no_world 2))
 
--- the steps of a flight are settled: the base is unchanged, and their outputs are released
+-- The steps of a flight are settled: the base is unchanged, and the outputs of the steps are released.
 pub record Settles (old : Log) (releases : List Release) (new : Log) : Type 0 where
   pub base : new.base ≡ old.base
   pub released : releases ≡ settling_releases old (new.settled - old.settled)
 
--- the landing of a flight that was out
+-- A flight that was out has returned with this result.
 abbrev pub Lands : Log → Flown → Log → Type 0
 Lands old flown.Nothing new = ⊥
 Lands old (flown.Settled releases) new = Settles old releases new
 Lands old (flown.Failed fault) new = new.base ≡ old.base
 
--- the next steps leave in a flight, if they may
+-- The next steps leave in a flight, if a flight may leave, and the flight returns with this result.
 abbrev pub FlownTo : Log → Flown → Log → Type 0
 FlownTo old flown.Nothing new = new ≡ old
 FlownTo old r new = Lands old r new
 
--- the answers to a flight's commit and its return, after which this many steps are settled
+-- the answers to committing a flight and taking it back, after which this many steps are settled
 abbrev pub landed_answers : Flown → ℕ → List Answer
 landed_answers flown.Nothing count = []
 landed_answers (flown.Settled releases) count = Committed ∷ Finished count ∷ []
 landed_answers (flown.Failed fault) count = Failed fault ∷ Finished count ∷ []
 
--- the answers to the departure of a flight of this many steps, its commit and its return
+-- the answers to sending out a flight of this many steps, committing it, and taking it back
 abbrev pub flown_answers : Flown → ℕ → ℕ → List Answer
 flown_answers flown.Nothing b count = Nothing ∷ []
 flown_answers r b count = Begun b ∷ landed_answers r count
 
 -- ---- texts
 
--- a text continues with one of these
+-- A text satisfying P was appended.
 abbrev pub Reports : List ℕ → List ℕ → (List ℕ → Type 0) → Type 0
 Reports old new P = (reported : List ℕ) × ((new ≡ old ++ reported) × P reported)
 
--- the current release and those after it
+-- the current release, if any, and those after it
 abbrev pub left : Option Release → List Release → List Release
 left None rs = []
 left (Some r) rs = r ∷ rs
 
--- the lines of the first releases, as long as they are of this step
+-- the lines of the first releases, as long as they belong to this step
 abbrev pub released_lines : ℕ → ℕ → List Release → List ℕ
 released_lines version n [] = []
 released_lines version n (r ∷ rs) = if r.step == n then output_line version r.output ++ released_lines version n rs else []
@@ -93,12 +93,13 @@ abbrev pub behind : ℕ → List Release → List Release
 behind n [] = []
 behind n (r ∷ rs) = if r.step == n then behind n rs else r ∷ rs
 
--- the lines of the first claims, as long as their steps are among the first ones: for each its reply, and its releases
+-- the lines of the first claims, as long as their steps are settled: for each its reply, and then its
+-- releases
 abbrev pub collected_lines : ℕ → ℕ → List Claim → List Release → List ℕ
 collected_lines version count [] rs = []
 collected_lines version count (c ∷ cs) rs = if nat_le c.step count then reply_line (reply_of c) ++ (released_lines version c.step rs ++ collected_lines version count cs (behind c.step rs)) else []
 
--- the claims whose steps are not among the first ones
+-- the claims whose steps are not settled
 abbrev pub waiting : ℕ → List Claim → List Claim
 waiting count [] = []
 waiting count (c ∷ cs) = if nat_le c.step count then waiting count cs else c ∷ cs
@@ -110,12 +111,12 @@ flown_lines w flown.Nothing claims = []
 flown_lines w (flown.Settled releases) claims = collected_lines w.version w.count claims releases
 flown_lines w (flown.Failed fault) claims = commit_line fault
 
--- the remaining claims
+-- the claims that remain after the flight
 abbrev pub left_by : World → Flown → List Claim → List Claim
 left_by w (flown.Settled releases) claims = waiting w.count claims
 left_by w r claims = claims
 
--- if any is collected, all are granted
+-- If any claim is collected, all claims are granted.
 abbrev pub AreGranted : Log → Flown → List Claim → Type 0
 AreGranted log (flown.Settled releases) claims = AllByRecursion (IsGranted log) claims
 AreGranted log r claims = Unit {0}

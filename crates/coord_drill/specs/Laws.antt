@@ -1,4 +1,4 @@
--- The laws of the drill: about its grammar, its possible output, and the durability of its output.
+-- The laws of the drill: about its grammar, its possible outputs, and the durability of its output.
 use Rattle.std.specs.Prelude.{◌≡◌, ℕ, ◌≤◌, List, Some}
 use Rattle.std.specs.List.{AllByRecursion}
 use Rattle.coord_ledger.specs.declared.events.Answer.{Answer}
@@ -12,21 +12,21 @@ use Rattle.coord_drill.specs.declared.fault.Fault.{Fault}
 use Rattle.coord_drill.specs.declared.request.Request.{Request}
 use Rattle.coord_drill.specs.Grammar.{request_of, spelled}
 
--- a written request is read as itself, in a drill of either version
+-- A written request is read as itself, in a drill of either version.
 abbrev pub SpelledIsRead : Type 0
 SpelledIsRead = (version : ℕ) (request : Request) (line : List ℕ) → spelled version request ≡ Some line → request_of version line ≡ Some request
 
--- if the input was carried out to its end, its output is one that a drill may print for it
+-- If a drill has carried out its whole input, its output is one that a drill may print for that input.
 abbrev pub EndedIsDrilled : {D : Type 0} → DiskModel D → (D → D → Type 0) → Type 0
 EndedIsDrilled {D} disk crashes = (given last : D) (input written : List ℕ) → DrillEnded disk crashes given input written last → IsDrilled input written
 
--- and if the drill broke off, a prefix of such an output
+-- If a drill broke off, its output is a prefix of one that a drill may print for its input.
 abbrev pub BrokenIsDrilled : {D : Type 0} → DiskModel D → (D → D → Type 0) → Type 0
 BrokenIsDrilled {D} disk crashes =
     (given : D) (input written : List ℕ) (refused : Fault × D) → BrokeOff disk crashes given input written refused → (text : List ℕ) × IsDrilled input text × IsFirstPart written text
 
--- At any moment of a run that continues from here, the surviving steps include each step that is settled here, as is each
--- step with visible output.
+-- Whatever survives a crash at any later moment of a run includes each step that is settled here; and each
+-- step with visible output is settled.
 abbrev pub PrintedSurvives : Type 0
 PrintedSurvives =
     (s : Machine) (events : List Event) (given : List Answer) (reported bytes : List ℕ) → IsConsistent s → AllByRecursion EventInRange events → Answered s events given → IsSettled s reported →

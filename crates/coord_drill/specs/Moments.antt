@@ -1,8 +1,9 @@
--- The effect of a line on the drill's disk, moment by moment, in the terms of the code's functions.
+-- The effect of a line on the drill's disk at each moment, in terms of the functions of the code.
 --
--- The events of a line lead from one driver to another, whatever machine the first one represents, with exactly the answers
--- on which the line's text and the drill's new state depend. The answers are that machine's, the other driver represents it,
--- and the headline's chain of moments (`EachMoment`) leads from the disk before the line to the disk after it.
+-- The events of a line lead from one driver to another, whatever machine the first one represents. Their
+-- answers are exactly those on which the line's text and the drill's new state depend. The machine may give
+-- these answers, the second driver represents the machine after them, and the headline's chain of moments
+-- (`EachMoment`) leads from the disk before the line to the disk after it.
 use Rattle.std.specs.Prelude.{◌≡◌, ◌≢◌, ◌⊎◌, ℕ, ◌+◌, List, [], ◌∷◌, length, take, false, true, Option, Some, Result}
 use Rattle.std.specs.List.{AllByRecursion}
 use Rattle.coord_disk.specs.Model.Moments.{LeavesOnly}
@@ -34,7 +35,7 @@ use Rattle.coord_drill.specs.declared.fault.Fault.{Fault}
 
 -- ---- events
 
--- events have led from one driver to another, and the first represents this machine
+-- Events have led from one driver to another, and the first one represents this machine.
 pub record Led {D : Type 0} (disk : DiskModel D) (crashes : D → D → Type 0) (s : Machine) (events : List Event) (given : List Answer) (d new : DriverState D) : Type 0 where
   pub in_range : AllByRecursion EventInRange events
   pub answered : Answered s events given
@@ -43,27 +44,27 @@ pub record Led {D : Type 0} (disk : DiskModel D) (crashes : D → D → Type 0) 
   pub moments : (old : D) → disk_held d ≡ Some old → disk.keeps_model old ≡ true → (now : D) × (disk_held new ≡ Some now) × (disk.keeps_model now ≡ true) × EachMoment disk crashes true s events given old now
   pub failed : (n : ℕ) → HasFailed disk.failures (disk_held d) n → HasFailed disk.failures (disk_held new) (n + failed_until events given)
 
--- these events have led from one driver to another, whatever machine the first represents
+-- These events lead from one driver to another, whatever machine the first one represents.
 abbrev pub Leads : {D : Type 0} → DiskModel D → (D → D → Type 0) → DriverState D → List Event → List Answer → DriverState D → Type 0
 Leads disk crashes d events given new = (s : Machine) → IsConsistent s → Represents d s → Led disk crashes s events given d new
 
--- a driver represents the machine over its own log
+-- A driver represents the machine over its own log.
 pub record Begins {D : Type 0} (d : DriverState D) : Type 0 where
   pub consistent : IsConsistent (started d.ledger)
   pub represents : Represents d (started d.ledger)
 
--- a flight represents it
+-- The events of a flight with these answers lead from one driver to another.
 abbrev pub GoesBy : {D : Type 0} → DiskModel D → (D → D → Type 0) → DriverState D → List Answer → DriverState D → Type 0
 GoesBy disk crashes d given new = Leads disk crashes d (flight_events given) given new
 
--- A prefix of these events was answered, and then the drill gave up its disk.
+-- A prefix of these events was answered, and then the drill returned its disk.
 pub record LeadsPart {D : Type 0} (disk : DiskModel D) (crashes : D → D → Type 0) (d : DriverState D) (events : List Answer → List Event) (lost : D) : Type 0 where
   pub given : List Answer
   pub mid : DriverState D
   pub moments : Leads disk crashes d (take (length given) (events given)) given mid
   pub left : disk_held mid ≡ Some lost
 
--- a step is submitted to a driver
+-- A step was submitted to a driver.
 pub record Hands {D : Type 0} (disk : DiskModel D) (crashes : D → D → Type 0) (d : DriverState D) (x : Step) (answer : Result Handed Refusal) (new : DriverState D) : Type 0 where
   pub handed : HandedTo d.ledger x answer new.ledger
   pub flight : new.flight ≡ d.flight
@@ -72,11 +73,12 @@ pub record Hands {D : Type 0} (disk : DiskModel D) (crashes : D → D → Type 0
 
 -- ---- the line `version 2`
 
--- these bytes give the settled world, in its own version or in version 2
+-- These bytes give the settled world, in its own version or in version 2.
 abbrev pub GivesRaised : {D : Type 0} → DriverState D → List ℕ → Type 0
 GivesRaised d = GivesEither (settled_world d.ledger.log) (risen (settled_world d.ledger.log))
 
--- the store at home, which has not stopped, was migrated, and is the new ledger's store
+-- The ledger's store was migrated, and is the store of the new ledger. If the ledger had not stopped, its disk gave the
+-- settled world at each moment, in its own version or in version 2.
 pub record RaisesTo {D : Type 0} (disk : DiskModel D) (crashes : D → D → Type 0) (d new : DriverState D) : Type 0 where
   pub begins : MayBegin disk crashes new
   pub old : D
@@ -88,7 +90,7 @@ pub record RaisesTo {D : Type 0} (disk : DiskModel D) (crashes : D → D → Typ
   pub failed : disk.failures raised ≡ disk.failures old
   pub moments : has_stopped d.ledger.log ≡ false → disk.keeps_model old ≡ true → LeavesOnly disk old raised (GivesRaised d)
 
--- the disk was given up at a moment of that, for this fault
+-- A migration as in `RaisesTo` ended early with this fault, and this disk was returned.
 pub record RaisesPart {D : Type 0} (disk : DiskModel D) (d : DriverState D) (refused : Fault × D) : Type 0 where
   pub old : D
   pub there : disk_held d ≡ Some old
@@ -98,35 +100,36 @@ pub record RaisesPart {D : Type 0} (disk : DiskModel D) (d : DriverState D) (ref
 
 -- ---- requests
 
--- events, or the migration of the store
+-- The request leads from one drill to another, by its events or by migrating the store.
 abbrev pub LeadsBy : {D : Type 0} → DiskModel D → (D → D → Type 0) → Asked → Drill D → List Answer → Drill D → Type 0
 LeadsBy disk crashes Version2 d given new = RaisesTo disk crashes d.driver new.driver
 LeadsBy disk crashes a d given new = Leads disk crashes d.driver (line_events d.holds a given) given new.driver
 
--- the request prints this and leaves this drill: text, state and disk depend on the same answers to its events
+-- The request may print this and leave the drill in this state: text, state and disk depend on the same
+-- answers to its events.
 pub record Carries {D : Type 0} (disk : DiskModel D) (crashes : D → D → Type 0) (d : Drill D) (a : Asked) (reported : List ℕ) (new : Drill D) : Type 0 where
   pub given : List Answer
   pub answered : IsAnswered (state_of d) a given reported (state_of new)
   pub moments : LeadsBy disk crashes a d given new
 
--- A statement about a line's moments: on a disk that keeps the model, and for `version 2` before any step.
+-- The moments of this line are promised: the disk keeps the model, and `version 2` comes before any step.
 abbrev pub LineIsPromised : {D : Type 0} → DiskModel D → Drill D → Asked → Type 0
 LineIsPromised disk d a = (model_held disk d.driver ≡ Some true) × (a ≡ Version2 → IsEmptyLog d.driver.ledger.log)
 
 abbrev pub CarriesIf : {D : Type 0} → DiskModel D → (D → D → Type 0) → Drill D → Asked → List ℕ → Drill D → Type 0
 CarriesIf disk crashes d a reported new = LineIsPromised disk d a → Carries disk crashes d a reported new
 
--- the disk was given up in a crash, after an image was chosen
+-- The disk was returned in a crash, after an image was chosen.
 pub record GivesUpInCrash {D : Type 0} (disk : DiskModel D) (crashes : D → D → Type 0) (d : DriverState D) (refused : Fault × D) : Type 0 where
   pub moments : (s : Machine) → IsConsistent s → Represents d s → (old : D) → disk_held d ≡ Some old → disk.keeps_model old ≡ true → Reopens disk crashes (Survives s) old refused.1
   pub cause : model_held disk d ≡ Some true → IsPassingFault refused.0
   pub failed : (n : ℕ) → HasFailed disk.failures (disk_held d) n → disk.failures refused.1 ≡ n + failed_by refused.0
 
--- memory ran out after a prefix of its events
+-- Memory ran out after a prefix of the request's events.
 abbrev pub LacksMemory : {D : Type 0} → DiskModel D → (D → D → Type 0) → Asked → Drill D → Fault × D → Type 0
 LacksMemory disk crashes a d refused = IsOfMemory refused.0 × LeadsPart disk crashes d.driver (line_events d.holds a) refused.1
 
--- the request was cut short by the fault beside the disk that was given up
+-- The request was cut short with this fault, and this disk was returned.
 abbrev pub Cuts : {D : Type 0} → DiskModel D → (D → D → Type 0) → Asked → Drill D → Fault × D → Type 0
 Cuts disk crashes Version2 d refused = RaisesPart disk d.driver refused
 Cuts disk crashes Crash d refused = LacksMemory disk crashes Crash d refused ⊎ GivesUpInCrash disk crashes d.driver refused
@@ -135,7 +138,8 @@ Cuts disk crashes a d refused = LacksMemory disk crashes a d refused
 abbrev pub CutsIf : {D : Type 0} → DiskModel D → (D → D → Type 0) → Asked → Drill D → Fault × D → Type 0
 CutsIf disk crashes a d refused = LineIsPromised disk d a → Cuts disk crashes a d refused
 
--- a flight prints this and leaves this drill, whatever tickets the machine has issued before it
+-- A flight may print this and leave the drill in this state, whatever tickets the machine has issued before
+-- it.
 pub record Flies {D : Type 0} (disk : DiskModel D) (crashes : D → D → Type 0) (d : Drill D) (reported : List ℕ) (new : Drill D) : Type 0 where
   pub given : List Answer
   pub with_memory : AllByRecursion (λ answer. answer ≢ Refused OutOfMemory) given
@@ -145,8 +149,8 @@ pub record Flies {D : Type 0} (disk : DiskModel D) (crashes : D → D → Type 0
 
 -- ---- the place of the code's drill
 
--- It is at this place, on a disk that keeps the model; whatever a crash may leave survives. Every step with visible output
--- is settled, and as long as no step was accepted its world is empty.
+-- The drill is at this place, on a disk that keeps the model, and whatever a crash may leave survives. Every
+-- step with visible output is settled. As long as no step was accepted, the world is empty.
 pub record Stands {D : Type 0} (disk : DiskModel D) (d : Drill D) (p : Place D) : Type 0 where
   pub state : p.state ≡ state_of d
   pub holds : disk_held d.driver ≡ Some p.disk
@@ -157,7 +161,7 @@ pub record Stands {D : Type 0} (disk : DiskModel D) (d : Drill D) (p : Place D) 
   pub empty : p.state.has_begun ≡ false → IsEmptyLog p.state.log
   pub survives : CrashPrefix p.machine true (disk.present p.disk)
 
--- a ledger over a store that was created on this disk
+-- The ledger is over a store that was created on this disk.
 pub record IsMade {D : Type 0} (disk : DiskModel D) (given : D) (l : LedgerState D) : Type 0 where
   pub begun : D
   pub is : l ≡ ledger_over (no_world 1) begun
@@ -165,7 +169,7 @@ pub record IsMade {D : Type 0} (disk : DiskModel D) (given : D) (l : LedgerState
   pub unfailed : disk.failures begun ≡ disk.failures given
   pub made : disk.keeps_model given ≡ true → disk.present begun ≡ made HALF_SIZE 1
 
--- a store was just created on the given disk
+-- A store was just created on the given disk.
 pub record IsBegun {D : Type 0} (disk : DiskModel D) (given : D) (d : Drill D) : Type 0 where
   pub begun : D
   pub made : disk.present begun ≡ made HALF_SIZE 1

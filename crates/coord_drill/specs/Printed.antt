@@ -1,4 +1,4 @@
--- The lines that a drill prints, each with a line feed at its end. The lines of a view are in coord_view.
+-- The lines that a drill prints, each with a line feed. coord_view has the lines of a view.
 use Rattle.std.specs.Prelude.{ℕ, ◌==◌, List, ◌++◌, codes, decimal, Option, Some, None, if◌then◌else◌}
 use Rattle.std.specs.List.{flat_map}
 use Rattle.coord_types.specs.Names.{kind_name, msg_name, refusal_text}
@@ -29,7 +29,7 @@ refusal_line r = codes "no " ++ (refusal_text r ++ codes "\n")
 abbrev pub idle_line : List ℕ
 idle_line = codes "idle\n"
 
--- in version 2 an Abort is printed with its distance
+-- the text of a message; in version 2 an Abort has its distance
 abbrev pub message_text : ℕ → Msg → List ℕ
 message_text version (Abort k) = if version == 2 then codes "abort " ++ decimal k else codes "abort"
 message_text version m = msg_name m
@@ -42,7 +42,7 @@ output_line version (Sent p) = codes "data " ++ (decimal p.from ++ (codes " " ++
 abbrev pub output_lines : ℕ → List Output → List ℕ
 output_lines version os = flat_map (output_line version) os
 
--- the steps in order, each with its reply before its outputs
+-- the lines of settled steps, in order, each with its reply before its outputs
 abbrev pub settled_lines : ℕ → List StepOutcome → List ℕ
 settled_lines version outcomes = flat_map (λ o. reply_line o.reply ++ output_lines version o.outputs) outcomes
 

@@ -12,12 +12,12 @@ use Rattle.coord_drill.specs.Drill.{DrillState}
 use Rattle.coord_drill.specs.declared.asked.Asked.{Asked}
 use Rattle.coord_drill.specs.declared.asked.Asked.TheVariants.{Submit, Flush, Resend}
 
--- for a committed flight: its steps
+-- the steps that a flight's lines show: those of a committed flight
 abbrev pub flight_answered : Log → List Answer → List ℕ
 flight_answered log (Begun b ∷ Committed ∷ given) = map (λ o. o.reply.step) (outs (settled_world log) (take (next_size log) (pending log)))
 flight_answered log given = []
 
--- for a repeat: the step of its reply, once that is settled
+-- the step that the answer to a repeat shows, once it is settled
 abbrev pub repeat_answered : ℕ → Result Verdict Refusal → List ℕ
 repeat_answered count (Ok (Repeat reply)) = if nat_le reply.step count then reply.step ∷ [] else []
 repeat_answered count (Ok (Fresh kind)) = []
@@ -28,7 +28,8 @@ step_answered s x (Accepted n ∷ given) = if s.holds then [] else flight_answer
 step_answered s x (Repeated n ∷ given) = repeat_answered (settled_count s.log) (verdict s.log x)
 step_answered s x given = []
 
--- The steps that the answer to a request shows. Resent packets come from settled steps, and count for the last of them.
+-- The steps that the answer to a request shows. Resent packets come from settled steps, and count as output
+-- of the last settled step.
 unfoldable pub reported_by : DrillState → Asked → List Answer → List ℕ
 reported_by s (Submit x) given = step_answered s x given
 reported_by s Flush given = flight_answered s.log given

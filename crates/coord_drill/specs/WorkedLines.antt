@@ -6,7 +6,7 @@ use Rattle.coord_drill.specs.declared.request.Request.{Request}
 use Rattle.coord_drill.specs.declared.request.Request.TheVariants.{Next, Order, Take, Clear, Data, Receipt, Resend, Check, Show, Hold, Flush, Crash, Version2}
 use Rattle.coord_drill.specs.Grammar.{request_of, spelled}
 
--- in a drill of this version the request is written as this line, and the line is read as the request
+-- In a drill of this version, the request is written as this line, and this line is read as the request.
 abbrev pub IsSpelledIn : ℕ → Request → List ℕ → Type 0
 IsSpelledIn version request line = (spelled version request ≡ Some line) × (request_of version line ≡ Some request)
 

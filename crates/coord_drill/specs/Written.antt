@@ -1,4 +1,4 @@
--- The bytes that pass through a drill's reader and writer.
+-- The bytes that a drill reads and writes.
 use Rattle.std.specs.Prelude.{◌≡◌, ℕ, ◌≤◌, List, ◌++◌, length, Option}
 use Rattle.std.specs.Io.KnownBytes.{Appends, Consumes}
 
@@ -6,11 +6,11 @@ use Rattle.std.specs.Io.KnownBytes.{Appends, Consumes}
 abbrev pub IsShortPart : List ℕ → List ℕ → Type 0
 IsShortPart part text = (rest : List ℕ) × (text ≡ part ++ rest) × (1 ≤ length rest)
 
--- the writer got a text with P
+-- The writer got a text that satisfies P, and nothing else.
 abbrev pub WritesPart : Option (List ℕ) → Option (List ℕ) → (List ℕ → Type 0) → Type 0
 WritesPart old new P = (part : List ℕ) × Appends old new part × P part
 
--- a prefix of a text, and nothing else
+-- The writer got a proper prefix of this text, and nothing else.
 abbrev pub WritesShort : Option (List ℕ) → Option (List ℕ) → List ℕ → Type 0
 WritesShort old new text = WritesPart old new (λ part. IsShortPart part text)
 
@@ -19,6 +19,6 @@ pub record InOut : Type 0 where
   pub unread : Option (List ℕ)
   pub written : Option (List ℕ)
 
--- bytes were read and a text was written that satisfy P
+-- Bytes were read and a text was written, and P holds for both.
 abbrev pub Exchanges : InOut → InOut → (List ℕ → List ℕ → Type 0) → Type 0
 Exchanges old new P = (seen : List ℕ) × Consumes old.unread new.unread seen × WritesPart old.written new.written (P seen)

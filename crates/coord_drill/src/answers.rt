@@ -1,4 +1,4 @@
-//! One read and one write, and their results.
+//! Reads once or writes once, and returns the result.
 
 ghost use Rattle.std.specs.Prelude.{◌≡◌, ◌≢◌, Ok, Err, IfOk, IfErr, MatchResult};
 ghost use Rattle.std.specs.Io.{ReadsAtMost, WritesAtMost};
@@ -11,7 +11,7 @@ use crate::writing::fault_of;
 use std::io;
 use std::io::{ErrorKind, Read, Write};
 
-/// Returns the number of bytes that a read gave, or `Read`.
+/// Returns the number of bytes that a read has returned, or the fault `Read`.
 fn bytes_read(answer: io::Result<usize>) -> Result<usize, Fault>
     ensures { MatchResult answer (λ count. result ≡ Ok count) (λ _. result ≡ Err Fault.Read) }
 {
@@ -21,7 +21,8 @@ fn bytes_read(answer: io::Result<usize>) -> Result<usize, Fault>
     }
 }
 
-/// Returns the number of bytes that a write took, or its fault. An interrupted write took none.
+/// Returns the number of bytes that a write has written, or its fault. An interrupted write has written
+/// none.
 fn bytes_written(answer: io::Result<usize>) -> Result<usize, Fault>
     ensures some { IfOk answer (λ count. count ≢ 0 → result ≡ Ok count) }
     ensures none { IfOk answer (λ count. count ≡ 0 → result ≡ Err Fault.Write) }

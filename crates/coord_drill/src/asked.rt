@@ -1,4 +1,4 @@
-//! The meanings of requests.
+//! What requests ask a drill to do.
 
 ghost use Rattle.std.specs.Prelude.{◌≡◌};
 ghost use Rattle.coord_world.specs.protocol.Outputs.{receipt};
@@ -8,16 +8,16 @@ use crate::request::Request;
 use coord_types::{Client, DataPacket, NodeId, ReceiptPacket, Refusal, Step};
 use coord_world::World;
 
-/// The meaning of a request for a drill.
+/// What a request asks a drill to do.
 #[derive(Clone, Copy)]
 pub enum Asked {
-    /// Take a step.
+    /// Submit a step.
     Submit(Step),
-    /// Nothing: the request names an absent lane.
+    /// Nothing, because the request names an absent lane.
     Refuse(Refusal),
-    /// Nothing: the lane has no message.
+    /// Nothing, because the lane has no message.
     Nothing,
-    /// Send again the packets that may have been lost.
+    /// Resend the packets that may have been lost.
     Resend,
     /// Check the front world.
     Check,
@@ -29,11 +29,11 @@ pub enum Asked {
     Flush,
     /// Crash the disk and open it again.
     Crash,
-    /// Begin again over an empty store of version 2.
+    /// Start again over an empty store of version 2.
     Version2,
 }
 
-/// Returns the meaning of a request for a drill with this front world.
+/// Returns what a request asks for in this front world.
 pub fn wanted_by(front: &World, request: &Request) -> Asked
     ensures { result ≡ asked front.now request.now }
 {
@@ -68,12 +68,12 @@ pub fn wanted_by(front: &World, request: &Request) -> Asked
     }
 }
 
-/// Returns the number after a client's last one.
+/// Returns the number after that of the client's last order.
 #[tactic(auto, unfolding(crate::specs::Asked::next_number))]
 fn next_number(world: &World, client: Client) -> u64
     ensures { result ≡ next_number world.now client }
 {
-    // No client's last number is above the count.
+    // A client's last number is at most the count of steps.
     world.lemma_in_range();
     match world.last(client) {
         Some(session) => session.number + 1,
@@ -81,12 +81,12 @@ fn next_number(world: &World, client: Client) -> u64
     }
 }
 
-/// Returns the packet at the front of a lane; None if the lane is empty.
+/// Returns the packet at the front of a lane, or None if the lane is empty.
 #[tactic(auto, unfolding(crate::specs::Asked::front))]
 fn front_packet(world: &World, from: NodeId, to: NodeId) -> Result<Option<DataPacket>, Refusal>
     ensures { result ≡ front world.now from to }
 {
-    // No lane's numbers are above the count.
+    // A lane's numbers are at most the count of steps.
     world.lemma_in_range();
     let Some(lane) = world.lane(from, to) else {
         return Err(Refusal::NoLink);
@@ -103,7 +103,7 @@ fn front_packet(world: &World, from: NodeId, to: NodeId) -> Result<Option<DataPa
     }))
 }
 
-/// The client of orders that name none, such as `reset 3`.
+/// Returns the client of orders that name none, such as `reset 3`.
 fn operator() -> Client
     ensures { result ≡ operator }
 {

@@ -28,10 +28,10 @@ use std::io::{Read, Write};
 /// The maximum number of bytes of one read.
 const READ_LEN: usize = 512;
 
-/// Reads requests to the end of the input, one in each line, and prints their results: the drill
-/// over a new disk in memory, whose crash keeps the bytes that a read gives.
-/// `printed_is_drilled` describes the output for a whole input; if the drill fails, the output is a prefix of
-/// that.
+/// Reads requests to the end of the input, one in each line, and prints their results. The drill runs
+/// over a new disk in memory, on which a crash keeps the bytes that a read returns.
+/// `printed_is_drilled` describes the output for a whole input; if the drill fails, the output is a
+/// prefix of that.
 pub fn coord_drill<R: Read, W: Write>(
     alloc: Global,
     reader: &mut R,
@@ -49,13 +49,13 @@ pub fn coord_drill<R: Read, W: Write>(
     }
 }
 
-/// Reads requests to the end of the input, one in each line, and prints their results; its store
-/// is created on the disk, which must be empty. It returns the disk even if it fails.
+/// Reads requests to the end of the input, one in each line, and prints their results. The store is
+/// created on the given disk, which must be empty. The disk is returned even after a fault.
 ///
-/// The main theorem, over a disk that keeps the model: at each moment of the whole input, between
-/// its lines and inside them, until the end or the fault, whatever a crash may leave of the disk is
-/// the legal world after a prefix of the accepted steps, which holds every step
-/// whose reply, packet or signal was printed (`specs/Course.antt`).
+/// The main theorem, over a disk that keeps the model: at each moment of the whole input, between its
+/// lines and inside them, until the end or the fault, whatever a crash may leave of the disk is the
+/// legal world after a prefix of the accepted steps, which includes every step whose reply, packet or
+/// signal was printed (`specs/Course.antt`).
 pub fn coord_drill_on<R: Read, W: Write, D: CrashDisk>(
     alloc: Global,
     reader: &mut R,
@@ -74,7 +74,7 @@ pub fn coord_drill_on<R: Read, W: Write, D: CrashDisk>(
     Console::new(alloc, disk)?.run(alloc, reader, writer)
 }
 
-/// Returns an empty disk in memory, whose crash keeps the bytes that a read gives.
+/// Returns an empty disk in memory, on which a crash keeps the bytes that a read returns.
 fn new_disk(alloc: Global) -> MemDisk
     ensures { IsBlank result }
 {
@@ -83,14 +83,14 @@ fn new_disk(alloc: Global) -> MemDisk
     disk
 }
 
-/// A drill that takes its input in pieces of any length. The caller must end it with `into_disk`. A call
+/// A drill that gets its input in pieces of any length. It must be consumed, by `into_disk`. A call
 /// that fails returns the disk.
 struct Console<D: CrashDisk> {
     drill: Drill<D>,
     line: LineBuffer,
     /// The number of complete lines.
     number: u64,
-    /// The output of one line.
+    /// The output of the current line.
     text: String,
 }
 
@@ -113,7 +113,7 @@ impl<D: CrashDisk> Console<D> {
         })
     }
 
-    /// Reads to the end of the input, and returns the disk.
+    /// Reads and carries out the input to its end, and returns the disk.
     fn run<R: Read, W: Write>(
         self,
         alloc: Global,
@@ -148,8 +148,8 @@ impl<D: CrashDisk> Console<D> {
         Err((Fault::TooManyReads, console.into_disk()))
     }
 
-    /// Handles a piece of the input, and writes the output of its lines at once. If a line fails,
-    /// the output before it is written.
+    /// Handles a piece of the input, and writes the output of its lines immediately. If a line fails,
+    /// the output before it is still written.
     fn answer<W: Write>(
         self,
         alloc: Global,
@@ -179,7 +179,7 @@ impl<D: CrashDisk> Console<D> {
         }
     }
 
-    /// Ends the input, and returns the disk. The last line may lack its line feed.
+    /// Ends the input, and returns the disk. The last line need not have a line feed.
     fn finish<W: Write>(self, writer: &mut W) -> Result<D, (Fault, D)>
         requires ready { IsReadyDrill self.drill }
         requires number { self.number < 2 ^ 64 - 1 }

@@ -31,21 +31,21 @@ use std::collections::VecDeque;
 /// The size of a half of the drill's disk, in bytes.
 const HALF_SIZE: u64 = 65_536;
 
-/// The driver of a ledger, and a ticket for each pending step, in order. `into_disk` ends it. A
-/// call that fails returns the disk.
+/// The driver of a ledger, and a ticket for each pending step, in order. It must be consumed, by
+/// `into_disk`. A call that fails returns the disk.
 pub struct Drill<D: CrashDisk> {
     alloc: Global,
     driver: Driver<D>,
     tickets: VecDeque<Ticket>,
-    /// Accepted steps are not settled at once.
+    /// Whether accepted steps wait for `flush`; otherwise each is settled at once.
     holds: bool,
     /// Whether a step was ever accepted, even if a crash lost it.
     has_begun: bool,
 }
 
 impl<D: CrashDisk> Drill<D> {
-    /// Makes a drill in the world before any step: it creates its store, with halves of 65,536 bytes, on the
-    /// disk. A refusal returns the disk.
+    /// Makes a drill without any step: creates its store on the disk, with halves of 65,536 bytes. A
+    /// refusal returns the disk.
     pub fn new(alloc: Global, disk: D) -> Result<Self, (Fault, D)>
         ensures ready { IfOk result IsReadyDrill }
         ensures begun { D.model.keeps_model disk ≡ true → IfOk result (IsBegun D.model disk) }
@@ -65,7 +65,7 @@ impl<D: CrashDisk> Drill<D> {
         })
     }
 
-    /// Returns the request of a line; None for a bad line.
+    /// Returns the request of a line, or None for a bad line.
     pub fn read(&self, line: &[u8]) -> Option<Request>
         ensures { result ≡ asked_by (state_of self.now) line.now }
     {
@@ -75,8 +75,8 @@ impl<D: CrashDisk> Drill<D> {
         }
     }
 
-    /// Carries out a request, and appends the answer's lines to a text. At each moment of
-    /// it the headline holds for the drill's disk. A call that fails returns the disk.
+    /// Carries out a request, and appends its output to a text. The headline holds for the drill's disk
+    /// at each moment of the call. A call that fails returns the disk.
     pub fn answer(self, request: &Request, text: &mut String) -> Result<Self, (Fault, D)>
         requires ready { IsReadyDrill self }
         ensures ready { IfOk result IsReadyDrill }
@@ -91,7 +91,7 @@ impl<D: CrashDisk> Drill<D> {
         self.carry_out(wanted, text)
     }
 
-    /// Carries out the request, and appends the answer's lines to a text.
+    /// Carries out the request, and appends its output to a text.
     fn carry_out(self, wanted: Asked, text: &mut String) -> Result<Self, (Fault, D)>
         requires ready { IsReadyDrill self }
         ensures ready { IfOk result IsReadyDrill }
@@ -127,7 +127,7 @@ impl<D: CrashDisk> Drill<D> {
         driver.into_disk()
     }
 
-    /// Drops a driver that ran out of memory, and returns its disk.
+    /// Drops a driver because memory ran out, and returns its disk with that fault.
     pub fn lost(self) -> (Fault, D)
         ensures fault { result.0 ≡ OutOfMemory }
         ensures disk { disk_held self.driver ≡ Some result.1 }
@@ -161,13 +161,13 @@ fn adopt<D: CrashDisk>(alloc: Global, store: Store<D>) -> Result<Ledger<D>, (Fau
     }
 }
 
-/// Spends all tickets without collecting them.
+/// Drops all tickets without collecting their replies.
 fn forget(mut tickets: VecDeque<Ticket>) {
     forget_all(&mut tickets);
     tickets.destroy_empty();
 }
 
-/// Gives up the tickets of a list.
+/// Drops all tickets of a list.
 fn forget_all(tickets: &mut VecDeque<Ticket>)
     ensures { tickets.new.items ≡ [] }
 {

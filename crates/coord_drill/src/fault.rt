@@ -10,11 +10,11 @@ pub enum Fault {
     Read,
     /// The output could not be written.
     Write,
-    /// `MOST_READS` reads did not reach the end of the input.
+    /// The end of the input was not reached within `MOST_READS` reads.
     TooManyReads,
-    /// The store was not created on the disk, not opened after a crash, or not migrated.
+    /// The store was not created, not opened after a crash, or not migrated.
     Store(StoreFault),
-    /// There was not enough memory.
+    /// Memory ran out.
     OutOfMemory,
 }
 

@@ -1,25 +1,26 @@
-//! Laws about the definitions: functions without a body whose contracts state the laws.
+//! Laws about the definitions. Each is the contract of an empty function.
 
 ghost use Rattle.coord_drill.specs.Laws.{BrokenIsDrilled, EndedIsDrilled, PrintedSurvives, SpelledIsRead};
 ghost use Rattle.coord_drill.specs.WorkedLines.{WorkedLines};
 
 use coord_disk::{CrashDisk, Disk};
 
-/// A written request is read as itself: no two requests share a line.
+/// A written request is read as itself, so no two requests share a line.
 #[tactic(auto, using(crate::proofs::requests::Spelled::spelled_is_read))]
 pub fn spelled_is_read()
     ensures { SpelledIsRead }
 {}
 
-/// The output of a drill over any disk is one that the event machine allows for its lines, one after the
-/// other (`specs/Drilled.antt`): all of it if the input was carried out to its end, and a
-/// prefix if the drill broke off.
+/// Whatever the disk, the output of a drill is one that the event machine allows for its input lines in
+/// order (`specs/Drilled.antt`): a whole allowed output if the drill carried out all of its input,
+/// otherwise a prefix of one.
 pub fn printed_is_drilled<D: CrashDisk>()
     ensures ended { EndedIsDrilled D.model D.crashes }
     ensures broke { BrokenIsDrilled D.model D.crashes }
 {}
 
-/// Printed output is durable: whatever a crash may leave has each step that was settled before.
+/// Printed output is durable: whatever a later crash may leave includes each step that was settled
+/// before.
 pub fn printed_survives()
     ensures { PrintedSurvives }
 {}

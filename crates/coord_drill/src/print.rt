@@ -25,7 +25,7 @@ pub fn print_reply(text: &mut String, reply: Reply) -> Result<(), AllocError>
     writeln!(text, "{kind} {step}")
 }
 
-/// Appends the result of a check: `legal`, or the predicate that fails and where.
+/// Appends the result of a check: `legal`, or the violated predicate and its place.
 pub fn print_fault(text: &mut String, fault: Option<Violation>) -> Result<(), AllocError>
     ensures { OnOk result (string_bytes text.new ≡ string_bytes text.old ++ fault_line fault) }
 {
@@ -35,7 +35,7 @@ pub fn print_fault(text: &mut String, fault: Option<Violation>) -> Result<(), Al
     }
 }
 
-/// Appends the line for a step that waits for a flight.
+/// Appends the line for a step that is not settled yet.
 pub fn print_pending(text: &mut String, step: u64) -> Result<(), AllocError>
     ensures { OnOk result (string_bytes text.new ≡ string_bytes text.old ++ pending_line step) }
 {
@@ -71,7 +71,7 @@ pub fn print_count(text: &mut String, settled: u64) -> Result<(), AllocError>
     writeln!(text, "settled {settled}")
 }
 
-/// Appends the line for a store that was opened again, with its count of steps.
+/// Appends the line for a store that was opened again, with its number of steps.
 pub fn print_opened(text: &mut String, count: u64) -> Result<(), AllocError>
     ensures { OnOk result (string_bytes text.new ≡ string_bytes text.old ++ opened_line count) }
 {

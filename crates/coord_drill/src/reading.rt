@@ -1,4 +1,4 @@
-//! Reads a line. Each row of the grammar's table is an arm here.
+//! Parses a line. Each row of the grammar's table is an arm here.
 
 ghost use Rattle.std.specs.Prelude.{◌≡◌, map};
 ghost use Rattle.coord_drill.specs.Drilled.{parsed};
@@ -10,7 +10,7 @@ use crate::words::Words;
 use coord_types::{Command, DataPacket, Msg, ReceiptPacket, Version};
 use std::str;
 
-/// Returns the request that a line encodes in a drill of this version; None for a bad line.
+/// Returns the request that a line encodes in a drill of this version, or None for a bad line.
 pub fn parse(version: Version, line: &[u8]) -> Option<Request>
     ensures { result ≡ parsed version line.now }
 {
@@ -117,7 +117,7 @@ fn read_version(words: &mut Words<'_>) -> Option<Request>
     }
 }
 
-/// Returns a bare command as an order of the operator.
+/// Parses the words after a bare command's verb, and returns the command as an order of the operator.
 #[tactic(auto, using(crate::proofs::requests::Spelled::read_by_next))]
 fn read_next(verb: &str, words: &mut Words<'_>) -> Option<Request>
     ensures { ReadsWords (read_by (map next_row commands) verb.now words.old) result words.new }

@@ -1,4 +1,4 @@
-//! The requests of a drill's lines.
+//! The requests that a drill's lines make.
 
 use coord_types::{Client, Command, DataPacket, NodeId, ReceiptPacket};
 
@@ -9,9 +9,9 @@ pub enum Request {
     Next(Command),
     /// An order of a client, with the number in the line.
     Order(Client, u64, Command),
-    /// The packet at the front of the lane from one node to another is taken.
+    /// The node at the end of this lane takes the packet at its front.
     Take(NodeId, NodeId),
-    /// The front message of the lane from one node to another is cleared.
+    /// A receipt clears the front of this lane.
     Clear(NodeId, NodeId),
     /// This data packet arrives.
     Data(DataPacket),
@@ -19,13 +19,13 @@ pub enum Request {
     Receipt(ReceiptPacket),
     /// Packets that may have been lost are sent again.
     Resend,
-    /// The front world is checked.
+    /// The front world is checked for legality.
     Check,
     /// The settled world is shown.
     Show,
-    /// From now on accepted steps are not settled at once.
+    /// Accepted steps are held, not settled at once, from now on.
     Hold,
-    /// One flight settles pending steps.
+    /// Pending steps are settled in one flight.
     Flush,
     /// The disk crashes and is opened again; pending steps are lost.
     Crash,

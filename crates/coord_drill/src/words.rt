@@ -1,4 +1,4 @@
-//! Reads the words of a line one after the other.
+//! Reads the words of a line one after another.
 
 ghost use Rattle.std.specs.Prelude.{◌≡◌, MatchOption, ◌∷◌, [], Some, None, nat_lt, option_and_then, if◌then◌else◌};
 ghost use Rattle.coord_drill.specs.Format.{ReadsWords};
@@ -24,7 +24,7 @@ impl<'a> Model for Words<'a> {
 }
 
 impl<'a> Words<'a> {
-    /// Returns the words of a line, none of them read yet.
+    /// Returns the words of a line, before any of them is read.
     pub fn of(line: &'a str) -> Self
         ensures { result ≡ words_of line.entry.now }
     {
@@ -80,7 +80,8 @@ impl<'a> Words<'a> {
         Client::new(small_number_in(self.next()?)?)
     }
 
-    /// Returns the distance of an Abort: in version 2 the next word as a number, and in version 1 no word.
+    /// Returns the distance of an Abort: in version 2 the next word as a number; in version 1 it is 0,
+    /// and no word is read.
     #[tactic(auto, unfolding(crate::specs::Grammar::distance))]
     pub fn distance(&mut self, version: Version) -> Option<u64>
         ensures { ReadsWords ((distance version).read self.old) result self.new }
@@ -93,7 +94,7 @@ impl<'a> Words<'a> {
     }
 }
 
-/// Returns the value of one or more decimal digits, if it is below 2^64.
+/// Returns the value of a word of decimal digits, if it is below 2^64.
 fn number_in(word: &str) -> Option<u64>
     ensures { result ≡ number_of word.now }
 {
@@ -104,7 +105,7 @@ fn number_in(word: &str) -> Option<u64>
     word.parse().ok()
 }
 
-/// Returns the same value, if it is below 256.
+/// Returns the value of a word of decimal digits, if it is below 256.
 fn small_number_in(word: &str) -> Option<u8>
     ensures { result ≡ option_and_then (λ n. if nat_lt n 256 then Some n else None)
         (number_of word.now) }

@@ -1,4 +1,4 @@
-//! Writes such that, after a failure, exactly a proper prefix was written.
+//! Writes a text. After a failure, exactly a proper prefix of it was written.
 
 ghost use Rattle.std.specs.Prelude.{◌≡◌, ◌≢◌, OnOk, OnErr, IfErr};
 ghost use Rattle.std.specs.Io.KnownBytes.{Appends};
@@ -33,7 +33,7 @@ pub fn write_text<W: Write>(writer: &mut W, text: &[u8]) -> Result<(), Fault>
     Err(Fault::Write)
 }
 
-/// Returns the fault of a failed write: out of memory, or else `Write`.
+/// Returns the fault of a failed write: `OutOfMemory` if the error says so, otherwise `Write`.
 pub fn fault_of(error: &Error) -> Fault
     ensures memory { error_kind error.now ≡ ErrorKind.OutOfMemory → result ≡ Fault.OutOfMemory }
     ensures other { error_kind error.now ≢ ErrorKind.OutOfMemory → result ≡ Fault.Write }

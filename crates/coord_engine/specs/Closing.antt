@@ -1,4 +1,4 @@
--- Why an engine can't be taken apart, and the numbers and names of these faults.
+-- The reasons why an engine can't be taken apart, with their numbers and names.
 use Rattle.std.specs.Prelude.{◌≡◌, ◌≢◌, ℕ, ◌+◌, ◌<◌, ◌≤◌, true, false, List, codes, drop, is_none, length, take}
 use Rattle.coord_types.specs.declared.steps.Step.{Step}
 use Rattle.coord_world.specs.protocol.NumberedWorld.{World}
@@ -21,26 +21,27 @@ fault_name SharesMissing = codes "SharesMissing"
 fault_name NotNamed = codes "NotNamed"
 fault_name NotSettled = codes "NotSettled"
 
--- The remaining ledger had this base and had accepted these steps, and has since accepted exactly the steps that the
--- shares noted: each once with the kind of its reply, and each share's own in order.
+-- The remaining ledger still has this base. After these earlier steps it accepted exactly the steps that the
+-- shares noted: each of them once, with the kind of its reply, and the steps of each share in order.
 pub record IsSince (base : World) (before : List Step) (shares : List (List Note)) (left : World) (trail : List Step) : Type 0 where
   pub same_base : left ≡ base
   pub begins : take (length before) trail ≡ before
   pub named : IsNamed shares (base.count + length before) (drop (length before) trail) (drop (length before) (kinds_of base trail))
 
--- the shares noted exactly the steps accepted since the engine was made, with the kinds of their replies
+-- The shares noted exactly the steps accepted since the engine was created, with the kinds of their replies.
 abbrev pub IsNamedBy : {D : Type 0} → GuardedState D → List (List Note) → Type 0
 IsNamedBy g shares =
     IsNamed shares (g.ledger.log.base.count + g.start) (drop g.start g.ledger.log.trail) (drop g.start (kinds_of g.ledger.log.base g.ledger.log.trail))
 
--- no flight is out, each share is back, and they noted exactly the accepted steps
+-- An engine may be closed: no flight is out, every share is returned, and the shares noted exactly the
+-- accepted steps.
 pub record MayClose {D : Type 0} (g : GuardedState D) (shares : List (List Note)) : Type 0 where
   pub home : is_none g.ledger.disk ≡ false
   pub all : length shares ≡ g.given
   pub named : IsNamedBy g shares
 
--- why an engine can't be taken apart with these shares, if callers have seen the settled world up to this step: the first reason that
--- applies
+-- The reasons why an engine can't be taken apart with these shares, if callers have seen the settled world up
+-- to step `seen`. The first that applies is returned.
 abbrev pub RefusesClosing : {D : Type 0} → GuardedState D → List (List Note) → ℕ → CloseFault → Type 0
 RefusesClosing g shares seen FlightOut = is_none g.ledger.disk ≡ true
 RefusesClosing g shares seen SharesMissing = (is_none g.ledger.disk ≡ false) × (length shares ≢ g.given)

@@ -1,4 +1,4 @@
--- A history that grows, and beginnings of it that were read.
+-- A history that grows, and prefixes of it that tokens have read.
 use Rattle.std.specs.Prelude.{◌≡◌, ℕ, List, [], ◌++◌}
 use mathlib.Core.Option.{some}
 use lib.ListN.{get_elem?}
@@ -7,11 +7,11 @@ use Rattle.atomic_table.specs.Table.{Me, Step as TableStep}
 use Rattle.coord_types.specs.declared.steps.Step.{Step}
 use Rattle.coord_engine.specs.declared.history.Known.{Known}
 
--- these steps are a prefix
+-- The steps in the second list are a prefix of the first list.
 abbrev pub StartsWith : List Step → List Step → Type 0
 StartsWith steps first = (others : List Step) × (steps ≡ first ++ others)
 
--- a beginning of a history: which history, and some number of its first steps
+-- a prefix of a history: the identity of the history, and its first steps
 pub record Beginning : Type 0 where
   pub history : TableId
   pub steps : List Step
@@ -19,13 +19,14 @@ pub record Beginning : Type 0 where
 abbrev pub knows : List Step → List Step → Known
 knows read returned = record { read = read; returned = returned }
 
--- the prefixes of all tokens are prefixes of the history, and the first token has read all of it
+-- The prefixes that a token knows are prefixes of the history, and the first token has read the whole
+-- history.
 pub record Fits (history : List Step) (pass : ℕ) (v : Known) : Type 0 where
   pub read : StartsWith history v.read
   pub returned : StartsWith history v.returned
   pub whole : pass ≡ 0 → v.read ≡ history
 
--- all tokens know one history
+-- All tokens know prefixes of one history.
 abbrev pub KnowOneHistory : List Known → Type 0
 KnowOneHistory views = (history : List Step) × ((pass : ℕ) (v : Known) → get_elem? views pass ≡ some v → Fits history pass v)
 
@@ -33,14 +34,14 @@ KnowOneHistory views = (history : List Step) × ((pass : ℕ) (v : Known) → ge
 abbrev pub IsWrittenOn : List Step → TableStep (Unit {0}) → Me (Unit {0}) Known → ℕ → Me (Unit {0}) Known → Type 0
 IsWrittenOn steps s before found after = after ≡ (knows steps before.0.returned, before.1)
 
--- the prefix of a token begins with the known prefix of another one
+-- The prefix that was compared is a prefix of the first token's.
 abbrev pub IsCompared : TableStep (Unit {0}) → Me (Unit {0}) Known → ℕ → Me (Unit {0}) Known → Type 0
 IsCompared s before found after = (after ≡ before) × StartsWith before.0.read before.0.returned
 
--- the new prefix of a token begins with its old one, and with the known prefix of another one
+-- The new prefix of a token extends its old prefix and the compared prefix of another token.
 abbrev pub HasReadOn : TableStep (Unit {0}) → Me (Unit {0}) Known → ℕ → Me (Unit {0}) Known → Type 0
 HasReadOn s before found after = StartsWith after.0.read before.0.read × StartsWith after.0.read before.0.returned × (after.1 ≡ before.1)
 
--- the identity of no history
+-- an identity that belongs to no history
 abbrev pub no_history : TableId
 no_history = record { words = 0; slots = 0; views_name = 0; atom = 0; block = 0; offset = 0; slot_names = [] }

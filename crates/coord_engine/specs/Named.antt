@@ -1,4 +1,4 @@
--- Comparison of the callers' notes with the accepted steps.
+-- The callers' notes compared with the accepted steps.
 use Rattle.std.specs.List.{AllAdjacentBelow}
 use Rattle.std.specs.List.Sorted.{IsPermutation}
 use Rattle.std.specs.Prelude.{◌≡◌, ℕ, ◌+◌, ◌-◌, ◌<◌, List, [], ◌∷◌, All, Contains, flat_map, length, Some, slice_get}
@@ -6,31 +6,33 @@ use Rattle.coord_types.specs.declared.steps.Kind.{Kind}
 use Rattle.coord_types.specs.declared.steps.Step.{Step}
 use Rattle.coord_ledger.specs.declared.ticket.Note.{Note}
 
--- the notes of steps that come after n others, and have replies of these kinds
+-- the notes of steps that follow n others and have replies of these kinds
 abbrev pub notes_of : ℕ → List Step → List Kind → List Note
 notes_of n [] kinds = []
 notes_of n (s ∷ steps) [] = []
 notes_of n (s ∷ steps) (k ∷ kinds) = record { step = n + 1; what = s; kind = k } ∷ notes_of (n + 1) steps kinds
 
--- all notes of some shares
+-- the notes of all shares, one share after another
 abbrev pub all_notes : List (List Note) → List Note
 all_notes shares = flat_map (λ notes. notes) shares
 
--- each note is older than the next
+-- Each note has a smaller step number than the next.
 abbrev pub IsAscending : List Note → Type 0
 IsAscending notes = AllAdjacentBelow (λ a b. a.step < b.step) notes (length notes)
 
--- each share noted its steps in order, and each of the steps that come after n others was noted, with the kind of its reply
+-- Each share noted its steps in order. Each of these steps, which follow n others, was noted by some share
+-- with the kind of its reply.
 pub record AreNoted (shares : List (List Note)) (n : ℕ) (steps : List Step) (kinds : List Kind) : Type 0 where
   pub ascending : All IsAscending shares
   pub noted : All (Contains (all_notes shares)) (notes_of n steps kinds)
 
--- The shares noted exactly the steps that come after n others, with the kinds of their replies: each step once, and each share its own in order.
+-- The shares noted exactly these steps, which follow n others, with the kinds of their replies: each step
+-- once, and the steps of each share in order.
 pub record IsNamed (shares : List (List Note)) (n : ℕ) (steps : List Step) (kinds : List Kind) : Type 0 where
   pub ascending : All IsAscending shares
   pub each_once : IsPermutation (all_notes shares) (notes_of n steps kinds)
 
--- the steps after the first `base` have the note's step at its number
+-- The note's step is one of the steps, at the place of its number; the steps follow `base` others.
 pub record IsAmong (base : ℕ) (steps : List Step) (note : Note) : Type 0 where
   pub newer : base < note.step
   pub there : slice_get steps (note.step - base - 1) ≡ Some note.what

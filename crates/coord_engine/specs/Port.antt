@@ -10,7 +10,8 @@ use Rattle.coord_ledger.specs.declared.release.Release.{Release}
 use Rattle.coord_engine.specs.declared.port.Delivery.{Delivery}
 use Rattle.coord_engine.specs.declared.port.Delivery.TheVariants.{Carry, Signal}
 
--- data is carried to the node that it is for, and a receipt back to the node whose data it names; a signal has the number of its step
+-- The request for an output: data is carried to its receiver, and a receipt to the sender of the data that it
+-- names. A signal has the number of its step.
 abbrev pub delivery_of : ℕ → Output → Delivery
 delivery_of step (output.Sent p) = Carry p.to (Carried p)
 delivery_of step (output.Receipted p) = Carry p.from (Receipted p)
@@ -20,36 +21,37 @@ delivery_of step (output.Signalled u epoch) = Signal step u epoch
 abbrev pub deliveries_of : List Release → List Delivery
 deliveries_of released = map (λ r. delivery_of r.step r.output) released
 
--- the node that a packet came to takes data, and clears what a receipt names
+-- The step of a packet that arrived: data is taken, and a receipt clears the data that it names.
 abbrev pub step_of : Packet → Step
 step_of (Carried p) = Take p
 step_of (Receipted p) = Clear p
 
--- `may`: the signals that may be requested from a port, by step, node and epoch. Any packet may be requested
+-- The requests that may be made. `may` has the permitted signals, by step, node and epoch; any packet is
+-- permitted.
 abbrev pub MayAsk : (ℕ → ℕ → ℕ → Type 0) → Delivery → Type 0
 MayAsk may (Carry to packet) = Unit {0}
 MayAsk may (Signal step node epoch) = may step node epoch
 
--- each signal among these may be requested
+-- Each signal among these releases may be requested.
 abbrev pub MayAskAll : (ℕ → ℕ → ℕ → Type 0) → List Release → Type 0
 MayAskAll may released = (before after : List Release) (step node epoch : ℕ) → released ≡ before ++ record { step = step; output = output.Signalled node epoch } ∷ after → may step node epoch
 
--- `carried`, `signalled`: the possible states of a port after a request and its answer
+-- `carried` and `signalled` are the possible states of a port after a request with its answer.
 module _ {P : Type 0} (carried : P → ℕ → Packet → Bool → P → Type 0) (signalled : P → ℕ → ℕ → ℕ → Bool → P → Type 0) where
-  -- a delivery was requested from a port
+  -- A delivery was requested from the port.
   abbrev pub IsAsked : P → Delivery → P → Type 0
   IsAsked port (Carry to packet) later = (answer : Bool) × carried port to packet answer later
   IsAsked port (Signal step node epoch) later = (answer : Bool) × signalled port step node epoch answer later
 
-  -- these deliveries were requested, each once and in order
+  -- These deliveries were requested from the port, each once and in order.
   abbrev pub AreAsked : P → List Delivery → P → Type 0
   AreAsked port [] later = later ≡ port
   AreAsked port (d ∷ ds) later = (next : P) × IsAsked port d next × AreAsked next ds later
 
-  -- `handed_on`: the possible states of a port after it has handed on its packets, and returned that this many are
-  -- lost
+  -- `handed_on` is the possible states of a port after it has handed on its packets and returned the number
+  -- of lost ones.
   module _ (handed_on : P → ℕ → P → Type 0) where
-    -- a port received these requests, each once and in order, and then handed on its packets
+    -- A port received these requests, each once and in order, and then handed on its packets.
     pub record AreHanded (port : P) (ds : List Delivery) (later : P) : Type 0 where
       pub asked : P
       pub lost : ℕ

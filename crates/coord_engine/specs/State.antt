@@ -8,19 +8,19 @@ use Rattle.coord_ledger.specs.Facade.{FitsOut, IsConsistentLog, LedgerGives, Led
 
 pub record GuardedState (D : Type 0) : Type 0 where
   pub ledger : LedgerState D
-  pub start : ℕ  -- how many steps the trail had when the engine was made
-  pub noted : ℕ  -- how many steps all shares have noted
-  pub given : ℕ  -- the number of shares
-  pub finishing : Bool  -- no more steps are accepted
-  pub in_hand : ℕ  -- how many packets callers may still turn into steps: a hint
-  pub awaited : ℕ  -- how many steps the next flight waits for, and while one is out how many orders left with it: a hint
+  pub start : ℕ  -- the length of the trail when the engine was created
+  pub noted : ℕ  -- the number of steps that all shares have noted
+  pub given : ℕ  -- the number of issued shares
+  pub finishing : Bool  -- whether the engine accepts no more steps
+  pub in_hand : ℕ  -- a hint: the number of packets that callers may still turn into steps
+  pub awaited : ℕ  -- a hint: the number of steps that the next flight waits for; while a flight is out, the number of orders in it
 
--- the number of shares; one more part of the count belongs to the value under the lock
+-- the maximum number of shares. The count has one more part, which the value under the lock keeps.
 abbrev pub most_shares : ℕ
 most_shares = 65535
 
--- The basis of an engine: the bytes that its disk may hold and how often it has failed, and the base and the steps of the ledger over which it was
--- created.
+-- The basis of an engine: the bytes that its disk may hold, the number of failures of its device, and the
+-- base and the steps of the ledger over which it was created.
 pub record Basis (D : Type 0) : Type 0 where
   pub keeps_model : D → Bool
   pub present : D → Present
@@ -31,14 +31,18 @@ pub record Basis (D : Type 0) : Type 0 where
 abbrev pub based_on : {D : Type 0} → DiskModel D → World → List Step → Basis D
 based_on m base before = record { keeps_model = m.keeps_model; present = m.present; failures = m.failures; base = base; before = before }
 
--- the trail is that of the ledger that the engine was made over, followed by the steps that the shares noted
+-- The trail is the trail of the ledger over which the engine was created, followed by as many steps as the
+-- shares have noted.
 pub record HasGrown {D : Type 0} (b : Basis D) (g : GuardedState D) : Type 0 where
   pub same_base : g.ledger.log.base ≡ b.base
   pub since : g.start ≡ length b.before
   pub begins : take g.start g.ledger.log.trail ≡ b.before
   pub by_shares : length g.ledger.log.trail ≡ g.start + g.noted
 
--- The invariant of the value's type: the trail has grown by the steps that the shares noted; the steps of a flight are the next ones, and the store is out with them; once it has stopped no flight is out, and at least one step of the trail is in doubt; the images of the disk give the settled steps, and after a stop perhaps those in doubt.
+-- The invariant of the value's type. The trail has grown by as many steps as the shares have noted. The steps
+-- in flight are the next ones, and the store is away with them. After a stop no flight is out, and at least
+-- one step of the trail is in doubt. The images of the disk give the settled steps or, after a stop, possibly
+-- the steps in doubt too.
 pub record CanHold {D : Type 0} (b : Basis D) (g : GuardedState D) : Type 0 where
   pub log : IsConsistentLog g.ledger.log
   pub grown : HasGrown b g
@@ -52,18 +56,18 @@ pub record CanHold {D : Type 0} (b : Basis D) (g : GuardedState D) : Type 0 wher
 abbrev pub guarded_over : {D : Type 0} → LedgerState D → GuardedState D
 guarded_over l = record { ledger = l; start = length l.log.trail; noted = 0; given = 0; finishing = false; in_hand = 0; awaited = 0 }
 
--- the same with another ledger
+-- the state with another ledger
 abbrev pub with_ledger : {D : Type 0} → GuardedState D → LedgerState D → GuardedState D
 with_ledger g l = record g { ledger = l }
 
--- the same with another ledger, and this many steps noted
+-- the state with another ledger, and with this number of noted steps
 abbrev pub with_noted : {D : Type 0} → GuardedState D → LedgerState D → ℕ → GuardedState D
 with_noted g l n = record g { ledger = l; noted = n }
 
--- with one more share issued
+-- the state after one more share was issued
 abbrev pub with_share : {D : Type 0} → GuardedState D → GuardedState D
 with_share g = record g { given = g.given + 1 }
 
--- the value under the lock once no step is accepted any more
+-- the state after which no step is accepted any more
 abbrev pub with_finish : {D : Type 0} → GuardedState D → GuardedState D
 with_finish g = record g { finishing = true }

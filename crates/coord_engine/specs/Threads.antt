@@ -1,4 +1,6 @@
--- The answers of an engine's calls while other threads call too. Of what a lock holds when it is taken only its type's invariant is known, so a call answers as the value under the lock does in some state that it can have.
+-- The answers of an engine's calls while other threads make calls too. When a lock is taken, only the
+-- invariant of the type is known of the value under it; so a call answers like a call on some state that the
+-- value can have.
 use Rattle.std.specs.Prelude.{◌≡◌, ℕ, ◌≤◌, ◌<◌, false, true, List, is_some, take, Option, Result, Ok, Err, Some, IfNone, IfSome}
 use Rattle.atomic_table.specs.Seated.{TableId}
 use Rattle.coord_types.specs.declared.limits.TheConstants.{MAX_BATCH_STEPS}
@@ -19,64 +21,67 @@ use Rattle.coord_engine.specs.Released.{HasReadSettled}
 use Rattle.coord_engine.specs.State.{Basis, CanHold, GuardedState}
 use Rattle.coord_engine.specs.declared.closed.CloseFault.{CloseFault}
 
--- this holds in some possible state of the value under the lock
+-- P holds in some possible state of the value under the lock.
 pub record AtSomeMoment {D : Type 0} (b : Basis D) (P : GuardedState D → Type 0) : Type 0 where
   pub state : GuardedState D
   pub held : CanHold b state
   pub so : P state
 
--- this holds in some possible state of the value under the lock, whose settled steps this token has read, after the steps of earlier instances in this history
+-- P holds in some possible state of the value under the lock. The token has read the settled steps of this
+-- state, after the steps of earlier instances in this history.
 abbrev pub AtMomentRead : {D : Type 0} → Basis D → TableId → List Step → Beginning → (GuardedState D → Type 0) → Type 0
 AtMomentRead {D} b history earlier read P = AtSomeMoment {D = D} b (λ g. P g × HasReadSettled history earlier (settled_steps g.ledger.log) read)
 
--- a step was submitted
+-- A step was submitted to this state with this answer.
 abbrev pub Submits : {D : Type 0} → Step → Result Claim Refusal → List Note → List Note → GuardedState D → Type 0
 Submits {D} s answer notes later g = (l : LedgerState D) × AnswersStep s (engine_verdict g s) (record { ledger = g.ledger; notes = notes }) answer (record { ledger = l; notes = later })
 
--- the settled world was shown to a caller that had seen this much of it
+-- The settled world of this state was shown to a caller with this seen count.
 abbrev pub Shows : {D : Type 0} → Shown → ℕ → ℕ → GuardedState D → Type 0
 Shows view seen later g = (is_some g.ledger.log.doubt ≡ false) × (seen ≤ settled_count g.ledger.log) × (view ≡ shown (accepted_count g.ledger.log) (settled_world g.ledger.log)) × (later ≡ settled_count g.ledger.log)
 
--- the settled world was not shown, for this reason
+-- The settled world was not shown, for this reason.
 abbrev pub RefusesShow : {D : Type 0} → Refusal → ℕ → GuardedState D → Type 0
 RefusesShow Stopped seen g = is_some g.ledger.log.doubt ≡ true
 RefusesShow (Behind settled) seen g = (settled ≡ settled_count g.ledger.log) × (settled < seen)
 RefusesShow OutOfMemory seen g = Unit {0}
 RefusesShow refusal seen g = ⊥
 
--- the answer to a caller that wants a view, once this was read: the view, or a refusal that leaves the caller's seen
--- count
+-- The answer to a request for a view, once the token has read these steps: the view, or a refusal that leaves
+-- the caller's seen count as it is.
 abbrev pub AnswersShow : {D : Type 0} → Basis D → TableId → List Step → Beginning → Result Shown Refusal → ℕ → ℕ → Type 0
 AnswersShow {D} b history earlier read (Ok view) seen later = AtMomentRead b history earlier read (Shows {D = D} view seen later)
 AnswersShow {D} b history earlier read (Err refusal) seen later = AtMomentRead b history earlier read (RefusesShow {D = D} refusal seen) × (later ≡ seen)
 
--- the answer to an awaited ticket, once this was read
+-- The answer to an awaited ticket, once the token has read these steps.
 abbrev pub AnswersTicket : {D : Type 0} → Basis D → TableId → List Step → Beginning → Claim → Result Reply (Refusal × Claim) → Type 0
 AnswersTicket {D} b history earlier read claim answer = AtMomentRead {D = D} b history earlier read (λ g. IsReturnedToTicket g.ledger claim answer)
 
--- this flight went out
+-- This flight left.
 abbrev pub Leaves : {D : Type 0} → FlightState D → GuardedState D → Type 0
 Leaves flight g = (keeps_store g.ledger ≡ false) × (flight ≡ next_flight g.ledger.log flight.disk)
 
--- the next flight left, was committed, and gave out this
+-- The next flight left and was committed, and these are its releases.
 abbrev pub Flushes : {D : Type 0} → List Release → GuardedState D → Type 0
 Flushes released g = (keeps_store g.ledger ≡ false) × (released ≡ releases_of (outs (settled_world g.ledger.log) (take MAX_BATCH_STEPS (pending g.ledger.log))))
 
--- packets that may have been lost were sent again
+-- The packets that may have been lost are sent again.
 abbrev pub SendsAgain : {D : Type 0} → List Release → GuardedState D → Type 0
 SendsAgain released g = released ≡ resent (settled_world g.ledger.log)
 
--- an engine leaves its ledger's base, steps, settled count and store
+-- These parts remain of an engine in this state: its store, its ledger's base and steps, and the settled
+-- count.
 abbrev pub IsLeftOf : {D : Type 0} → Kept D → World → List Step → ℕ → GuardedState D → Type 0
 IsLeftOf store base trail settled g =
     (base ≡ g.ledger.log.base) × (trail ≡ g.ledger.log.trail) × (settled ≡ settled_count g.ledger.log)
     × (g.ledger.disk ≡ Some store.disk) × (store.world ≡ settled_world g.ledger.log) × (has_stopped store ≡ is_some g.ledger.log.doubt)
 
--- the engine was taken apart into these parts
+-- The engine was taken apart into these parts, and all its steps are noted in the shares.
 abbrev pub Closes : {D : Type 0} → Kept D → World → List Step → ℕ → List (List Note) → GuardedState D → Type 0
 Closes store base trail settled shares g = MayClose g shares × IsLeftOf store base trail settled g
 
--- it was taken apart into these parts in any case: with its shares; or without them, for this reason, when a caller had seen this many steps
+-- The engine was taken apart into these parts in any case: together with its shares; or, if closing was
+-- refused for this reason, without them. Callers have seen this many steps.
 abbrev pub Retires : {D : Type 0} → Kept D → World → List Step → ℕ → Option CloseFault → List (List Note) → ℕ → GuardedState D → Type 0
 Retires store base trail settled refused shares seen g =
     IsLeftOf store base trail settled g × IfNone refused (MayClose g shares) × IfSome refused (RefusesClosing g shares seen)

@@ -1,4 +1,4 @@
--- Worked examples: notes against steps.
+-- Worked examples: notes compared with steps.
 use Rattle.std.specs.Prelude.{List, [], ◌∷◌}
 use Rattle.coord_types.specs.declared.steps.Command.TheVariants.{Reset}
 use Rattle.coord_types.specs.declared.steps.Kind.{Kind}
@@ -8,7 +8,7 @@ use Rattle.coord_types.specs.declared.steps.Step.TheVariants.{Order}
 use Rattle.coord_ledger.specs.declared.ticket.Note.{Note}
 use Rattle.coord_engine.specs.Named.{IsAmong, IsNamed}
 
--- two steps that come after two others, the kinds of their replies, and their notes
+-- two steps that follow two others, the kinds of their replies, and their notes
 abbrev pub first : Step
 first = Order 1 3 (Reset 1)
 
@@ -24,22 +24,23 @@ third_note = record { step = 3; what = first; kind = Started }
 abbrev pub fourth_note : Note
 fourth_note = record { step = 4; what = second; kind = Joined }
 
--- two shares with one note each
+-- Two shares with one note each name the two steps.
 abbrev pub NamedByTwo : Type 0
 NamedByTwo = IsNamed ((fourth_note ∷ []) ∷ (third_note ∷ []) ∷ []) 2 (first ∷ second ∷ []) both_kinds
 
--- a share with both notes in the other order
+-- A share with both notes in the wrong order does not.
 abbrev pub NotInOrder : Type 0
 NotInOrder = ¬ IsNamed ((fourth_note ∷ third_note ∷ []) ∷ []) 2 (first ∷ second ∷ []) both_kinds
 
--- one step without a note
+-- One missing note is noticed.
 abbrev pub NotOneShort : Type 0
 NotOneShort = ¬ IsNamed ((third_note ∷ []) ∷ []) 2 (first ∷ second ∷ []) both_kinds
 
--- one step noted with another kind of reply
+-- A note with another kind of reply is noticed.
 abbrev pub NotOfAnotherKind : Type 0
 NotOfAnotherKind = ¬ IsNamed ((record third_note { kind = Joined } ∷ []) ∷ []) 2 (first ∷ []) (Started ∷ [])
 
--- after a base of two steps, the fourth note's step is second, and a note with another number isn't among them
+-- After a base of two steps, the fourth step is the second one of the list, and a note with another number
+-- isn't among the steps.
 abbrev pub NamesInPlace : Type 0
 NamesInPlace = IsAmong 2 (first ∷ second ∷ []) fourth_note × ¬ IsAmong 2 (first ∷ second ∷ []) (record { step = 2; what = second; kind = Joined })

@@ -5,17 +5,17 @@ use Rattle.coord_types.specs.declared.packets.Packet.{Packet}
 use Rattle.coord_types.specs.declared.packets.Packet.TheVariants.{Carried, Receipted}
 use Rattle.coord_engine.specs.Waiting.{with_packet}
 
--- data from u to v with this number, and the receipt of it
+-- data from u to v with this number, and its receipt
 abbrev pub sent : ℕ → ℕ → ℕ → Packet
 sent u v n = Carried (record { from = u; to = v; inc = 3; number = n; msg = Abort 0 })
 
 abbrev pub receipt : ℕ → ℕ → ℕ → Packet
 receipt u v n = Receipted (record { from = u; to = v; inc = 3; number = n })
 
--- later data of a lane replaces earlier data, in the place of the earlier
+-- Later data of a lane replaces earlier data, and keeps its place.
 abbrev pub LaterInPlace : Type 0
 LaterInPlace = with_packet (with_packet (with_packet [] (sent 1 2 1)) (sent 2 1 1)) (sent 1 2 2) ≡ sent 1 2 2 ∷ sent 2 1 1 ∷ []
 
--- data and a receipt of one lane both wait
+-- Data and a receipt of one lane both wait.
 abbrev pub BothKinds : Type 0
 BothKinds = with_packet (with_packet [] (sent 1 2 1)) (receipt 1 2 1) ≡ sent 1 2 1 ∷ receipt 1 2 1 ∷ []

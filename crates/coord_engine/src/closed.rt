@@ -13,21 +13,21 @@ use coord_world::World;
 use std::error::Error;
 use std::fmt;
 
-/// The reason for which an engine was not closed.
+/// The reason why an engine was not closed.
 #[derive(Clone, Copy, Debug, PartialEq, Eq, Drop)]
 pub enum CloseFault {
-    /// A flight is out. Every call of this crate returns its flight.
+    /// A flight is out. No call of this crate leaves a flight out when it returns.
     FlightOut,
-    /// A share was not returned.
+    /// At least one share was not returned.
     SharesMissing,
     /// The shares' notes differ from the steps accepted since the engine was created.
     NotNamed,
-    /// A step that callers have seen as settled is not.
+    /// Callers have seen a step as settled that is not settled.
     NotSettled,
 }
 
 impl CloseFault {
-    /// Returns its number, from 1 to 4.
+    /// Returns the fault's number, from 1 to 4.
     pub fn number(self) -> u8
         ensures { result ≡ fault_number self }
     {
@@ -50,8 +50,8 @@ impl fmt::Display for CloseFault {
 
 impl Error for CloseFault {}
 
-/// The state of a closed engine: its store, the base world, the steps accepted since, and the
-/// settled count.
+/// The parts of a closed engine: its store, its base world, the steps accepted since, and the settled
+/// count.
 #[derive(Drop)]
 pub struct Closed<D: Disk> {
     pub store: Store<D>,
@@ -60,8 +60,8 @@ pub struct Closed<D: Disk> {
     pub settled: u64,
 }
 
-/// The state of an engine that was taken apart in any case, with the authority of its history; and,
-/// if the engine could not be closed, the reason: then it is unknown whose its steps are.
+/// The parts of an engine that was taken apart in any case, with the authority of its history. If the
+/// engine could not be closed, also the reason; then it is unknown which caller submitted which step.
 #[derive(Drop)]
 pub struct Retired<D: Disk> {
     pub closed: Closed<D>,
@@ -69,7 +69,8 @@ pub struct Retired<D: Disk> {
     pub refused: Option<CloseFault>,
 }
 
-/// Whether the steps after the first `base` have the note's step at its number.
+/// Tests whether the note's step is one of the steps, at the place of its number; the steps follow
+/// `base` others.
 fn is_among(base: u64, steps: &[Step], note: &Note) -> bool
     ensures { IsTrue result ↔ IsAmong base steps.now note.now }
 {
@@ -84,7 +85,7 @@ fn is_among(base: u64, steps: &[Step], note: &Note) -> bool
 }
 
 impl<D: Disk> Closed<D> {
-    /// Whether the trail has the note's step at the note's number.
+    /// Tests whether the trail has the note's step at the note's number.
     pub fn names(&self, note: &Note) -> bool
         ensures { IsTrue result ↔ IsAmong self.now.base.count self.now.trail.items note.now }
     {

@@ -3,11 +3,11 @@
 use coord_ledger::Ticket;
 use coord_types::{Refusal, Reply};
 
-/// The answer to a ticket, under the lock.
+/// The answer to a ticket in the state under the lock.
 pub enum Collected {
     /// The ticket's step is settled, with this reply.
     Settled(Reply),
-    /// There will be no reply.
+    /// The ticket will get no reply.
     Refused(Refusal, Ticket),
     /// The ticket's step is not settled yet.
     Waiting(Ticket),

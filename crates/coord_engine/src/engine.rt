@@ -1,4 +1,4 @@
-//! The engine: the value under a lock, and a condition on which callers wait.
+//! The engine: a value under a lock, and the conditions on which callers and flushers wait.
 
 ghost use Rattle.std.specs.Prelude.{◌≡◌, ◌<◌, ◌≤◌, [], length, Err, None, Ok, Some, IfErr, IfNone, IfOk, IfSome, MatchResult};
 ghost use Rattle.std.specs.Sync.Mutex.{mutex_guard_value};
@@ -27,8 +27,8 @@ use std::sync::ledger::Blank;
 use std::sync::{Condvar, Mutex, MutexGuard, Wait};
 use std::time::Clock;
 
-/// Returns the result of a flush whose flight was committed with this result and came back with
-/// these releases: a flight that was not settled releases nothing.
+/// Returns the result of a flush from the result of the commit and the releases of the returned flight.
+/// A flight that was not settled has no releases.
 fn answer_of<L: Origin>(
     committed: Result<(), CommitFault>,
     releases: Released<L>,
@@ -44,12 +44,12 @@ fn answer_of<L: Origin>(
     }
 }
 
-/// One ledger that threads share. Each call but `collect`, `flush_once` and `close` takes the lock
+/// A ledger that threads share. Each call except `collect`, `flush_once` and `close` takes the lock
 /// once.
 #[derive(Drop)]
 pub struct Engine<D: Disk, L: Origin> {
     pub(crate) guarded: Mutex<Guarded<D, L>>,
-    /// The history that flights read and the value under the lock writes.
+    /// The history: the value under the lock writes it, and flights read it.
     pub(crate) history: MonotoneLog,
     /// The condition on which callers wait for their replies.
     pub(crate) changed: Condvar,
@@ -59,10 +59,10 @@ pub struct Engine<D: Disk, L: Origin> {
 }
 
 impl<D: Disk, L: Origin> Engine<D, L> {
-    /// Makes an engine over a ledger whose store is at home. `L` names the history, in which the
-    /// steps of earlier instances are written, and that ledger: its base, its accepted steps, and
-    /// its disk. The blank has 65,536 parts. No clause can state the value under a lock; so the
-    /// contract is that of `Guarded::new`, and `close` states its result in terms of `L`.
+    /// Makes an engine over a ledger that has no flight out. `L` names the history, in which the steps
+    /// of earlier instances are written, and that ledger: its base, its accepted steps and its disk.
+    /// The blank has 65,536 parts. No clause can describe the value under a lock; so the contract of
+    /// `Guarded::new` has the promises, and `close` states its result in terms of `L`.
     pub fn new(
         alloc: Global,
         blank: Blank,
@@ -88,7 +88,7 @@ impl<D: Disk, L: Origin> Engine<D, L> {
         }
     }
 
-    /// Returns a share without notes, unless all 65,535 are taken.
+    /// Returns a share without notes, or None if all 65,535 are taken.
     pub fn share<R: Wait>(&self, rt: &R) -> Option<Share<L>>
         ensures given { IfSome result (λ share. (share ≡ []) ×
             AtSomeMoment (based_on D.model L.base L.before) (λ g. g.given < most_shares)) }
@@ -100,8 +100,8 @@ impl<D: Disk, L: Origin> Engine<D, L> {
         guarded.share()
     }
 
-    /// Accepts a step as the ledger does, and notes it at the end of the caller's share. A repeat
-    /// is not noted. Once the engine is finishing, it is refused as `Stopped`.
+    /// Accepts a step like the ledger, and appends its note to the caller's share. A repeat is not
+    /// noted. A finishing engine refuses every step as `Stopped`.
     pub fn submit<R: Wait>(
         &self,
         rt: &R,
@@ -118,7 +118,7 @@ impl<D: Disk, L: Origin> Engine<D, L> {
         answer
     }
 
-    /// Accepts a step as `submit` does, but does not wake the flusher. Whoever posts several steps
+    /// Accepts a step like `submit`, but does not wake the flusher. A caller that posts several steps
     /// wakes it after the last one, so that one flight takes them all.
     pub fn post<R: Wait>(&self, rt: &R, step: Step, mine: &mut Share<L>) -> Result<Ticket, Refusal>
         ensures { AtSomeMoment (based_on D.model L.base L.before)
@@ -129,17 +129,17 @@ impl<D: Disk, L: Origin> Engine<D, L> {
         guarded.submit(step, mine)
     }
 
-    /// Wakes a flusher that waits for steps, if there is something to flush. No clause can say that
-    /// a thread wakes.
+    /// Wakes a flusher that waits for steps, if something can be flushed. No clause can state that a
+    /// thread wakes.
     pub fn wake_flusher<R: Wait>(&self, rt: &R) {
         if !self.guarded.lock(rt).is_idle() {
             self.work.notify_all();
         }
     }
 
-    /// Waits until the ticket's step is settled, and returns its reply. `Stranger` refuses a ticket
-    /// of another ledger, and `Stopped` one whose step will not be settled any more; both return
-    /// it. A reader reads on: the answer is that of a moment whose settled steps it has read.
+    /// Waits until the ticket's step is settled, and returns its reply. `Stranger` refuses a ticket of
+    /// another ledger, and `Stopped` a ticket whose step will never be settled; both return the ticket.
+    /// The reader reads on: the answer is true in a state whose settled steps it has read.
     pub fn collect<R: Wait>(
         &self,
         rt: &R,
@@ -157,8 +157,8 @@ impl<D: Disk, L: Origin> Engine<D, L> {
         answer
     }
 
-    /// Waits until a ticket can be answered, and then takes the lock. The answer is that of the
-    /// ledger that is locked: a reply is returned while its step is settled there.
+    /// Waits until a ticket can be answered, and returns the lock. As long as the lock is held, a
+    /// reply's step is settled in the ledger under it.
     fn lock_to_answer<'g, R: Wait>(
         &'g self,
         rt: &R,
@@ -182,8 +182,8 @@ impl<D: Disk, L: Origin> Engine<D, L> {
         unreachable!()
     }
 
-    /// Returns a view of the settled world, unless the caller has seen a later one. The token reads
-    /// on: the view is the world after the settled steps that it has read then.
+    /// Returns a view of the settled world, unless the caller has seen a later one. The token reads on:
+    /// the view shows the world after exactly the settled steps that the token has then read.
     pub fn show<R: Wait>(
         &self,
         rt: &R,
@@ -201,8 +201,8 @@ impl<D: Disk, L: Origin> Engine<D, L> {
         guarded.ledger().show(seen)
     }
 
-    /// Returns the number of kept steps: those that its ledger had accepted when the engine was
-    /// made, and all since.
+    /// Returns the number of steps in the trail: those that the ledger had accepted when the engine was
+    /// created, and all since.
     pub fn kept<R: Wait>(&self, rt: &R) -> usize
         ensures { AtSomeMoment (based_on D.model L.base L.before) (λ g. result ≡
             length g.ledger.log.trail) }
@@ -212,7 +212,8 @@ impl<D: Disk, L: Origin> Engine<D, L> {
         guarded.ledger().trail().len()
     }
 
-    /// Returns the packets that may have been lost, to be sent again as of step 0.
+    /// Returns the packets to be sent again because they may have been lost, with 0 as their step's
+    /// number.
     pub fn resend<R: Wait>(&self, rt: &R) -> Result<Released<L>, AllocError>
         ensures { IfOk result (λ releases. AtSomeMoment (based_on D.model L.base L.before)
             (SendsAgain {D = D} releases)) }
@@ -222,10 +223,10 @@ impl<D: Disk, L: Origin> Engine<D, L> {
         guarded.resend(&self.history)
     }
 
-    /// Sends a flight out under the lock, commits it outside the lock, and takes it back under it.
-    /// Returns None if nothing is pending, a flight is out or the ledger has stopped.
+    /// Sends a flight out under the lock, commits it outside the lock, and takes it back under the
+    /// lock. Returns None if nothing is pending, a flight is out, or the ledger has stopped.
     ///
-    /// After `OutOfMemory` it may be tried again; after `Device` the ledger has stopped.
+    /// After `OutOfMemory` the caller may try again. After `Device` the ledger has stopped.
     pub fn flush_once<R: Wait + Clock>(&self, rt: &R) -> Result<Option<Released<L>>, CommitFault>
         ensures { AnswersFlush (based_on D.model L.base L.before) result }
     {
@@ -249,8 +250,8 @@ impl<D: Disk, L: Origin> Engine<D, L> {
         guarded.begin(&self.history)
     }
 
-    /// Takes a flight back, committed or not, and wakes all waiting threads. If memory for that
-    /// runs out, it tries again after a rest.
+    /// Takes a flight back, committed or not, and wakes all waiting threads. If memory for that runs
+    /// out, it pauses and tries again.
     pub(crate) fn end<R: Wait + Clock>(&self, rt: &R, flight: OwnFlight<D, L>) -> Released<L>
         ensures released { result ≡ releases_in flight flight.mark }
         ensures back { AtSomeMoment (based_on D.model L.base L.before) (ComesBack flight) }
@@ -274,19 +275,19 @@ impl<D: Disk, L: Origin> Engine<D, L> {
         unreachable!()
     }
 
-    /// Ends the acceptance of steps. Pending steps are still settled. No clause can state the
-    /// effect of a call under a lock: the contract of `Guarded::finish` does.
+    /// Stops accepting steps. Pending steps are still settled. No clause can describe the effect of a
+    /// call under a lock: the contract of `Guarded::finish` does.
     pub fn finish<R: Wait>(&self, rt: &R) {
         let due = self.guarded.lock(rt).finish();
         due.wake_all(&self.changed, &self.work);
     }
 
-    /// Takes the engine apart, if no flight is out, all shares are there, everything that callers
-    /// have seen is settled, and the shares' notes are exactly the steps accepted since the engine
-    /// was made. The result has the base of the ledger that the engine was made over, and a trail
-    /// that begins with that ledger's. A crash at any moment since then left only worlds after the
-    /// first steps of that trail. The authority of the history is returned too: it has written the
-    /// settled steps of that trail after those of earlier instances. It allocates nothing.
+    /// Takes the engine apart. It refuses unless no flight is out, all shares are returned, everything
+    /// that callers have seen is settled, and the shares' notes are exactly the steps accepted since
+    /// the engine was created. The result has the base of the ledger that the engine was created over,
+    /// and a trail that begins with that ledger's trail. A crash at any moment since then left only
+    /// worlds after a prefix of that trail. The authority of the history is returned too: it has
+    /// written the settled steps of the trail after those of earlier instances. Allocates nothing.
     pub fn close(
         self,
         shares: Vec<Share<L>>,
@@ -330,10 +331,10 @@ impl<D: Disk, L: Origin> Engine<D, L> {
         }
     }
 
-    /// Takes the engine apart in any case: like `close`; or, if `close` refuses these shares,
-    /// whatever they noted, with the reason. Everything that `close` states of the disk and of the
-    /// history's writer holds in either case; only the callers of the steps are then unknown. A
-    /// flight that is out would be awaited forever; no call of this crate keeps one. It allocates
+    /// Takes the engine apart in any case. If `close` would refuse these shares, the result has the
+    /// reason instead of the shares. In either case the promises of `close` about the disk and about
+    /// the authority of the history hold; only the callers of the steps are unknown after a refusal. A
+    /// flight that is out would be awaited forever, but no call of this crate keeps one. Allocates
     /// nothing.
     pub fn retire<R: Wait + Clock>(self, rt: &R, shares: Vec<Share<L>>, seen: &Seen) -> Retired<D>
         requires { L.parts ≡ 65536 }

@@ -1,4 +1,4 @@
-//! The flusher: flushes on demand, and hands the releases to a port.
+//! The flusher: flushes on demand, and passes the releases to a port.
 
 ghost use Rattle.std.specs.Prelude.{◌≡◌, false, true, length};
 ghost use Rattle.std.specs.Sync.Mutex.{mutex_guard_value};
@@ -19,14 +19,14 @@ use std::sync::{MutexGuard, Wait};
 use std::time::{Clock, Duration, Instant};
 use std::{io, thread};
 
-/// The milliseconds for which a flight waits for packets in hand.
+/// The number of milliseconds that a flight waits for packets in hand.
 const TIMEOUT: u64 = 5;
 
-/// A flight waits for returning callers for at most this part of the last flight's time. An
-/// unnecessary wait costs a sixteenth of a flight; a caller who comes in time saves a whole one.
+/// A flight waits for returning callers for at most one such part of the last flight's time. An
+/// unnecessary wait costs a sixteenth of a flight; a caller who returns in time saves a whole flight.
 const CALLERS_PART: u32 = 16;
 
-/// The milliseconds for which a flusher without memory rests before it tries again.
+/// The number of milliseconds that a flusher pauses after it ran out of memory.
 const REST: u64 = 1;
 
 /// Waits for this many milliseconds.
@@ -34,8 +34,8 @@ pub(crate) fn rest<R: Clock>(rt: &R) {
     thread::sleep(rt, Duration::from_millis(REST));
 }
 
-/// Returns how long to wait for callers after a flight that left at `start`: not at all if no clock
-/// can be read.
+/// Returns how long to wait for callers after a flight that left at `start`; zero if the clock can't be
+/// read.
 fn timeout_since<R: Clock>(rt: &R, start: io::Result<Instant>) -> Duration {
     let Ok(start) = start else {
         return Duration::ZERO;
@@ -47,13 +47,13 @@ fn timeout_since<R: Clock>(rt: &R, start: io::Result<Instant>) -> Duration {
 }
 
 impl<D: Disk, L: Origin> Engine<D, L> {
-    /// Counts packets that are about to be handed to a port. They are counted before the port has
-    /// them, since a worker may be done with one first.
+    /// Counts packets that are about to be passed to a port. They are counted first because a worker
+    /// may finish one before this call returns.
     fn take_in_hand<R: Wait>(&self, rt: &R, count: u64) {
         self.guarded.lock(rt).raise_in_hand(count);
     }
 
-    /// Subtracts the packets that nobody has in hand any more.
+    /// Subtracts packets that no port or worker has in hand any more.
     fn let_go<R: Wait>(&self, rt: &R, count: u64) {
         if count == 0 {
             return;
@@ -63,7 +63,7 @@ impl<D: Disk, L: Origin> Engine<D, L> {
         lock.unlock();
     }
 
-    /// Takes the lock once something can be flushed, or nothing ever will.
+    /// Takes the lock once something can be flushed, or once nothing will ever be flushed.
     fn lock_for_flight<'g, R: Wait>(&'g self, rt: &R) -> MutexGuard<'g, Guarded<D, L>>
         ensures { is_idle (mutex_guard_value result) ≡ false }
     {
@@ -77,9 +77,9 @@ impl<D: Disk, L: Origin> Engine<D, L> {
         unreachable!()
     }
 
-    /// Waits until a flight can start. Then it waits for callers that may send again, as long as
-    /// the last flight's time allows, and briefly for packets that are being handled. Returns false
-    /// once no flight will start any more.
+    /// Waits until a flight can start. Then waits, for at most `for_callers`, for callers that may
+    /// order again, and briefly for packets that are being handled. Returns false once no flight will
+    /// ever start again.
     fn waits_for_flight<R: Wait + Clock>(&self, rt: &R, for_callers: Duration) -> bool
         ensures starts { result ≡ true → AtSomeMoment (based_on D.model L.base L.before) (λ g.
             is_idle g ≡ false) }
@@ -110,8 +110,8 @@ impl<D: Disk, L: Origin> Engine<D, L> {
     }
 }
 
-/// Requests a delivery from a port. Returns whether the port now has a packet in hand: a signal is
-/// no packet, and a packet may be lost.
+/// Requests a delivery from a port. Returns whether the port now has a packet in hand: a signal is not
+/// a packet, and the port may report that a packet is lost.
 fn ask<P: Port>(
     port: &mut P,
     history: &MonotoneLog,
@@ -132,8 +132,8 @@ fn ask<P: Port>(
     }
 }
 
-/// Requests a delivery from a port for each release, in order. Returns the number of packets that
-/// the port now has in hand.
+/// Requests a delivery from a port for each release, in order. Returns the number of packets that the
+/// port now has in hand.
 fn ask_for_all<P: Port>(
     port: &mut P,
     history: &MonotoneLog,
@@ -159,8 +159,9 @@ fn ask_for_all<P: Port>(
     in_hand
 }
 
-/// Requests each delivery of these releases from a port, once and in order, makes it hand them on,
-/// and returns their number. Packets that the port reports as lost are lost.
+/// Requests each delivery of these releases from a port, once and in order, makes the port hand on its
+/// packets, and returns the number of releases. Packets that the port reports as lost are not tried
+/// again here.
 pub fn hand_over<D: Disk, L: Origin, P: Port, R: Wait>(
     rt: &R,
     engine: &Engine<D, L>,
@@ -185,8 +186,8 @@ pub fn hand_over<D: Disk, L: Origin, P: Port, R: Wait>(
     count
 }
 
-/// The outcome of a flusher's last flush: how long the next flight waits for the answered callers,
-/// and whether memory ran out, so that a rest is due.
+/// The outcome of a flusher's last flush: how long the next flight waits for answered callers, and
+/// whether memory ran out, so that a pause is due.
 #[derive(Drop)]
 struct Pace {
     timeout: Duration,
@@ -204,7 +205,7 @@ impl Pace {
         }
     }
 
-    /// Pauses. Nothing else clears a due pause.
+    /// Pauses if a pause is due. Nothing else clears a due pause.
     fn rest<R: Clock>(&mut self, rt: &R)
         ensures { self.new.rest_is_due ≡ false }
     {
@@ -213,7 +214,7 @@ impl Pace {
     }
 }
 
-/// Flushes, unless a rest is due, and notes how the flusher continues.
+/// Flushes, unless a pause is due, and records how the flusher continues.
 fn flush<D: Disk, L: Origin, R: Wait + Clock>(
     rt: &R,
     engine: &Engine<D, L>,
@@ -230,13 +231,14 @@ fn flush<D: Disk, L: Origin, R: Wait + Clock>(
     flushed
 }
 
-/// Flushes accepted steps as long as flights start, and hands the releases of each to the port.
-/// Before a flight it waits for two things. Callers that the last flight answered may come again:
-/// if they are few, they have a sixteenth of that flight's time. Packets that it released may come
-/// back as steps: they have some milliseconds.
+/// Flushes accepted steps as long as flights start, and passes the releases of each to the port. Before
+/// a flight it waits for two things. Callers that the last flight answered may order again: if they are
+/// few, it waits up to a sixteenth of that flight's time. Packets that the last flight released may
+/// come back as steps: it waits some milliseconds.
 ///
-/// The port may be asked for each signal of a settled step. It ends after a fault of the device,
-/// and after `Engine::finish` once nothing is pending. If memory runs out it rests and tries again.
+/// The port must accept a request for each signal of a settled step. The flusher ends after a fault of
+/// the device, and after `Engine::finish` once nothing is pending. If memory runs out, it pauses and
+/// tries again.
 pub fn flusher<D: Disk, L: Origin, P: Port, R: Wait + Clock>(
     rt: &R,
     engine: &Engine<D, L>,

@@ -24,22 +24,22 @@ use std::alloc::Global;
 use std::marker::Model;
 use std::sync::ledger::{Blank, Book, Share as Part};
 
-/// The most shares of an engine; one more part of the count stays with it.
+/// The maximum number of shares of an engine. The count has one more part, which stays with the engine.
 const MOST_SHARES: u32 = 65_535;
 
 /// The value under the lock. Contracts see `GuardedState` (`specs/State.antt`).
 ///
-/// Its type keeps, beside what the ledger's type keeps, that the trail is that of the ledger that
-/// `L` names, grown by as many steps as all shares have noted, that no flight is out once the
-/// ledger has stopped, and that a crash at any moment since the engine was made left only worlds
-/// after the first of its steps (`specs/Past.antt`).
+/// In addition to the ledger's invariant, the type guarantees the following. The trail is that of the
+/// ledger that `L` names, grown by as many steps as all shares have noted. Once the ledger has stopped,
+/// no flight is out. A crash at any moment since the engine was created left only worlds after a prefix
+/// of its steps (`specs/Past.antt`).
 #[derive(Drop)]
 pub struct Guarded<D: Disk, L: Origin> {
     alloc: Global,
     ledger: Ledger<D>,
     /// The count of the steps accepted for shares.
     book: Book<L>,
-    /// The token that has written the steps of earlier instances, and after them the settled ones.
+    /// The token that has written the steps of earlier instances and then the settled steps.
     writer: LogAuthority,
     /// The parts of the count that no share has.
     rest: Part<L>,
@@ -80,8 +80,8 @@ impl<D: Disk, L: Origin> Model for Guarded<D, L> {
 }
 
 impl<D: Disk, L: Origin> Guarded<D, L> {
-    /// Wraps a ledger whose store is at home, and which `L` names. The blank has 65,536 parts, and
-    /// the history has the steps of earlier instances.
+    /// Wraps a ledger that `L` names and that has no flight out. The blank has 65,536 parts, and the
+    /// history has the steps of earlier instances.
     pub fn new(
         alloc: Global,
         blank: Blank,
@@ -119,7 +119,7 @@ impl<D: Disk, L: Origin> Guarded<D, L> {
         }
     }
 
-    /// Returns a share without notes, unless all 65,535 are taken.
+    /// Returns a share without notes, or None if all 65,535 are taken.
     pub fn share(&mut self) -> Option<Share<L>>
         ensures some { IfSome result (λ share. (share ≡ []) × (self.old.given < most_shares) ×
             (self.new ≡ with_share self.old)) }
@@ -143,7 +143,7 @@ impl<D: Disk, L: Origin> Guarded<D, L> {
         &self.ledger
     }
 
-    /// Ends the acceptance of steps. A waiting flusher has to end.
+    /// Stops accepting steps. A waiting flusher must be woken, so that it can end.
     pub fn finish(&mut self) -> PendingWake
         ensures { self.new ≡ with_finish self.old }
     {
@@ -151,8 +151,8 @@ impl<D: Disk, L: Origin> Guarded<D, L> {
         PendingWake::new()
     }
 
-    /// Does nothing. Its contract is the invariant of the type, so it holds for the value whenever
-    /// the lock is taken.
+    /// Does nothing. Its contract states the invariant of the type, which holds whenever the lock is
+    /// taken.
     pub fn keeps(&self)
         ensures { CanHold (based_on D.model L.base L.before) self.now }
     {

@@ -7,8 +7,8 @@ use crate::{PutDown, Waiting};
 use coord_types::Packet;
 use std::alloc::Global;
 
-/// The packets that a worker keeps for another try, and the numbers of packets that it has put down
-/// and that it has lost for lack of memory. The counts end at the greatest u64.
+/// The packets that a worker keeps for another attempt, the number of packets that it has handled, and
+/// the number that it has lost because memory ran out. The counts stop at the greatest u64.
 #[derive(Drop)]
 pub struct Hand {
     pub(crate) waiting: Waiting,
@@ -17,7 +17,7 @@ pub struct Hand {
 }
 
 impl Hand {
-    /// Returns the state before any packet.
+    /// Returns the state of a worker before its first packet.
     pub fn new(alloc: Global) -> Self
         ensures waiting { result.waiting ≡ [] }
         ensures counts { (result.put_down ≡ 0) × (result.lost ≡ 0) }
@@ -29,7 +29,8 @@ impl Hand {
         }
     }
 
-    /// Keeps a packet that has to wait. If memory runs out it is lost, and sent again later.
+    /// Keeps a packet that has to wait. If memory runs out, the packet is lost; the server sends it
+    /// again later.
     pub(crate) fn keep(&mut self, packet: &Packet, has_to_wait: bool)
         ensures { Keeps has_to_wait self.old packet.now self.new }
     {
@@ -42,7 +43,7 @@ impl Hand {
         self.lost = one_more(self.lost);
     }
 
-    /// Counts a packet that was put down.
+    /// Counts a packet as handled.
     pub(crate) fn count(&mut self, _put_down: PutDown)
         ensures { self.new ≡ with_put_down self.old }
     {

@@ -1,11 +1,10 @@
-//! The settled steps, instance after instance, as a history that grows. It exists only in the
-//! proofs.
+//! The settled steps of all instances as one history that grows. It exists only in the proofs.
 //!
-//! Nothing is known of the value under a lock except its type's invariant. So a flight that leaves
-//! under the lock takes a [`LogPrefix`] along, and the [`LogAuthority`] stays there. When the
-//! flight is back, the authority shows that its history begins with the prefix of the token. The
-//! releases of a flight have a token too, which has read their steps. Neither takes a byte; each
-//! call loads a word of the [`MonotoneLog`], which is 0.
+//! Only the invariant of its type is known of the value under a lock. So a flight that leaves takes a
+//! [`LogPrefix`] along, while the [`LogAuthority`] stays under the lock. When the flight returns, the
+//! authority shows that its history begins with the token's prefix. The releases of a flight have a
+//! token too, which has read their steps. Neither takes up a byte; each call loads one word of the
+//! [`MonotoneLog`], which is 0.
 
 use crate::Origin;
 use atomic_table::{Join, Play, Seat, Split, Table, TableRule};
@@ -15,15 +14,15 @@ use std::collections::LinkedList;
 use std::marker::{Brand, Model, PhantomData};
 use std::sync::Arc;
 
-/// The ghost state of a token: a prefix of the history that it has read, and one that another token
-/// has read. No value of it exists.
+/// The ghost state of a token: the prefix of the history that it has read, and the prefix that another
+/// token has read. No value of this type exists.
 pub struct Known {
     pub read: LinkedList<Step>,
     pub returned: LinkedList<Step>,
 }
 
-/// The rule of all tokens: the prefix of each is a prefix of one history, and the first token has
-/// read all of it.
+/// The rule of all tokens: the prefix of each is a prefix of one history, and the first token has read
+/// the whole history.
 pub struct OneHistory;
 
 impl TableRule<(), Known, ()> for OneHistory {
@@ -38,7 +37,7 @@ impl TableRule<(), Known, ()> for OneHistory {
 /// Returns a token for a part of the known steps.
 type Pass = Seat<(), Known>;
 
-/// Names steps to be written to a history, or that a token has read.
+/// Names a list of steps: steps to be written to a history, or steps that a token has read.
 trait NamedSteps {
     ghost use Rattle.std.specs.Prelude.{List};
     ghost use Rattle.coord_types.specs.declared.steps.Step.{Step};
@@ -52,7 +51,7 @@ impl NamedSteps for Brand {
     ghost steps = { [] };
 }
 
-/// The update by which the first token extends the history and its own prefix.
+/// The update in which the first token extends the history and its own prefix.
 struct WritesOn<G: NamedSteps> {
     of: PhantomData<G>,
 }
@@ -63,7 +62,7 @@ impl<G: NamedSteps> Play<(), Known> for WritesOn<G> {
     ghost then = { IsWrittenOn G.steps };
 }
 
-/// The update that compares the prefix of another token with that of the first token.
+/// The update that compares the prefix of another token with the first token's.
 struct Compares;
 
 impl Play<(), Known> for Compares {
@@ -72,7 +71,7 @@ impl Play<(), Known> for Compares {
     ghost then = { IsCompared };
 }
 
-/// The update by which a token reads everything written.
+/// The update in which a token reads everything that was written.
 struct ReadsOn;
 
 impl Play<(), Known> for ReadsOn {
@@ -93,7 +92,7 @@ impl Split<Known> for ReadsAlong {
     ghost right = { λ v. knows v.read [] };
 }
 
-/// The update that joins another token, whose prefix these steps name.
+/// The update that joins another token; `G` names the steps of its prefix.
 struct ComparesTokens<G: NamedSteps> {
     of: PhantomData<G>,
 }
@@ -107,7 +106,7 @@ impl<G: NamedSteps> Join<Known> for ComparesTokens<G> {
     ghost spent = { knows G.steps [] };
 }
 
-/// A history that tokens read and one authority writes. Contracts see only its identity.
+/// A history that tokens read and one authority writes. Contracts see only the history's identity.
 #[derive(Drop)]
 pub struct MonotoneLog {
     table: Arc<Table<(), Known, (), OneHistory, Global>>,
@@ -125,7 +124,7 @@ impl Model for MonotoneLog {
     ghost invariant = { λ h. (arc_value h.table).shared.table_id.words ≡ 1 };
 }
 
-/// The one writer of a history. Contracts see the history's identity and all of its steps.
+/// The only writer of a history. Contracts see the history's identity and all its steps.
 #[derive(Drop)]
 pub struct LogAuthority {
     token: Pass,
@@ -163,7 +162,7 @@ impl Model for LogPrefix {
 impl MonotoneLog {
     ghost use Rattle.std.specs.Prelude.{◌≡◌, [], IfOk};
 
-    /// Creates a history without steps, and its writer. Allocates one word.
+    /// Creates a history without steps, and its authority. Allocates one word.
     pub fn new(alloc: Global) -> Result<(MonotoneLog, LogAuthority), AllocError>
         ensures { IfOk result (λ made. made.1 ≡ record { history = made.0; steps = [] }) }
     {
@@ -172,8 +171,8 @@ impl MonotoneLog {
         Ok((MonotoneLog { table }, LogAuthority { token }))
     }
 
-    /// Returns another handle of the same history. It allocates nothing; it fails only if the count
-    /// of its handles is full.
+    /// Returns another handle of the same history. Allocates nothing, and fails only if the number of
+    /// handles has reached its maximum.
     pub fn another(&self) -> Result<MonotoneLog, AllocError>
         ensures { IfOk result (λ other. other ≡ self.now) }
     {
@@ -186,8 +185,8 @@ impl LogAuthority {
     ghost use Rattle.std.specs.Prelude.{◌≡◌, ◌++◌};
     ghost use Rattle.coord_engine.specs.MonotoneLog.{StartsWith};
 
-    /// Writes on: the history then has the steps of earlier instances, as `L` names them, and these
-    /// after them.
+    /// Extends the history: afterwards it has the steps of earlier instances, which `L` names, and then
+    /// these steps.
     pub(crate) fn write_on<L: Origin>(&mut self, history: &MonotoneLog, steps: &[Step])
         requires here { history.now ≡ self.old.history }
         requires on { StartsWith (L.earlier ++ steps.now) self.old.steps }
@@ -196,7 +195,7 @@ impl LogAuthority {
         self.write_as::<Brand>(history, steps);
     }
 
-    /// Writes on: the history then has exactly these named steps, which end with the given ones.
+    /// Extends the history to exactly the steps that `G` names, which end with the given ones.
     fn write_as<G: NamedSteps>(&mut self, history: &MonotoneLog, _last: &[Step])
         requires here { history.now ≡ self.old.history }
         requires on { StartsWith G.steps self.old.steps }
@@ -205,7 +204,7 @@ impl LogAuthority {
         history.table.shared.load::<WritesOn<G>>(&mut self.token, 0);
     }
 
-    /// Returns a token that has read everything written.
+    /// Returns a token that has read everything that was written.
     pub fn reader(&mut self, history: &MonotoneLog) -> LogPrefix
         requires { history.now ≡ self.old.history }
         ensures read { result ≡ self.old }
@@ -218,7 +217,7 @@ impl LogAuthority {
         LogPrefix { token }
     }
 
-    /// Takes a token back: the written history begins with its prefix.
+    /// Takes a token back, and shows that the written history begins with its prefix.
     pub fn take_back(&mut self, history: &MonotoneLog, reader: LogPrefix)
         requires here { history.now ≡ self.old.history }
         requires theirs { reader.history ≡ self.old.history }
@@ -228,7 +227,7 @@ impl LogAuthority {
         self.take_back_as::<Brand>(history, reader);
     }
 
-    /// The same, if the token's prefix has a name.
+    /// Like `take_back`, for a token whose prefix `G` names.
     fn take_back_as<G: NamedSteps>(&mut self, history: &MonotoneLog, reader: LogPrefix)
         requires here { history.now ≡ self.old.history }
         requires theirs { reader.history ≡ self.old.history }
@@ -262,8 +261,8 @@ impl LogPrefix {
         LogPrefix { token }
     }
 
-    /// Joins another token of the history, and reads on: the new prefix begins with the old one,
-    /// and with that of the other token.
+    /// Joins another token of the history, and reads everything that was written: the new prefix
+    /// extends the old one and that of the other token.
     pub fn join(&mut self, history: &MonotoneLog, other: LogPrefix)
         requires here { history.now ≡ self.old.history }
         requires theirs { other.history ≡ self.old.history }
@@ -274,7 +273,7 @@ impl LogPrefix {
         self.join_as::<Brand>(history, other);
     }
 
-    /// The same, if the other token's prefix has a name.
+    /// Like `join`, for a token whose prefix `G` names.
     fn join_as<G: NamedSteps>(&mut self, history: &MonotoneLog, other: LogPrefix)
         requires here { history.now ≡ self.old.history }
         requires theirs { other.history ≡ self.old.history }

@@ -1,8 +1,8 @@
-//! Laws over the definitions alone: functions that do nothing, whose contracts are the laws.
+//! Laws over the definitions alone. Each is the contract of an empty function.
 
 ghost use Rattle.coord_engine.specs.Past.{AfterSomeIsOnTheWay};
 
-/// The world after the first steps of a trail is on the way of that trail.
+/// The world after a prefix of a trail is on the way of that trail.
 pub fn after_some_is_on_the_way()
     ensures { AfterSomeIsOnTheWay }
 {}

@@ -1,24 +1,25 @@
 //! An engine: one ledger that many threads share, with one history.
 //!
-//! An [`Engine`] is a lock round a [`Guarded`] and a condition on which callers wait. What each call
-//! does is the contract of a method of `Guarded`, a module without handles; the engine takes the
-//! lock and calls it. A flight is committed by the caller of `flush_once`, outside the lock.
+//! An [`Engine`] is a lock around a [`Guarded`], with conditions on which callers and flushers wait.
+//! The effect of each call is stated by the contract of a method of `Guarded`, a module without
+//! handles; the engine takes the lock and calls that method. A flight is committed by the caller of
+//! `flush_once`, outside the lock.
 //!
-//! A caller holds a [`Share`] with the notes of its accepted steps. `Engine::close` gathers all
-//! shares, and takes the engine apart only if the notes are exactly the steps accepted since the
-//! engine was made (`specs/Named.antt`): one history, of the callers' steps only.
+//! A caller holds a [`Share`] with the notes of its accepted steps. `Engine::close` collects all
+//! shares, and takes the engine apart only if the notes are exactly the steps accepted since the engine
+//! was created (`specs/Named.antt`): one history, which consists of the callers' steps alone.
 //!
-//! `specs/State.antt` is what contracts see of the value under the lock, `specs/Calls.antt` and
-//! `specs/Closing.antt` what its methods answer, and `specs/Threads.antt` what the engine's calls
-//! answer while other threads call too; [`named_rows`] are small cases. The main theorems are the
-//! contracts of the methods of `Guarded`, and that of `Engine::close`. No contract says that a
-//! thread runs, that a waiter wakes or that anyone is served.
+//! `specs/State.antt` defines how contracts see the value under the lock, `specs/Calls.antt` and
+//! `specs/Closing.antt` the answers of its methods, and `specs/Threads.antt` the answers of the
+//! engine's calls while other threads make calls. [`named_rows`] has small examples. The main theorems
+//! are the contracts of the methods of `Guarded` and of `Engine::close`. No contract states that a
+//! thread runs, that a waiter wakes, or that anyone is served.
 //!
-//! A [`flusher`] flushes accepted steps and hands the releases to a [`Port`], each delivery once
-//! and in order (`specs/Flushing.antt`); a [`worker`] submits the packets that come for a node
-//! (`specs/Working.antt`), and a [`SubmittingPort`] those of the flusher's own flights, in its
-//! thread (`specs/SubmittingPort.antt`). `specs/Pacing.antt` says when a flight starts,
-//! `specs/Waiting.antt` which packets a worker keeps for another try.
+//! A [`flusher`] flushes accepted steps and passes the releases to a [`Port`], each delivery once and
+//! in order (`specs/Flushing.antt`). A [`worker`] submits the packets that arrive for a node
+//! (`specs/Working.antt`). A [`SubmittingPort`] submits the packets of the flusher's own flights in the
+//! flusher's thread (`specs/SubmittingPort.antt`). `specs/Pacing.antt` defines when a flight starts,
+//! and `specs/Waiting.antt` which packets a worker keeps for another attempt.
 #![tactic(auto)]
 
 mod closed;

@@ -1,4 +1,4 @@
-//! The origin of an engine: the ledger and the history that it was made over.
+//! The origin of an engine: the ledger and the history over which it was created.
 
 ghost use Rattle.std.specs.Prelude.{List, []};
 ghost use Rattle.coord_types.specs.declared.steps.Step.{Step};
@@ -10,24 +10,23 @@ ghost use Rattle.coord_engine.specs.Past.{Past, no_past};
 use std::marker::Brand;
 use std::sync::ledger::Ledger as Count;
 
-/// Names an engine: the count of its shares, its history, and the ledger that it was made over.
-/// `Engine::new` takes it and `Engine::close` returns it, since no clause can state the value under
-/// a lock.
+/// Names an engine: the count of its shares, its history, and the ledger over which it was created.
+/// `Engine::new` and `Engine::close` both have it as a type parameter, because no clause can describe
+/// the value under a lock.
 ///
-/// An engine is made in code that is generic over this name and called with `Brand`, which picks
-/// the history with its written steps, and the base, the steps and the disk's past of the given
-/// ledger.
+/// The code that creates an engine is generic over this name, and is called with `Brand`. That picks
+/// the history with its written steps, and the base, the steps and the disk's past of the given ledger.
 pub trait Origin: Count {
-    /// The history that it writes.
+    /// The history that the engine writes.
     ghost history: { TableId };
 
-    /// The steps of that history that were settled before, in earlier instances of the store.
+    /// The steps of that history that were settled by earlier instances of the store.
     ghost earlier: { List Step };
 
     /// The world before the ledger's first step.
     ghost base: { World };
 
-    /// The steps that the ledger had accepted.
+    /// The steps that the ledger had accepted when the engine was created.
     ghost before: { List Step };
 
     /// The ledger's disk at that time.

@@ -7,8 +7,8 @@ use crate::Share;
 use std::marker::Model;
 use std::sync::ledger::Ledger as Count;
 
-/// A share whose notes are all of packets' steps. The type guarantees it, since only the type of a
-/// thread's result is known.
+/// A share with notes of packets' steps alone. The type guarantees this, because of a finished thread's
+/// result only the type is known.
 #[derive(Drop)]
 pub struct PacketShare<L: Count> {
     pub(crate) share: Share<L>,

@@ -6,49 +6,50 @@ ghost use Rattle.coord_engine.specs.Port.{delivery_of, step_of};
 use crate::LogPrefix;
 use coord_types::{NodeId, Output, Packet, Step};
 
-/// Carries released packets to the workers of nodes, and signals to their services. No promise
-/// depends on it: a packet may be lost, come twice or come late; it returns false if it knows that
-/// something is lost.
+/// Carries released packets to the workers of nodes, and signals to their services. No promise depends
+/// on it: a packet may be lost, arrive twice or arrive late. A call returns false if the port knows
+/// that something was lost.
 ///
-/// Its meaning is its possible states after each call. No port has to state more; for code that
+/// The ghost members state the possible states of a port after each call. No port has to state more
+/// than the defaults; code that works with any port uses them to record the requests with their number
+/// and order.
 /// works with any port it records the requests, how often and in which order.
 pub trait Port {
     ghost use Rattle.std.specs.Prelude.{ℕ, Bool, ⊤};
     ghost use Rattle.coord_types.specs.declared.packets.Packet.{Packet as Asked};
     ghost use Rattle.coord_engine.specs.MonotoneLog.{Beginning};
 
-    /// Its possible states after a request to carry a packet to a node, with this answer.
+    /// The possible states after a request to carry a packet to a node, with this answer.
     ghost carried: { Self → ℕ → Asked → Bool → Self → Type 0 } = { λ _ _ _ _ _. ⊤ };
 
-    /// The signals that may be requested: by the prefix of a history that was read, the number of
-    /// the signal's step, the node and the epoch.
+    /// The signals that may be requested, by the prefix of a history that was read, the number of the
+    /// signal's step, the node, and the epoch.
     ghost may_signal: { Beginning → ℕ → ℕ → ℕ → Type 0 } = { λ _ _ _ _. ⊤ };
 
-    /// Its possible states after a request to signal an epoch to a node, for a step, with this
-    /// answer.
+    /// The possible states after a request to signal an epoch to a node, for a step, with this answer.
     ghost signalled: { Self → ℕ → ℕ → ℕ → Bool → Self → Type 0 } = { λ _ _ _ _ _ _. ⊤ };
 
-    /// Its possible states after a request to hand on its packets, with this answer.
+    /// The possible states after a request to hand on the gathered packets, with this answer.
     ghost handed_on: { Self → ℕ → Self → Type 0 } = { λ _ _ _. ⊤ };
 
-    /// Carries a packet to this node. It may gather packets, so that those for one place go
-    /// together.
+    /// Carries a packet to this node. The port may gather packets, so that packets for one place travel
+    /// together. Returns false if the packet is lost.
     fn carry(&mut self, to: NodeId, packet: Packet) -> bool
         ensures { carried self.old to packet result self.new };
 
-    /// Signals to the service at this node that a reset has ended there, with the new epoch. The
-    /// step with this number sends the signal, and the reader has read it among the settled steps.
+    /// Signals to the service at this node that a reset has ended there, with the new epoch. The step
+    /// with this number sends the signal, and the reader's token has read it among the settled steps.
     fn signal(&mut self, reader: LogPrefix, step: u64, node: NodeId, epoch: u64) -> bool
         requires { may_signal reader step node epoch }
         ensures { signalled self.old step node epoch result self.new };
 
-    /// Hands on the gathered packets, after the last request of a flight. Returns the number of
-    /// packets that it knows to be lost.
+    /// Hands on the gathered packets, after the last request for a flight. Returns the number of
+    /// packets that the port knows to be lost.
     fn hand_on(&mut self) -> u64
         ensures { handed_on self.old result self.new };
 }
 
-/// The request to a port for an output; for a signal with the number of its step.
+/// The request to a port for one output. For a signal it has the number of its step.
 #[derive(Clone, Copy)]
 pub enum Delivery {
     Carry(NodeId, Packet),
@@ -56,7 +57,8 @@ pub enum Delivery {
 }
 
 impl Delivery {
-    /// Data goes to its `to`, and a receipt to its `from`, who sent the data.
+    /// Returns the request for an output. Data is carried to its `to`, and a receipt to its `from`, the
+    /// sender of the data.
     pub fn of(step: u64, output: Output) -> Self
         ensures { result ≡ delivery_of step output }
     {

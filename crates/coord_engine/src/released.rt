@@ -8,8 +8,8 @@ use crate::{LogPrefix, Origin};
 use coord_ledger::Releases;
 use std::marker::{Model, PhantomData};
 
-/// Releases for a port, with a token that has read the settled steps of the engine that `L` names.
-/// It must be consumed. Contracts see the remaining ones. Its type keeps that the token has read
+/// Releases for a port, with a token that has read the settled steps of the engine that `L` names. It
+/// must be consumed. Contracts see the remaining releases. The type guarantees that the token has read
 /// the step of each signal among them.
 pub struct Released<L: Origin> {
     pub(crate) releases: Releases,
@@ -30,7 +30,7 @@ impl<L: Origin> Model for Released<L> {
 }
 
 impl<L: Origin> Released<L> {
-    /// Wraps releases whose signals are of steps that the reader has read.
+    /// Wraps releases and a token that has read the steps of their signals.
     pub(crate) fn new(releases: Releases, reader: LogPrefix) -> Self
         requires { AreOfSettled L.history L.earlier L.base reader releases }
         ensures { result ≡ releases }

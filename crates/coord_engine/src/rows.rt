@@ -1,5 +1,5 @@
-//! Worked examples of waiting packets, and the times of a flusher: functions that do nothing, whose
-//! contracts are the examples.
+//! Worked examples of waiting packets, and the times of a flusher. Each is the contract of an empty
+//! function.
 
 ghost use Rattle.coord_engine.specs.Flushing.{TimesAreUsual};
 ghost use Rattle.coord_engine.specs.WorkedPackets.{BothKinds, LaterInPlace};

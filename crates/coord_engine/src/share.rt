@@ -7,11 +7,10 @@ use std::alloc::AllocError;
 use std::marker::Model;
 use std::sync::ledger::{Ledger as Count, Share as Part};
 
-/// A caller's share in an engine: the notes of its accepted steps, in order. Contracts see the
-/// notes.
+/// A caller's share in an engine: the notes of its accepted steps, in order. Contracts see the notes.
 ///
-/// Beside the notes it has one part of the engine's count of accepted steps. So nobody can forge a
-/// share, and all shares together have as many notes as steps were accepted.
+/// In addition it holds one part of the engine's count of accepted steps. So no share can be forged,
+/// and all shares together have as many notes as steps were accepted.
 #[derive(Drop)]
 pub struct Share<L: Count> {
     pub(crate) part: Part<L>,

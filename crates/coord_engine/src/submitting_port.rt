@@ -12,17 +12,17 @@ use std::alloc::Global;
 use std::marker::Model;
 use std::sync::Wait;
 
-/// Room for this many packets is allocated at first: more than a flight releases, which has at most
-/// 256 steps, each with a receipt and a packet to at most 16 neighbours. Only if memory for that
-/// runs out, a packet may be lost later.
+/// The initial room for gathered packets, enough for any flight: at most 256 steps, each with a receipt
+/// and a packet to at most 16 neighbours. A packet can be lost later only if memory for this room runs
+/// out.
 const ROOM: usize = 4_352;
 
-/// A flusher's port that submits packets itself, with its own share, so that none of them goes to
-/// another thread and comes back. It gathers those of a flight, and submits them in `hand_on`.
-/// Signals go to another port, which gets no packet.
+/// A flusher's port that submits packets itself, with its own share, so that no packet travels to
+/// another thread and back. It gathers the packets of a flight, and submits them in `hand_on`. Signals
+/// are passed to another port, which gets no packet.
 ///
-/// It takes, keeps, drops or loses a packet as a worker does (`worker`), and tries those that it
-/// keeps once more after each flight.
+/// It submits, keeps, drops or loses a packet like a worker (`worker`), and tries the kept ones again
+/// after each flight.
 #[derive(Drop)]
 pub struct SubmittingPort<'e, D: Disk, L: Origin, P: Port, R: Wait> {
     rt: &'e R,
@@ -70,7 +70,7 @@ impl<'e, D: Disk, L: Origin, P: Port + Drop, R: Wait> SubmittingPort<'e, D, L, P
         }
     }
 
-    /// Returns its share, with the notes of all accepted packets' steps.
+    /// Returns the port's share, with the notes of all accepted packets' steps.
     pub fn into_share(self) -> PacketShare<L>
         ensures { result ≡ self.entry.notes }
     {

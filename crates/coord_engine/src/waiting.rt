@@ -1,4 +1,4 @@
-//! The packets that a worker keeps for another try.
+//! The packets that a worker keeps for another attempt.
 
 ghost use Rattle.std.specs.Prelude.{◌≡◌, [], drop, length, slice_get, OnOk, OnErr, IfErr};
 ghost use Rattle.std.specs.Hash as fed;
@@ -12,7 +12,7 @@ use std::alloc::Global;
 use std::hash::{Hash, Hasher};
 use std::marker::Model;
 
-/// A packet's lane, and its kind. At most one packet of each waits.
+/// A packet's lane and kind. At most one packet of each waits.
 #[derive(Clone, Copy, PartialEq, Eq)]
 struct Slot {
     from: NodeId,
@@ -55,8 +55,9 @@ impl Slot {
     }
 }
 
-/// Packets that wait for another try, at most one of each lane and kind, data or receipt. Contracts
-/// see them as a list, in the order in which their lanes and kinds came (`specs/Waiting.antt`).
+/// Packets that wait for another attempt, at most one for each lane and kind (data or receipt).
+/// Contracts see them as a list, in the order in which their lanes and kinds first arrived
+/// (`specs/Waiting.antt`).
 #[derive(Drop)]
 pub struct Waiting {
     packets: IndexMap<Slot, Packet>,
@@ -85,8 +86,8 @@ impl Waiting {
         }
     }
 
-    /// Keeps a packet: it replaces the one of its lane and kind, or else goes last. Returns it if
-    /// memory runs out.
+    /// Keeps a packet: it replaces the packet of its lane and kind, or is appended. Returns the packet
+    /// if memory runs out.
     pub fn put(&mut self, packet: Packet) -> Result<(), Packet>
         ensures put { OnOk result (self.new ≡ with_packet self.old packet) }
         ensures back { IfErr result (λ refused. refused ≡ packet) }

@@ -8,8 +8,8 @@ use crate::{Engine, Guarded, Origin};
 use coord_disk::Disk;
 use std::sync::{MutexGuard, Wait};
 
-/// The lock of an engine, taken for a change after which a flusher may have to be woken. It can't
-/// be dropped: `unlock` releases it.
+/// The lock of an engine, held for a change after which a flusher may have to be woken. It can't be
+/// dropped: `unlock` releases it.
 pub struct WakingGuard<'e, D: Disk, L: Origin> {
     engine: &'e Engine<D, L>,
     pub guarded: MutexGuard<'e, Guarded<D, L>>,

@@ -14,7 +14,7 @@ use crossbeam_channel::Receiver;
 use std::alloc::Global;
 use std::sync::Wait;
 
-/// Whether a packet has to wait after this refusal, because there was no room for its step.
+/// Tests whether a packet has to wait after this refusal, because there was no room for its step.
 fn has_to_wait(refusal: Refusal) -> bool
     ensures { result ≡ has_to_wait refusal }
 {
@@ -74,7 +74,7 @@ fn take<D: Disk, L: Origin>(
     hand.count(guarded.put_down());
 }
 
-/// Takes packets in order, and tries the waiting ones after each.
+/// Submits packets in order, and tries the waiting ones after each.
 fn take_each<D: Disk, L: Origin>(
     guarded: &mut Guarded<D, L>,
     packets: &[Packet],
@@ -90,7 +90,7 @@ fn take_each<D: Disk, L: Origin>(
     }
 }
 
-/// Takes packets that came together, under one lock, and wakes the flusher once.
+/// Submits packets that arrived together, under one lock, and wakes the flusher once.
 fn take_together<D: Disk, L: Origin, R: Wait>(
     rt: &R,
     engine: &Engine<D, L>,
@@ -106,7 +106,7 @@ fn take_together<D: Disk, L: Origin, R: Wait>(
     lock.unlock();
 }
 
-/// Takes packets that came together, and tries the waiting ones again, under one lock, and wakes
+/// Submits packets that arrived together and tries the waiting ones again, under one lock, and wakes
 /// the flusher once.
 pub(crate) fn take_and_try<D: Disk, L: Origin, R: Wait>(
     rt: &R,
@@ -125,11 +125,12 @@ pub(crate) fn take_and_try<D: Disk, L: Origin, R: Wait>(
 }
 
 /// Submits the arriving packets in order, drops their replies, and ends after the last one. Packets
-/// that come together are submitted under one lock.
+/// that arrive together are submitted under one lock.
 ///
-/// After PendingFull or OutOfMemory it keeps the packet, and tries the kept ones again before it
-/// takes the next one. After any other refusal it drops the packet; if memory to keep it runs out,
-/// it loses it: a needed packet is sent again. In any case it puts the packet down.
+/// After `PendingFull` or `OutOfMemory` it keeps the packet, and tries the kept packets again before it
+/// submits the next one. After any other refusal it drops the packet. If memory to keep a packet runs
+/// out, the packet is lost; if it is still needed, the server sends it again. In each case the packet
+/// is counted as handled.
 pub fn worker<D: Disk, L: Origin, I: Iterator<Item = Vec<Packet>>, R: Wait>(
     rt: &R,
     engine: &Engine<D, L>,
@@ -149,8 +150,8 @@ pub fn worker<D: Disk, L: Origin, I: Iterator<Item = Vec<Packet>>, R: Wait>(
     share
 }
 
-/// A worker over a channel whose share's type says that its notes are of packets, for a separate
-/// thread. It ends when the channel closes.
+/// A worker over a channel, for a separate thread: the type of the returned share guarantees that its
+/// notes are of packets. It ends when the channel closes.
 pub fn packet_worker<D: Disk, L: Origin, R: Wait>(
     rt: &R,
     alloc: Global,

@@ -1,33 +1,34 @@
-//! The laws of members that follow one coordinator: functions that do nothing, whose contracts are the
-//! laws.
+//! The laws of members that follow one coordinator: functions without a body whose contracts state
+//! the laws.
 
 ghost use Rattle.coord_following.specs.Fences.{NewerHasMore, OlderStaysOut};
 ghost use Rattle.coord_following.specs.Ledgers.{NoMixOverALedger};
 ghost use Rattle.coord_following.specs.Stores.{NoMixOverAStore};
 
-/// Whatever a store goes through after a sound world, including its migration: members that begin
-/// with nothing, follow the rule and see its worlds mix no runs, even if they lose their files at
-/// any point. A member may see any world that is not earlier than the one it saw last.
+/// Members that see a store's worlds, begin with empty files and follow the rule mix no runs, even
+/// if they lose their files at any moment. The store's history begins with a sound world and may
+/// include its migration. A member may see any world that is not earlier than the one it saw last.
 #[tactic(auto, using(crate::proofs::OverStores::no_mix_over_a_store))]
 pub fn no_mix_over_a_store()
     ensures { NoMixOverAStore }
 {}
 
-/// Over a ledger that was just created with a sound world, whatever it is asked, whatever it
-/// answers and wherever it crashes: members that see its settled worlds, begin with nothing and
-/// follow the rule mix no runs, even if they lose their files at any point.
+/// Members that see a ledger's settled worlds, begin with empty files and follow the rule mix no
+/// runs, even if they lose their files at any moment. The ledger was just created with a sound
+/// world; it may receive any events, give any possible answers and crash at any moment.
 #[tactic(auto, using(crate::proofs::OverLedgers::no_mix_over_a_ledger))]
 pub fn no_mix_over_a_ledger()
     ensures { NoMixOverALedger }
 {}
 
-/// If the party of one start has the node of another one in a later life or at a greater epoch, the
-/// first one's fence has the greater count, whichever of their members' looks fixed the parties.
+/// If the party of one start has another start's node in a later life or at a greater epoch, the
+/// fence of the first start has the greater count, whichever members' looks fixed the parties.
 pub fn newer_fences_have_more()
     ensures { NewerHasMore }
 {}
 
-/// So a resource that has accepted the newer start never accepts the older one, however late it comes.
+/// A resource that has accepted the newer start never accepts the older one, however late it
+/// arrives.
 pub fn older_starts_stay_out()
     ensures { OlderStaysOut }
 {}

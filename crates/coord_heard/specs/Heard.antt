@@ -1,5 +1,5 @@
--- The lines that the server prints for a view, a reply and a refusal are parsed as these, and the line that a client prints for an order is parsed
--- as that order.
+-- The line that the server prints for a view, a reply or a refusal is parsed by clients as that view, reply
+-- or refusal. The line that a client prints for an order is parsed by the server as that order.
 use Rattle.std.specs.Prelude.{◌≡◌, ◌≤◌, ◌<◌, ◌^◌, ℕ, List, [], ◌∷◌, ◌++◌, Option, Some, None, Ok}
 use Rattle.std.specs.List.{AllByRecursion}
 use Rattle.coord_types.specs.declared.limits.TheConstants.{MAX_CLIENTS, MAX_GROUPS, MAX_NODES}
@@ -19,7 +19,7 @@ use Rattle.coord_wire.specs.AnswerLine.{answer_in, kinds, refusals}
 use Rattle.coord_wire.specs.OrderLine.{order_line}
 use Rattle.coord_wire.specs.ShowLine.{shown_in}
 
--- ---- the numbers of a view are those of its types
+-- ---- a view has numbers within the ranges of their types
 
 abbrev pub IsWord : ℕ → Type 0
 IsWord n = n < 2 ^ 64
@@ -49,26 +49,26 @@ pub record IsView (v : Shown) : Type 0 where
   pub nodes : AllByRecursion IsNodeRow v.nodes
   pub links : AllByRecursion IsLink v.links
 
--- ---- reading
+-- ---- lines that a client reads
 
--- of each view
+-- The line of each view is parsed as that view.
 abbrev pub ShownIsRead : Type 0
 ShownIsRead = (v : Shown) → IsView v → shown_in (reply_line (printed.Shown v)) ≡ Ok v
 
--- of each reply to an order
+-- The line of this reply to an order is parsed as that reply.
 abbrev pub IsReadOf : Reply → Type 0
 IsReadOf r = answer_in (reply_line (printed.Replied r)) ≡ Ok (heard.Replied r)
 
 abbrev pub ReplyIsRead : Type 0
 ReplyIsRead = AllByRecursion (λ row. (step : ℕ) → IsWord step → IsReadOf (record { step = step; kind = row.1 })) kinds
 
--- of each refusal that an order may get
+-- The line of each refusal that an order may get is parsed as that refusal.
 abbrev pub RefusalIsRead : Type 0
 RefusalIsRead = AllByRecursion (λ row. answer_in (reply_line (printed.Refused row.1)) ≡ Ok (heard.Refused row.1)) refusals
 
--- ---- what a client prints
+-- ---- lines that a client prints
 
--- the numbers of a command are those of its types
+-- The numbers of a command are within the ranges of their types.
 abbrev pub IsCommand : Command → Type 0
 IsCommand (Add u g) = IsIn MAX_NODES u × IsIn MAX_GROUPS g
 IsCommand (Remove u) = IsIn MAX_NODES u
@@ -77,7 +77,8 @@ IsCommand (Drop a b) = IsIn MAX_NODES a × IsIn MAX_NODES b
 IsCommand (Reset u) = IsIn MAX_NODES u
 IsCommand (Confirm u e) = IsIn MAX_NODES u × IsWord e
 
--- the line of each order, without its line feed, is parsed as that order of that client with that number
+-- The server parses the line of each order, without its line feed, as that order of that client with that
+-- number.
 abbrev pub OrderIsRead : Type 0
 OrderIsRead =
     (client : ℕ) (line : Line) (text : List ℕ) → IsIn MAX_CLIENTS client → IsWord line.number → IsCommand line.command

@@ -1,4 +1,4 @@
-//! The laws: functions that do nothing, whose contracts are the laws.
+//! The laws. Each is the contract of an empty function.
 
 ghost use Rattle.coord_heard.specs.Heard.{OrderIsRead, RefusalIsRead, ReplyIsRead, ShownIsRead};
 

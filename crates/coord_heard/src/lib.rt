@@ -1,5 +1,5 @@
-//! What the server prints is what a client reads, and what a client prints is what the server
-//! reads: laws over coord_admin's lines and readings and those of coord_wire. It has no code.
+//! Clients parse what the server prints, and the server parses what clients print: laws that join the
+//! lines of coord_admin to the parsers of coord_wire, and the reverse. The crate has no code.
 #![tactic(auto)]
 
 pub mod laws;

@@ -3,7 +3,7 @@ use Rattle.std.specs.Borrow.{Bor}
 use Rattle.coord_journal.specs.Text.{Content}
 use Rattle.coord_journal.specs.declared.contents.Contents.{Contents}
 
--- the bytes of each
+-- the bytes of each borrowed list
 abbrev pub bodies : List (Bor (List ℕ)) → List (List ℕ)
 bodies [] = []
 bodies (v ∷ vs) = v.now ∷ bodies vs

@@ -1,10 +1,10 @@
--- When each refusal is returned, apart from faults of the device.
+-- The condition for each fault of a journal's calls, apart from faults of the device.
 use Rattle.std.specs.Prelude.{◌≡◌, ◌⊎◌, ℕ, ◌<◌, List, length, Result, Ok, Err}
 use Rattle.coord_journal.specs.Text.{Content, HasHeader, IsHalfSize, IsText}
 use Rattle.coord_journal.specs.declared.fault.JournalFault.{JournalFault}
 use Rattle.coord_journal.specs.declared.fault.JournalFault.TheVariants.{OutOfMemory, Device, NotEmpty, HalfSize, NoMagic, BadRecord, Stopped}
 
--- Formatting a device with these bytes, with halves of this size, returns this fault.
+-- the condition for this fault when a device with these bytes is formatted with halves of this size
 abbrev pub RefusesFormat : List ℕ → ℕ → JournalFault → Type 0
 RefusesFormat bytes half_size OutOfMemory = (length bytes ≡ 0) × IsHalfSize half_size
 RefusesFormat bytes half_size Device = Unit {0}
@@ -15,7 +15,7 @@ RefusesFormat bytes half_size fault = ⊥
 abbrev pub BeginsWithHeader : List ℕ → Type 0
 BeginsWithHeader bytes = (selector half_size : ℕ) × (rest : List ℕ) × HasHeader bytes selector half_size rest
 
--- Opening a device with these bytes returns this fault.
+-- the condition for this fault when a device with these bytes is opened
 abbrev pub RefusesOpen : List ℕ → JournalFault → Type 0
 RefusesOpen bytes OutOfMemory = Unit {0}
 RefusesOpen bytes Device = Unit {0}
@@ -23,19 +23,19 @@ RefusesOpen bytes NoMagic = ¬ BeginsWithHeader bytes
 RefusesOpen bytes BadRecord = BeginsWithHeader bytes × ((content : Content) → IsText content bytes → ⊥)
 RefusesOpen bytes fault = ⊥
 
--- the faults of reading bytes that begin with a header
+-- the faults that reading can return for bytes that begin with a header
 abbrev pub IsReadFault : JournalFault → Type 0
 IsReadFault fault = (fault ≡ OutOfMemory) ⊎ (fault ≡ BadRecord)
 
--- the faults of a format
+-- the faults that formatting can return
 abbrev pub IsFormatFault : JournalFault → Type 0
 IsFormatFault fault = (fault ≡ NotEmpty) ⊎ ((fault ≡ HalfSize) ⊎ ((fault ≡ OutOfMemory) ⊎ (fault ≡ Device)))
 
--- the faults of an opening
+-- the faults that opening can return
 abbrev pub IsOpenFault : JournalFault → Type 0
 IsOpenFault fault = (fault ≡ OutOfMemory) ⊎ ((fault ≡ Device) ⊎ ((fault ≡ NoMagic) ⊎ (fault ≡ BadRecord)))
 
--- the faults of an append or a replace
+-- the faults that an append or a replace can return
 abbrev pub IsWriteFault : JournalFault → Type 0
 IsWriteFault fault = (fault ≡ Stopped) ⊎ ((fault ≡ OutOfMemory) ⊎ (fault ≡ Device))
 

@@ -1,4 +1,4 @@
--- The halves of a device, by number.
+-- The numbers of the two halves of a device.
 use Rattle.std.specs.Prelude.{ℕ}
 use Rattle.coord_journal.specs.declared.half.Half.{Half}
 use Rattle.coord_journal.specs.declared.half.Half.TheVariants.{First, Second}

@@ -9,7 +9,7 @@ use Rattle.coord_journal.specs.declared.journal.Journal.{Journal}
 abbrev pub disk_of : {D : Type 0} → Journal D → D
 disk_of journal = journal.disk
 
--- the size of a half
+-- the size of a half, in bytes
 abbrev pub half_size_of : {D : Type 0} → Journal D → ℕ
 half_size_of journal = journal.half_size
 
@@ -17,7 +17,7 @@ half_size_of journal = journal.half_size
 abbrev pub half_of : {D : Type 0} → Journal D → ℕ
 half_of journal = half_number journal.half
 
--- the number of bytes used in it, including its closed gate
+-- the number of bytes used in the selected half, including its closed gate
 abbrev pub used_of : {D : Type 0} → Journal D → ℕ
 used_of journal = journal.used
 
@@ -25,11 +25,12 @@ used_of journal = journal.used
 abbrev pub has_stopped : {D : Type 0} → Journal D → Bool
 has_stopped journal = journal.stopped
 
--- a body of this many bytes fits after the used bytes
+-- a batch with a body of this many bytes fits after the used bytes
 abbrev pub HasRoomFor : {D : Type 0} → Journal D → ℕ → Type 0
 HasRoomFor journal len = used_of journal + 5 + len ≤ half_size_of journal
 
--- The journal's disk keeps the model and holds the text of this content, completely synced, and the journal has not stopped.
+-- The journal's disk keeps the model and holds the text of this content, all of it synced, and the journal has not
+-- stopped.
 pub record IsReady {D : Type 0} (m : DiskModel D) (journal : Journal D) (content : Content) : Type 0 where
   pub keeps : m.keeps_model (disk_of journal) ≡ true
   pub synced : m.present (disk_of journal) ≡ whole (m.present (disk_of journal)).read

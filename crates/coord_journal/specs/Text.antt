@@ -9,28 +9,29 @@ pub record Content : Type 0 where
   pub snapshot : List ℕ
   pub batches : List (List ℕ)
 
--- a length and that many bytes
+-- the length of these bytes as a four-byte number, and then the bytes
 abbrev pub sized : List ℕ → List ℕ
 sized bytes = to_be_bytes w32 (length bytes) ++ bytes
 
--- one byte, a body of at most this many bytes, and the bytes after it
+-- the bytes are one byte, then a sized body of at most `limit` bytes, and then the rest, `behind`
 abbrev pub BeginsWithBody : ℕ → ℕ → List ℕ → List ℕ → List ℕ → Type 0
 BeginsWithBody limit first body behind bytes = (length body ≤ limit) × (bytes ≡ first ∷ (sized body ++ behind))
 
--- open gates (any byte but 0), each followed by a batch
+-- the bytes are batches, each after an open gate (any byte but 0)
 abbrev pub IsOpened : List (List ℕ) → List ℕ → Type 0
 IsOpened [] bytes = bytes ≡ []
 IsOpened (batch ∷ batches) bytes = (gate : ℕ) × (rest : List ℕ) × (gate ≢ 0) × BeginsWithBody MAX_BODY gate batch rest bytes × IsOpened batches rest
 
--- these bytes are open gates with these batches, this many bytes in total, and then a closed gate
+-- the bytes begin with these batches after open gates, `size` bytes in all, and then a closed gate
 abbrev pub ReadsAs : List (List ℕ) → ℕ → List ℕ → Type 0
 ReadsAs batches size bytes = (opened : List ℕ) × (behind : List ℕ) × (bytes ≡ opened ++ 0 ∷ behind) × IsOpened batches opened × (length opened ≡ size)
 
--- a half up to its first closed gate
+-- the bytes of a half before its first closed gate
 abbrev pub half_front : ℕ → List ℕ → List ℕ → List ℕ
 half_front version snapshot opened = version ∷ (sized snapshot ++ opened)
 
--- These bytes are a half that holds this content and uses this many of them, including its closed gate. The bytes after the gate are not read.
+-- These bytes are a half with this content, of which the first `used` bytes are in use, including the closed gate. The
+-- bytes after the gate are not read.
 pub record IsHalf (bytes : List ℕ) (content : Content) (used : ℕ) : Type 0 where
   pub opened : List ℕ
   pub behind : List ℕ
@@ -39,25 +40,26 @@ pub record IsHalf (bytes : List ℕ) (content : Content) (used : ℕ) : Type 0 w
   pub batches : IsOpened content.batches opened
   pub used_is : length (half_front content.version content.snapshot opened) + 1 ≡ used
 
--- ACRRESET
+-- the ASCII codes of "ACRRESET"
 abbrev pub magic : List ℕ
 magic = 65 ∷ 67 ∷ 82 ∷ 82 ∷ 69 ∷ 83 ∷ 69 ∷ 84 ∷ []
 
--- a size that a half may have
+-- a half may have this size, in bytes
 pub record IsHalfSize (half_size : ℕ) : Type 0 where
   pub smallest : MIN_HALF ≤ half_size
   pub greatest : half_size ≤ MAX_HALF
 
--- bytes that begin with a header, which holds the selector and the size of a half
+-- the bytes begin with a header, which holds this selector and this size of a half
 pub record HasHeader (bytes : List ℕ) (selector half_size : ℕ) (rest : List ℕ) : Type 0 where
   pub spelled : bytes ≡ (selector ∷ magic) ++ (to_be_bytes w64 half_size ++ rest)
   pub size : IsHalfSize half_size
 
--- the offset of a half after the header; the first half has number 0, the second 1
+-- the offset of a half after the header; the halves have the numbers 0 and 1
 abbrev pub half_start : ℕ → ℕ → ℕ
 half_start half half_size = half * half_size
 
--- These bytes are the text of this content: a header, the bytes before the selected half, and that half. An even or odd selector names the half, which uses this many bytes, including its closed gate.
+-- These bytes are the text of this content: a header, the bytes before the selected half, and that half. An even
+-- selector names half 0, an odd one half 1. The half uses `used` bytes, including its closed gate.
 pub record IsTextAt (bytes : List ℕ) (content : Content) (half_size half used : ℕ) : Type 0 where
   pub selector : ℕ
   pub skipped : List ℕ
@@ -68,51 +70,51 @@ pub record IsTextAt (bytes : List ℕ) (content : Content) (half_size half used 
   pub holds : IsHalf half_bytes content used
   pub fits : used ≤ half_size
 
--- the place of the closed gate
+-- the place of the closed gate on the device
 abbrev pub gate_place : ℕ → ℕ → ℕ → ℕ
 gate_place half_size half used = 16 + half_start half half_size + used
 
 abbrev pub IsText : Content → List ℕ → Type 0
 IsText content bytes = (half_size half used : ℕ) × IsTextAt bytes content half_size half used
 
--- these bytes are a text in this half
+-- these bytes are the text of some content, with this half selected
 abbrev pub IsTextIn : ℕ → List ℕ → Type 0
 IsTextIn half bytes = (content : Content) × (half_size : ℕ) × (used : ℕ) × IsTextAt bytes content half_size half used
 
--- these bytes are a text in this half, and a body of this many bytes still fits
+-- these bytes are the text of some content, with this half selected, and a body of `len` bytes still fits
 abbrev pub HasPlaceIn : ℕ → ℕ → List ℕ → Type 0
 HasPlaceIn half len bytes = (content : Content) × (half_size : ℕ) × (used : ℕ) × IsTextAt bytes content half_size half used × (used + 5 + len ≤ half_size)
 
--- without a batch after the snapshot
+-- the content with this snapshot and no batch
 abbrev pub without_batch : ℕ → List ℕ → Content
 without_batch version snapshot = record { version = version; snapshot = snapshot; batches = [] }
 
 abbrev pub with_batch : Content → List ℕ → Content
 with_batch content batch = record { version = content.version; snapshot = content.snapshot; batches = content.batches ++ batch ∷ [] }
 
--- the text of one of two contents
+-- these bytes are the text of one of the two contents
 abbrev pub IsEitherText : Content → Content → List ℕ → Type 0
 IsEitherText one other bytes = IsText one bytes ⊎ IsText other bytes
 
--- a newly made journal: half 0 is selected, and its gate is the last byte
+-- the bytes of a newly formatted journal: half 0 is selected, and its closed gate is the last byte
 abbrev pub formatted : ℕ → ℕ → List ℕ → List ℕ
 formatted half_size version snapshot = (0 ∷ magic) ++ (to_be_bytes w64 half_size ++ (half_front version snapshot [] ++ 0 ∷ []))
 
--- The bytes after an append at the closed gate at this offset: a body and a new closed gate were written after
--- the gate, and then a 1 opened it.
+-- The bytes after an append at the closed gate at this offset: first the body and a new closed gate are written after
+-- the gate, and then the gate is opened with a 1.
 abbrev pub with_body_at : ℕ → List ℕ → List ℕ → List ℕ
 with_body_at gate body bytes = overwritten (overwritten bytes (gate + 1) (sized body ++ 0 ∷ [])) gate (1 ∷ [])
 
--- The bytes after a replace: the other half was written, without a batch after its snapshot, and
--- then selected by its number.
+-- The bytes after a replace: first the other half is written, with a snapshot and no batch, and then its number is
+-- written as the selector.
 abbrev pub with_half : ℕ → ℕ → ℕ → List ℕ → List ℕ → List ℕ
 with_half half half_size version snapshot bytes = overwritten (overwritten bytes (17 + half_start half half_size) (half_front version snapshot [] ++ 0 ∷ [])) 0 (half ∷ [])
 
--- the number of bytes that such batches take
+-- the number of bytes that these batches take
 abbrev pub size_of : List (List ℕ) → ℕ
 size_of [] = 0
 size_of (batch ∷ batches) = 5 + length batch + size_of batches
 
--- the number of bytes of a half that such a text uses, including its closed gate
+-- the number of bytes that this content uses in its half, including the closed gate
 abbrev pub used_by : Content → ℕ
 used_by content = 6 + length content.snapshot + size_of content.batches

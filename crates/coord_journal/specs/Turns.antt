@@ -1,7 +1,7 @@
--- Two writes, the second of which begins when the first is on disk.
+-- Two writes, of which the second begins only when the first is on disk.
 use Rattle.std.specs.Prelude.{◌⊎◌, ℕ, List}
 use Rattle.coord_disk.specs.Model.Present.{Torn, overwritten}
 
--- the bytes that a crash may leave while these bytes are overwritten at one place and then at another
+-- the bytes that a crash may leave while `first` is written at `at`, and then `second` at `next`
 abbrev pub TornInTurn : List ℕ → ℕ → List ℕ → ℕ → List ℕ → List ℕ → Type 0
 TornInTurn bytes at first next second image = Torn bytes at first image ⊎ Torn (overwritten bytes at first) next second image

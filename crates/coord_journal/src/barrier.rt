@@ -1,4 +1,5 @@
-//! Reads a disk for an opening: it first makes durable whatever an earlier fault left undecided.
+//! Reads a disk to open a journal. A sync first makes durable whatever an earlier fault left
+//! undecided.
 
 ghost use Rattle.std.specs.Prelude.{◌≡◌, ◌≢◌, ◌⊎◌, true, IfOk, IfErr, OnOk};
 ghost use Rattle.coord_disk.specs.Model.Present.{whole};
@@ -10,8 +11,8 @@ use crate::JournalFault;
 use coord_disk::Disk;
 use std::alloc::Global;
 
-/// Syncs, and then reads all bytes, which are then on disk. A crash meanwhile leaves
-/// no bytes that it could not have left before.
+/// Syncs the disk and then returns all its bytes, which are durable at that point. A crash during
+/// the call leaves only bytes that it could have left before.
 pub fn read_durable<D: Disk>(alloc: Global, disk: &mut D) -> Result<Vec<u8>, JournalFault>
     ensures bytes { D.model.keeps_model disk.old ≡ true →
         IfOk result (λ bytes. bytes.items ≡ (D.model.present disk.old).read) }

@@ -16,7 +16,7 @@ pub enum JournalFault {
     OutOfMemory,
     /// The device failed during the call.
     Device,
-    /// The device to be formatted is not empty.
+    /// The device to format is not empty.
     NotEmpty,
     /// The size of a half is outside its limits.
     HalfSize,
@@ -24,9 +24,9 @@ pub enum JournalFault {
     NoMagic,
     /// The selected half is truncated, or a length in it exceeds its limit.
     BadRecord,
-    /// Never returned, because `append` requires that the body fits. The number is reserved.
+    /// Never returned, because `append` requires that the body fits. The number stays reserved.
     JournalFull,
-    /// The device has failed before.
+    /// The device failed in an earlier append or replace.
     Stopped,
 }
 

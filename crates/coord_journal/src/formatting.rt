@@ -15,10 +15,10 @@ use crate::synced::write_synced;
 use coord_disk::Disk;
 use std::alloc::Global;
 
-/// Writes a journal with this version and snapshot, and no batch, on an empty device.
+/// Formats an empty device: writes a journal with this version and snapshot, and no batch.
 ///
-/// A half has `half_size` bytes, from 32,768 to 16,777,216. After `Device` nothing is promised about
-/// the bytes of the device.
+/// `half_size` is the size of a half in bytes, from 32,768 to 16,777,216. After `Device`, the bytes
+/// of the device are unspecified.
 pub fn format<D: Disk>(
     alloc: Global,
     disk: &mut D,

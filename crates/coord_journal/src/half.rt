@@ -45,7 +45,7 @@ impl Half {
         }
     }
 
-    /// Returns its offset after the header, with halves of this size.
+    /// Returns the half's offset after the header, in bytes, with halves of this size.
     pub fn start(self, half_size: u64) -> u64
         ensures start { result ≡ half_start (half_number self) half_size }
         ensures low { result ≤ half_size }

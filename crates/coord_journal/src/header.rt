@@ -14,7 +14,7 @@ pub struct Header<'a> {
     pub rest: &'a [u8],
 }
 
-// The number that eight bytes encode.
+// Returns the number that eight bytes encode.
 fn read_size(bytes: &[u8]) -> u64
     requires { length bytes.now ≡ 8 }
     ensures { to_be_bytes w64 result ≡ bytes.now }
@@ -24,7 +24,7 @@ fn read_size(bytes: &[u8]) -> u64
     ])
 }
 
-// Splits bytes after a header, whatever size of a half it names.
+// Splits the bytes after a header, without checking the size of a half in it.
 fn split_header(bytes: &[u8]) -> Option<Header<'_>>
     ensures some { IfSome result (λ header. bytes.now ≡
         (header.selector ∷ magic) ++ (to_be_bytes w64 header.half_size ++ header.rest.now)) }
@@ -42,7 +42,7 @@ fn split_header(bytes: &[u8]) -> Option<Header<'_>>
     })
 }
 
-/// Returns the header if the bytes begin with one.
+/// Returns the header and the bytes after it, or None if the bytes do not begin with a header.
 pub fn read_header(bytes: &[u8]) -> Option<Header<'_>>
     ensures some { IfSome result (λ header.
         HasHeader bytes.now header.selector header.half_size header.rest.now) }

@@ -33,7 +33,7 @@ impl<D: Disk> Journal<D> {
     ghost use Rattle.coord_journal.specs.Half.{half_number};
     ghost use Rattle.coord_journal.specs.Writing.{Answers, Rewrites};
 
-    // A journal that uses this many bytes of this half.
+    // Returns a journal that uses the first `used` bytes of this half.
     pub(crate) fn at(alloc: Global, disk: D, half_size: u64, half: Half, used: u64) -> Self
         requires smallest { MIN_HALF ≤ half_size }
         requires greatest { half_size ≤ MAX_HALF }
@@ -54,8 +54,8 @@ impl<D: Disk> Journal<D> {
         }
     }
 
-    /// Returns the length of the longest body that still fits, in bytes. It is 0 if only an empty body fits, and also
-    /// if not even that fits: `fits` distinguishes the two.
+    /// Returns the length of the longest body that still fits, in bytes. It returns 0 both if only
+    /// an empty body fits and if no body fits; `fits` distinguishes the two.
     pub fn room(&self) -> u64
         ensures { result ≡ half_size_of self.now - used_of self.now - 5 }
     {
@@ -77,7 +77,7 @@ impl<D: Disk> Journal<D> {
         self.disk
     }
 
-    // The place of the selected half's closed gate.
+    // Returns the place of the closed gate of the selected half.
     fn gate(&self) -> u64
         ensures place { result ≡ gate_place (half_size_of self.now) (half_of self.now)
             (used_of self.now) }
@@ -86,9 +86,11 @@ impl<D: Disk> Journal<D> {
         (HEADER as u64 - 1) + self.half.start(self.half_size) + self.used
     }
 
-    /// Appends a batch with this body, which has at most 8,192 bytes and fits. It takes four calls of the device.
+    /// Appends a batch with this body, which has at most 8,192 bytes and must fit. It makes four
+    /// calls of the device.
     ///
-    /// After `Device` each later call returns `Stopped`, and opening the device shows whether the batch is there.
+    /// After `Device`, each later call returns `Stopped`, and opening the device shows whether it
+    /// holds the batch.
     pub fn append(&mut self, body: &[u8]) -> Result<(), JournalFault>
         requires short { length body.now ≤ MAX_BODY }
         requires fits { HasRoomFor self.old (length body.now) }
@@ -115,10 +117,12 @@ impl<D: Disk> Journal<D> {
         Ok(())
     }
 
-    /// Replaces the whole content by a version and a snapshot of at most 16,384 bytes. It takes four calls of the device.
+    /// Replaces the whole content by a version and a snapshot of at most 16,384 bytes. It makes
+    /// four calls of the device.
     ///
-    /// They are written to the other half, which is selected once they are on disk. After `Device`
-    /// each later call returns `Stopped`, and opening the device shows which of the two contents it holds.
+    /// The new content is written to the other half, which is selected once it is on disk. After
+    /// `Device`, each later call returns `Stopped`, and opening the device shows which of the two
+    /// contents it holds.
     pub fn replace(&mut self, version: u8, snapshot: &[u8]) -> Result<(), JournalFault>
         requires { length snapshot.now ≤ MAX_SNAPSHOT }
         ensures writes { (content : Content) → IsReady D.model self.old content →

@@ -1,9 +1,9 @@
 //! The layout of a journal on a device: a header of 17 bytes, followed by two halves.
 
-/// The name in the header, after the selector.
+/// The magic bytes in the header, after the selector.
 pub const MAGIC: [u8; 8] = *b"ACRRESET";
 
-/// The number of bytes before the halves: the selector, the name and the size of a half.
+/// The number of bytes before the halves: the selector, the magic bytes and the size of a half.
 pub const HEADER: usize = 17;
 
 /// The minimum size of a half, in bytes.

@@ -27,7 +27,7 @@ struct Place {
     used: u64,
 }
 
-// The meaning of a device's bytes.
+// Reads the text of a journal. Returns the end of the text, and its content.
 fn read_text(alloc: Global, bytes: &[u8]) -> Result<(Place, Contents<'_>), JournalFault>
     ensures text { IfOk result (λ read. IsTextAt bytes.now (content_of read.1) read.0.half_size
         (half_number read.0.half) read.0.used) }
@@ -59,8 +59,8 @@ fn read_text(alloc: Global, bytes: &[u8]) -> Result<(Place, Contents<'_>), Journ
     Ok((place, contents))
 }
 
-/// Opens the journal on a device and returns its content, which borrows from `bytes`, into which
-/// the device was read. It syncs, reads, and writes nothing.
+/// Opens the journal on a device. Returns the journal and its content, which borrows from `bytes`:
+/// the device is read into it. It syncs and reads, but writes nothing.
 ///
 /// A refusal returns the disk.
 pub fn open<'b, D: Disk>(
@@ -68,7 +68,8 @@ pub fn open<'b, D: Disk>(
     mut disk: D,
     bytes: &'b mut Vec<u8>,
 ) -> Result<(Journal<D>, Contents<'b>), (JournalFault, D)>
-    // If the bytes of the device are the text of a content, it returns that content, unless memory runs out or the device fails.
+    // If the bytes of the device are the text of a content, returns that content, unless memory
+    // runs out or the device fails.
     ensures text { D.model.keeps_model disk ≡ true →
         IfOk result (λ opened. IsText (content_of opened.1) (D.model.present disk).read) }
     ensures only { (content : Content) → D.model.keeps_model disk ≡ true →

@@ -1,4 +1,4 @@
-//! Reads a half of the device.
+//! Reads a half of a device.
 
 ghost use Rattle.std.specs.Prelude.{◌≡◌, ◌<◌, ◌≤◌, ℕ, List, length, IfOk, IfErr, IfSome, None, get_or};
 ghost use Rattle.coord_journal.specs.Contents.{bodies, content_of};
@@ -10,7 +10,7 @@ use crate::layout::{MAX_BODY, MAX_SNAPSHOT};
 use crate::{Contents, JournalFault};
 use std::alloc::Global;
 
-// The body after the first byte, and the bytes after the body.
+// Splits the bytes after the first one into a sized body and the bytes after that body.
 fn split_body(rest: &[u8], limit: usize) -> Option<(&[u8], &[u8])>
     requires { 0 < length rest.now }
     ensures some { IfSome result (λ parts.
@@ -29,7 +29,8 @@ fn split_body(rest: &[u8], limit: usize) -> Option<(&[u8], &[u8])>
     Some((&after[..size], &after[size..]))
 }
 
-// The batches after open gates, up to the first closed gate, and the number of bytes before it.
+// Returns the batches after open gates, up to the first closed gate, and the number of bytes before
+// that gate.
 fn read_batches(alloc: Global, text: &[u8]) -> Result<(Vec<&[u8]>, usize), JournalFault>
     ensures ok { IfOk result (λ read. ReadsAs (bodies read.0.items) read.1 text.now) }
     ensures bad { IfErr result (λ fault. fault ≡ BadRecord → (batches : List (List ℕ)) (size : ℕ) →
@@ -51,7 +52,7 @@ fn read_batches(alloc: Global, text: &[u8]) -> Result<(Vec<&[u8]>, usize), Journ
     Err(JournalFault::BadRecord)
 }
 
-/// Returns the content of a half, and the number of bytes used in it.
+/// Returns the content of a half, and the number of bytes that it uses, including the closed gate.
 pub fn read_half(alloc: Global, half: &[u8]) -> Result<(Contents<'_>, usize), JournalFault>
     ensures ok { IfOk result (λ read. IsHalf half.now (content_of read.0) read.1) }
     ensures within { IfOk result (λ read. read.1 ≤ length half.now) }

@@ -1,4 +1,4 @@
-//! The bytes that a journal writes.
+//! Encodes what a journal writes.
 
 ghost use Rattle.std.specs.Prelude.{◌≤◌, ◌≡◌, [], ◌∷◌, ◌++◌, length, IfOk};
 ghost use Rattle.coord_journal.specs.declared.layout.TheConstants.{MAX_BODY, MAX_SNAPSHOT};
@@ -7,7 +7,7 @@ ghost use Rattle.coord_journal.specs.Text.{formatted, half_front, sized};
 use crate::layout::MAGIC;
 use std::alloc::{AllocError, Global};
 
-/// Returns a length, the body and a closed gate.
+/// Returns the encoding of a batch: the body's length, the body and a new closed gate.
 pub fn spell_block(alloc: Global, body: &[u8]) -> Result<Vec<u8>, AllocError>
     requires { length body.now ≤ MAX_BODY }
     ensures { IfOk result (λ block. block.items ≡ sized body.now ++ 0 ∷ []) }
@@ -19,7 +19,8 @@ pub fn spell_block(alloc: Global, body: &[u8]) -> Result<Vec<u8>, AllocError>
     Ok(block)
 }
 
-/// Returns a half without a batch: a version, a length, the snapshot and a closed gate.
+/// Returns the encoding of a half without a batch: the version, the snapshot's length, the snapshot
+/// and a closed gate.
 pub fn spell_half(alloc: Global, version: u8, snapshot: &[u8]) -> Result<Vec<u8>, AllocError>
     requires { length snapshot.now ≤ MAX_SNAPSHOT }
     ensures { IfOk result (λ half. half.items ≡ half_front version snapshot.now [] ++ 0 ∷ []) }
@@ -32,7 +33,8 @@ pub fn spell_half(alloc: Global, version: u8, snapshot: &[u8]) -> Result<Vec<u8>
     Ok(half)
 }
 
-/// Returns a device without a batch: a header that selects the first half, and that half.
+/// Returns the encoding of a device without a batch: a header that selects the first half, and that
+/// half.
 pub fn spell_device(
     alloc: Global,
     half_size: u64,

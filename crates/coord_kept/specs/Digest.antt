@@ -8,30 +8,31 @@ use Rattle.sha2.specs.Sha256.{sha256}
 abbrev pub line_of : String Global → List ℕ
 line_of line = string_bytes line ++ codes "\n"
 
--- the word is the first line, if it is not empty
+-- the word as a line, or nothing if it is empty
 abbrev pub word_line : List ℕ → List ℕ
 word_line word = if length word == 0 then [] else word ++ codes "\n"
 
 abbrev pub text_of : List ℕ → List (String Global) → List ℕ
 text_of word lines = word_line word ++ flat_map line_of lines
 
--- 64 hexadecimal digits
+-- the SHA-256 digest of these lines, in 64 hexadecimal digits
 abbrev pub digest_of : List ℕ → List (String Global) → List ℕ
 digest_of word lines = encode_lower (sha256 (text_of word lines))
 
--- the first 32 of them
+-- the first 32 digits of the digest
 abbrev pub half_of : List ℕ → List (String Global) → List ℕ
 half_of word lines = encode_lower (take 16 (sha256 (text_of word lines)))
 
--- of the party that the start first talked with, and of the one that is shown now; a start that was alone has none
+-- the tag of a start: half the digest of the party with which it first talked, a dash, and half the digest of the party
+-- that is shown now; empty for a start that was alone
 abbrev pub tag_of : List ℕ → List (String Global) → List (String Global) → List ℕ
 tag_of word first shown = if length first == 1 then [] else half_of word first ++ (codes "-" ++ half_of word shown)
 
--- of a start's fence, which names its run; a start that was alone shares its run with nobody, so the count is part of
--- the name too
+-- the tag of a start's fence, which names its run; a start that was alone shares its run with no other start, so the
+-- tag then also depends on the count
 abbrev pub fence_tag : List ℕ → ℕ → List (String Global) → List ℕ
 fence_tag word count first = if length first == 1 then half_of (word ++ (codes "@" ++ decimal count)) first else half_of word first
 
--- what the history gets
+-- the line that the history gets for a party
 abbrev pub history_line : List (String Global) → List ℕ
 history_line lines = digest_of [] lines ++ codes "\n"

@@ -12,15 +12,15 @@ abbrev pub entry_words : Entry → List ℕ
 entry_words (Node n e) = decimal n ++ (codes " " ++ decimal e)
 entry_words (Link a b incarnation) = decimal a ++ (codes " " ++ (decimal b ++ (codes " " ++ decimal incarnation)))
 
--- the line of each entry, in the order of their bytes
+-- the list has the line of each entry, in the order of their bytes
 pub record AreLinesOf (party : List Entry) (lines : List (String Global)) : Type 0 where
   pub all : IsPermutation (map entry_words party) (map (λ line. string_bytes line) lines)
   pub in_order : IsSorted string_cmp lines
 
--- one of these lines is the entry's
+-- whether the line of this entry is one of these
 abbrev pub has_line : List (String Global) → Entry → Bool
 has_line lines entry = list_any (λ line. bytes_eq (string_bytes line) (entry_words entry)) lines
 
--- those of a party whose lines are among these
+-- the entries of a party whose lines are among these
 abbrev pub known : List (String Global) → List Entry → List Entry
 known lines party = filter (has_line lines) party

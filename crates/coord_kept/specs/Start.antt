@@ -1,6 +1,7 @@
--- The file of a start, as JSON: for the node, the epoch that is begun, the lines of the party that the start first talked with, and
--- how many steps were settled then. As long as it has talked with nobody, `loaded` has the epoch instead of `begun`, with the name of
--- the machine's boot: the file is not synced, so after a power cut it may have this form although the start has talked.
+-- The file of a start, in JSON. For the node it has the epoch that is begun, the lines of the party with which the
+-- start first talked, and the number of steps that were settled then. As long as the start has not talked, the file has
+-- `loaded` with the epoch instead of `begun`, and the name of the machine's boot: that file is not synced, so after a
+-- power cut it may have this form even if the start has talked.
 use Rattle.std.specs.Prelude.{ℕ, ◌-◌, ◌==◌, ◌&&◌, not, Bool, false, List, [], ◌∷◌, ◌++◌, codes, decimal, length, map, slice_index, is_some, if◌then◌else◌, Option, Some, None, option_and_then, String, string_bytes}
 use Rattle.std.specs.declared.alloc.Global.{Global}
 use Rattle.std.specs.List.{flat_map}
@@ -16,11 +17,12 @@ use Rattle.coord_kept.specs.declared.start.Start.{Start}
 abbrev pub Line : Type 0
 Line = List ℕ
 
--- the begun epoch, the lines of the party, and the number of settled steps when the start first talked with it
+-- the epoch that is begun, the lines of the party, and the number of settled steps when the start first talked with
+-- that party
 abbrev pub Seen : Type 0
 Seen = Option ℕ × Option (List Line) × Option ℕ
 
--- nothing is begun
+-- the meaning of a file that says that nothing is begun
 abbrev pub nothing : Seen
 nothing = (None, None, None)
 
@@ -44,7 +46,7 @@ lines_in (item d ds) = in_front (as_str d) (lines_in ds)
 abbrev pub party_of : Data → Option (Option (List Line))
 party_of d = if is_some (as_null d) then Some None else option_map Some (option_and_then lines_in (as_array d))
 
--- files of earlier versions have none
+-- the number of settled steps; files of earlier versions do not have it
 abbrev pub count_of : Option Data → Option (Option ℕ)
 count_of None = Some None
 count_of (Some d) = option_map Some (option_and_then as_u64 (as_number d))
@@ -59,14 +61,14 @@ abbrev pub is_named : List ℕ → Option Line → Bool
 is_named boot None = false
 is_named boot (Some name) = bytes_eq name boot
 
--- a row with the name of a boot is valid in that boot only
+-- whether a row names this boot; if it does not, its `loaded` is ignored
 abbrev pub is_of_boot : List ℕ → Data → Bool
 is_of_boot boot d = not (length boot == 0) && is_named boot (option_and_then as_str (get (codes "boot") d))
 
 abbrev pub loaded_of : Data → Option ℕ
 loaded_of d = option_and_then as_u64 (option_and_then as_number (get (codes "loaded") d))
 
--- work was loaded for an epoch, and its start has talked with nobody
+-- the start of work that was loaded for an epoch and has not talked
 abbrev pub loaded_in : Option ℕ → Option Seen
 loaded_in epoch = option_map (λ e. (Some e, None, None)) epoch
 
@@ -74,7 +76,7 @@ abbrev pub at_boot : List ℕ → Data → Option Seen → Option Seen
 at_boot boot d None = None
 at_boot boot d (Some known) = if is_of_boot boot d then loaded_in (loaded_of d) else Some known
 
--- nothing is begun if the node has no row
+-- the start in a row of the file; nothing is begun if the node has no row
 abbrev pub carried_of : List ℕ → Option Data → Option Seen
 carried_of boot None = Some nothing
 carried_of boot (Some d) = at_boot boot d (seen_with (option_and_then begun_of (get (codes "begun") d)) (option_and_then party_of (get (codes "party") d)) (count_of (get (codes "count") d)))
@@ -82,15 +84,15 @@ carried_of boot (Some d) = at_boot boot d (seen_with (option_and_then begun_of (
 abbrev pub carried_at : List ℕ → ℕ → Data → Option Seen
 carried_at boot node d = if is_some (as_object d) then carried_of boot (get (decimal node) d) else None
 
--- a text without a line feed at its end was torn by a power cut, or its file does not exist
+-- whether a text ends with a line feed; otherwise a power cut has torn it, or its file does not exist
 abbrev pub is_whole : List ℕ → Bool
 is_whole text = not (length text == 0) && (slice_index text (length text - 1) == 10)
 
--- in the boot with this name. None: it can't be read
+-- the start in a file's text, as read in the boot with this name; None if the text cannot be read
 unfoldable pub carried_in : List ℕ → ℕ → List ℕ → Option Seen
 carried_in boot node text = if is_whole text then option_and_then (carried_at boot node) (read text) else Some nothing
 
--- in any boot
+-- the start in a file's text, read without the name of a boot: work that was only loaded counts as not begun
 abbrev pub seen_in : ℕ → List ℕ → Option Seen
 seen_in node text = carried_in [] node text
 
@@ -119,7 +121,7 @@ abbrev pub start_text : ℕ → Option ℕ → Option (List (String Global)) →
 start_text node begun party count =
     codes "{\"" ++ (decimal node ++ (codes "\": {\"begun\": " ++ (begun_text begun ++ (codes ", \"party\": " ++ (party_text party ++ (count_text count ++ codes "}}\n"))))))
 
--- work is loaded for an epoch, in the boot with this name
+-- the text of the file once work is loaded for an epoch, in the boot with this name
 abbrev pub loaded_text : ℕ → ℕ → List ℕ → List ℕ
 loaded_text node epoch boot =
     codes "{\"" ++ (decimal node ++ (codes "\": {\"begun\": null, \"party\": null, \"loaded\": " ++ (decimal epoch ++ (codes ", \"foreseen\": [], \"boot\": \"" ++ (boot ++ codes "\"}}\n")))))

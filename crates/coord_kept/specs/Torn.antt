@@ -1,4 +1,4 @@
--- The content that a power cut leaves of a file that was written and not synced.
+-- What a power cut leaves of a file that was written and not synced.
 use Rattle.std.specs.Prelude.{◌≡◌, ◌<◌, ◌^◌, ℕ, ◌==◌, ◌&&◌, not, Bool, true, false, List, [], ◌∷◌, length, take, Option, Some, None, String, string_bytes}
 use Rattle.std.specs.declared.alloc.Global.{Global}
 use Rattle.std.specs.List.{list_all}
@@ -7,13 +7,13 @@ use Rattle.coord_kept.specs.Start.{carried_in, loaded_text, nothing, start_text}
 abbrev pub is_in_line : ℕ → Bool
 is_in_line c = not (c == 10)
 
--- it has one line feed, at its end
+-- whether the text has one line feed, at its end
 abbrev pub is_one_line : List ℕ → Bool
 is_one_line [] = false
 is_one_line (c ∷ []) = c == 10
 is_one_line (c ∷ d ∷ text) = is_in_line c && is_one_line (d ∷ text)
 
--- if its end is lost, it says nothing, in any boot
+-- a text of one line that lacks its end says that nothing is begun, in any boot
 abbrev pub TornSaysNothing : Type 0
 TornSaysNothing = (boot : List ℕ) (node : ℕ) (text : List ℕ) (k : ℕ) → is_one_line text ≡ true → k < length text → carried_in boot node (take k text) ≡ Some nothing
 

@@ -6,7 +6,7 @@ ghost use Rattle.coord_kept.specs.Digest.{digest_of, fence_tag, half_of, history
 use sha2::{Digest, Sha256};
 use std::alloc::{AllocError, Global};
 
-/// Adds a line.
+/// Appends a line.
 fn push_line(text: &mut String, line: &str) -> Result<(), AllocError>
     ensures { OnOk result (string_bytes text.new ≡ string_bytes text.old ++ (line.now ++ codes "\n")) }
 {
@@ -14,7 +14,7 @@ fn push_line(text: &mut String, line: &str) -> Result<(), AllocError>
     text.push_str("\n")
 }
 
-/// Returns the text to be digested: the word as its first line, if it is not empty, and these
+/// Returns the text to digest: the word as its first line, unless it is empty, and then these
 /// lines.
 fn text_of(alloc: Global, word: &str, lines: &[String]) -> Result<String, AllocError>
     ensures { IfOk result (λ text. string_bytes text ≡ text_of word.now lines.now) }
@@ -29,7 +29,7 @@ fn text_of(alloc: Global, word: &str, lines: &[String]) -> Result<String, AllocE
     Ok(text)
 }
 
-/// Returns the digest of the word and these lines, in 64 hexadecimal digits.
+/// Returns the digest of the word and these lines, as 64 hexadecimal digits.
 pub fn digest_of(alloc: Global, word: &str, lines: &[String]) -> Result<String, AllocError>
     ensures { IfOk result (λ digest. string_bytes digest ≡ digest_of word.now lines.now) }
 {
@@ -38,7 +38,7 @@ pub fn digest_of(alloc: Global, word: &str, lines: &[String]) -> Result<String, 
     hex::encode(alloc, &digest[..])
 }
 
-/// Returns the first 32 of those digits.
+/// Returns the first 32 digits of the digest.
 fn half_of(alloc: Global, word: &str, lines: &[String]) -> Result<String, AllocError>
     ensures { IfOk result (λ digest. string_bytes digest ≡ half_of word.now lines.now) }
 {
@@ -47,8 +47,8 @@ fn half_of(alloc: Global, word: &str, lines: &[String]) -> Result<String, AllocE
     hex::encode(alloc, &digest[..16])
 }
 
-/// Returns the tag of a start that first talked with one party and now sees the other. Empty for a
-/// start that was alone.
+/// Returns the tag of a start that first talked with the party `first` and now sees the party
+/// `shown`. The tag of a start that was alone is empty.
 pub fn tag_of(
     alloc: Global,
     word: &str,
@@ -83,7 +83,7 @@ pub fn fence_tag(
     half_of(alloc, word, first)
 }
 
-/// Returns the line of the history for a party.
+/// Returns the line that the history gets for a party.
 pub fn history_line(alloc: Global, lines: &[String]) -> Result<String, AllocError>
     ensures { IfOk result (λ line. string_bytes line ≡ history_line lines.now) }
 {

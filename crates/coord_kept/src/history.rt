@@ -4,19 +4,19 @@ ghost use Rattle.std.specs.Prelude.{◌≡◌, ◌<◌, ◌≤◌, ◌/◌, ◌*
 ghost use Rattle.std.specs.List.{list_all};
 ghost use Rattle.coord_kept.specs.History.{are_lines, is_among, is_digit, is_line, line_at, looked_up, size_of};
 
-/// The result of looking a line up in a history.
+/// The result of looking up a line in a history.
 #[derive(Clone, Copy, Debug, PartialEq, Eq)]
 pub struct Found {
-    /// The number of bytes of its whole lines: the next line goes after them, and replaces a torn
-    /// one.
+    /// The number of bytes of the whole lines: the next line is written there, over a torn line if
+    /// there is one.
     pub size: usize,
     pub has: bool,
 }
 
-/// The number of bytes of a line.
+/// The length of a line, in bytes.
 const LINE: usize = 65;
 
-/// The bytes of the whole lines.
+/// Returns the number of bytes of the whole lines.
 fn size_of(history: &[u8]) -> usize
     ensures is { result ≡ size_of history.now }
     ensures fits { result ≤ length history.now }
@@ -40,7 +40,7 @@ fn are_digits(text: &[u8]) -> bool
     text.iter().all(|byte| is_digit(*byte))
 }
 
-/// Whether this is a digest followed by its line feed.
+/// Tests whether this is a digest followed by a line feed.
 #[tactic(auto, unfolding(crate::specs::History::is_line))]
 fn is_line(line: &[u8]) -> bool
     requires { length line.now ≡ 65 }
@@ -50,7 +50,7 @@ fn is_line(line: &[u8]) -> bool
     are_digits(digits) && end == b"\n".as_slice()
 }
 
-/// The line with this number, from 0.
+/// Returns the line with this number, counted from 0.
 fn line_at(history: &[u8], place: usize) -> &[u8]
     requires { place < length history.now / 65 }
     ensures is { result.now ≡ line_at history.now place }
@@ -87,7 +87,8 @@ fn is_among(history: &[u8], line: &[u8], count: usize) -> bool
     is
 }
 
-/// Returns whether a history has this line, and where the next one goes. None: it is not a history.
+/// Returns whether a history has this line, and where the next line is written, or None if the
+/// bytes are not a history.
 pub fn look_up(history: &[u8], line: &[u8]) -> Option<Found>
     ensures { result ≡ looked_up history.now line.now }
 {

@@ -1,4 +1,4 @@
-//! The law of a start's file: a function that does nothing, whose contract is the law.
+//! The laws of a start's file: functions without a body whose contracts state the laws.
 
 ghost use Rattle.coord_kept.specs.Torn.{TornSaysNothing, WrittenIsOneLine};
 
@@ -8,7 +8,7 @@ pub fn torn_says_nothing()
     ensures { TornSaysNothing }
 {}
 
-/// Each text for the file of a start has one line.
+/// Each text that is written to the file of a start has one line.
 #[tactic(auto, using(crate::proofs::Torn::written_is_one_line))]
 pub fn written_is_one_line()
     ensures { WrittenIsOneLine }

@@ -1,11 +1,12 @@
-//! The stored state of a member as its files have it, and the tag of its messages: the same bytes
-//! as those of the client library.
+//! The files of a member, and the tag of its messages. The bytes are the same as those of the
+//! client library.
 //!
 //! [`lines_of`] makes the lines of a party, sorted by their bytes, [`digest_of`] their digest, and
-//! [`tag_of`] the tag. [`read_start`], [`carried_start`], [`start_text`] and [`loaded_text`] are
-//! the file of a start, of which a power cut leaves a part that says nothing ([`laws`]),
-//! [`look_up`] and [`history_line`] that of the history. [`is_same_run`] and [`are_parted`] compare
-//! a received tag. `specs/` has a file of definitions for each.
+//! [`tag_of`] the tag. [`read_start`], [`carried_start`], [`start_text`] and [`loaded_text`] read
+//! and write the file of a start; if a power cut truncates it, it says that nothing is begun
+//! ([`laws`]). [`look_up`] and [`history_line`] read and write the file of the history.
+//! [`is_same_run`] and [`are_parted`] compare a received tag with the member's own. `specs/` has a
+//! file of definitions for each.
 #![tactic(auto)]
 
 mod digest;

@@ -6,7 +6,7 @@ ghost use Rattle.coord_kept.specs.Lines.{AreLinesOf, entry_words, has_line, know
 use coord_member::Entry;
 use std::alloc::{AllocError, Global};
 
-/// The line of an entry: a node's number and epoch, or a link's ends and incarnation.
+/// Returns the line of an entry: a node's number and epoch, or a link's ends and incarnation.
 fn words_of(alloc: Global, entry: Entry) -> Result<String, AllocError>
     ensures { IfOk result (λ words. string_bytes words ≡ entry_words entry) }
 {
@@ -16,7 +16,7 @@ fn words_of(alloc: Global, entry: Entry) -> Result<String, AllocError>
     }
 }
 
-/// The lines of a party, in the order of their bytes.
+/// Returns the lines of a party, in the order of their bytes.
 pub fn lines_of(alloc: Global, party: &[Entry]) -> Result<Vec<String>, AllocError>
     ensures { IfOk result (λ lines. AreLinesOf party.now lines.items) }
 {
@@ -28,7 +28,7 @@ pub fn lines_of(alloc: Global, party: &[Entry]) -> Result<Vec<String>, AllocErro
     Ok(lines)
 }
 
-/// Whether one of these lines is the entry's.
+/// Tests whether the line of this entry is one of these.
 fn has_line(alloc: Global, lines: &[String], entry: Entry) -> Result<bool, AllocError>
     ensures { IfOk result (λ has. has ≡ has_line lines.now entry) }
 {
@@ -36,7 +36,7 @@ fn has_line(alloc: Global, lines: &[String], entry: Entry) -> Result<bool, Alloc
     Ok(lines.iter().any(|line| line.as_str() == words.as_str()))
 }
 
-/// Those of a party whose lines are among these.
+/// Returns the entries of a party whose lines are among these.
 pub fn known(alloc: Global, lines: &[String], party: &[Entry]) -> Result<Vec<Entry>, AllocError>
     ensures { IfOk result (λ those. those.items ≡ known lines.now party.now) }
 {

@@ -10,20 +10,20 @@ ghost use Rattle.coord_kept.specs.Start.{at_boot, begun_of, begun_text, carried_
 use serde_json::Value;
 use std::alloc::{AllocError, Global};
 
-/// The start of a member, as its file keeps it.
+/// The start of a member, as its file stores it.
 #[derive(Drop, Debug)]
 pub struct Start {
-    /// The epoch of the work in hand; None: no work is begun.
+    /// The epoch of the present work, or None if no work is begun.
     pub begun: Option<u64>,
-    /// The lines of the party that the start first talked with; None: it talked with nobody yet.
+    /// The lines of the party with which the start first talked, or None if it has not talked yet.
     pub party: Option<Vec<String>>,
-    /// The number of settled steps in the view with which it first talked; None: it has not, or its
-    /// file is of an earlier version.
+    /// The number of settled steps in the view with which the start first talked. None if it has
+    /// not talked, or if its file is of an earlier version.
     pub count: Option<u64>,
 }
 
 impl Start {
-    /// Nothing is begun.
+    /// Returns a start that says that nothing is begun.
     fn nothing() -> Self
         ensures { seen result ≡ nothing }
     {
@@ -35,24 +35,24 @@ impl Start {
     }
 }
 
-/// Why a start can't be read.
+/// The reason for which a start cannot be read.
 #[derive(Clone, Copy, Debug, PartialEq, Eq)]
 pub enum ReadFault {
     OutOfMemory,
-    /// The text is not that of a start.
+    /// The text is not the text of a start's file.
     BadStart,
 }
 
-/// Whether a text has a line feed at its end.
+/// Tests whether a text ends with a line feed.
 fn is_whole(text: &[u8]) -> bool
     ensures { result ≡ is_whole text.now }
 {
     !text.is_empty() && text[text.len() - 1] == b'\n'
 }
 
-/// Returns the start in a file of a node's member, in any boot of the machine. A text without a
-/// line feed at its end was torn by a power cut, and says that nothing is begun; so does an empty
-/// text, as of a missing file.
+/// Returns the start in the text of a file, for the member of a node. Work that was only loaded
+/// counts as not begun. A text without a line feed at its end was torn by a power cut, and says
+/// that nothing is begun; so does an empty text, which stands for a missing file.
 pub fn read_start(alloc: Global, node: u8, text: &str) -> Result<Start, ReadFault>
     ensures read { IfOk result (λ start. seen_in node text.now ≡ Some (seen start)) }
     ensures bad { result ≡ Err BadStart → seen_in node text.now ≡ None }
@@ -60,7 +60,7 @@ pub fn read_start(alloc: Global, node: u8, text: &str) -> Result<Start, ReadFaul
     carried_start(alloc, node, text, "")
 }
 
-/// The same in the boot with this name: work that was loaded in it is begun.
+/// Like `read_start`, but in the boot with this name: work that was loaded in that boot is begun.
 #[tactic(auto, unfolding(crate::specs::Start::carried_in))]
 pub fn carried_start(alloc: Global, node: u8, text: &str, boot: &str) -> Result<Start, ReadFault>
     ensures read { IfOk result (λ start. carried_in boot.now node text.now ≡ Some (seen start)) }
@@ -128,7 +128,7 @@ fn count_in(row: &Value) -> Option<Option<u64>>
     }
 }
 
-/// The start of a row: the loaded one, in the boot that the row names.
+/// Returns the start of a row: `known`, or the loaded work if the row names this boot.
 fn at_boot(known: Start, row: &Value, boot: &str) -> Option<Start>
     ensures { option_map seen result ≡ at_boot boot.now (view row.now) (Some (seen known)) }
 {
@@ -146,7 +146,7 @@ fn at_boot(known: Start, row: &Value, boot: &str) -> Option<Start>
     }
 }
 
-/// Whether a row was written in the boot of this name.
+/// Tests whether a row was written in the boot with this name.
 fn is_of_boot(row: &Value, boot: &str) -> bool
     ensures { result ≡ is_of_boot boot.now (view row.now) }
 {
@@ -211,7 +211,7 @@ fn lines_in(alloc: Global, rows: &[Value]) -> Result<Option<Vec<String>>, AllocE
     Ok(Some(lines))
 }
 
-/// Returns the text of the file that keeps these for the member of a node.
+/// Returns the text of the file that stores these values for the member of a node.
 pub fn start_text(
     alloc: Global,
     node: u8,
@@ -230,8 +230,8 @@ pub fn start_text(
     Ok(text)
 }
 
-/// Returns the text of the file once the common start is loaded for an epoch, as long as its start
-/// has talked with nobody: it is valid only in the boot with this name, and so need not be synced.
+/// Returns the text of the file once the common start is loaded for an epoch, as long as the start
+/// has not talked. The text is valid only in the boot with this name, so it need not be synced.
 pub fn loaded_text(alloc: Global, node: u8, epoch: u64, boot: &str) -> Result<String, AllocError>
     ensures { IfOk result (λ text. string_bytes text ≡ loaded_text node epoch boot.now) }
 {

@@ -1,10 +1,10 @@
-//! Whether a message is of the receiver's run, by its tag.
+//! Compares a message's tag with the tag of its receiver.
 
 ghost use Rattle.std.specs.Prelude.{◌≡◌, ◌≤◌, length};
 ghost use Rattle.std.specs.List.{position_or_len};
 ghost use Rattle.coord_kept.specs.Tag.{are_parted, is_dash, is_same_run, run_of, shown_of};
 
-/// The position of the dash of a tag; the tag's end, if it has none.
+/// Returns the position of the first dash of a tag, or the tag's length if it has none.
 #[tactic(auto, using(crate::proofs::Dashes::first_dash))]
 fn dash_in(tag: &[u8]) -> usize
     ensures is { result ≡ position_or_len is_dash tag.now }
@@ -44,8 +44,8 @@ pub fn is_same_run(own: &[u8], other: &[u8]) -> bool
     !own.is_empty() && run_of(own) == run_of(other)
 }
 
-/// Returns whether two starts will always refuse each other: they talk in two runs, although both
-/// saw the same last.
+/// Tests whether two starts will always refuse each other's messages: they talk in different runs,
+/// although both last saw the same party.
 pub fn are_parted(own: &[u8], other: &[u8]) -> bool
     ensures { result ≡ are_parted own.now other.now }
 {

@@ -12,17 +12,16 @@ use crate::{Flight, Ledger};
 use coord_disk::{CrashDisk, Disk};
 use std::marker::Model;
 
-/// A ledger and its flight: everything in a run that touches the store. Its holder keeps the
-/// tickets, the views and the releases, so only the ledger grows in here. `into_disk` ends it.
+/// A ledger, and its flight if one is out: everything in a run that touches the store. Its holder keeps
+/// the tickets, the views and the releases, so only the ledger grows in here. `into_disk` ends it.
 ///
-/// Each call is an event of the event machine, whatever its holder has released (`simulates`): its
-/// answer is one that the machine may give in this state, and the driver is then in the state that
-/// the machine enters with that answer. The clause `disk` says what the call does to the disk at
-/// each of its moments. Replies, resends and views change nothing: for these call
-/// [`Driver::ledger`].
+/// Each call simulates an event of the event machine, whatever the holder has released (`simulates`):
+/// the machine may give the call's answer in this state, and then the driver is in the state that the
+/// machine enters with it. The clause `disk` states what the call does to the disk at each of its
+/// moments. Replies, resends and views change nothing: for these call [`Driver::ledger`].
 ///
-/// Contracts see `DriverState` (`specs/ledger/DriverState.antt`), and the machine of it
-/// (`specs/ledger/Simulates.antt`); its type keeps that the flight is the ledger's own.
+/// Contracts see `DriverState` (`specs/ledger/DriverState.antt`) and the machine that it simulates
+/// (`specs/ledger/Simulates.antt`). The type guarantees that the flight is the ledger's own.
 pub struct Driver<D: CrashDisk> {
     ledger: Ledger<D>,
     flight: Option<Flight<D>>,
@@ -40,7 +39,7 @@ impl<D: CrashDisk> Model for Driver<D> {
 }
 
 impl<D: CrashDisk> Driver<D> {
-    /// Returns the driver of a ledger whose store is at home: no flight is out.
+    /// Makes a driver over a ledger that has no flight out.
     pub fn over(ledger: Ledger<D>) -> Self
         requires { ledger.out ≡ None }
         ensures { result ≡ at_home ledger }
@@ -51,16 +50,16 @@ impl<D: CrashDisk> Driver<D> {
         }
     }
 
-    /// The ledger.
+    /// Returns the ledger.
     pub fn ledger(&self) -> &Ledger<D>
         ensures { result.now ≡ self.now.ledger }
     {
         &self.ledger
     }
 
-    /// Does nothing. Its contract says what a crash may leave between two events: a legal world,
-    /// after a prefix of the accepted steps that includes every released one. The types of its
-    /// parts keep that.
+    /// Does nothing. Its contract states what a crash between two events may leave: a legal world,
+    /// after a prefix of the accepted steps that includes every released step. The types of the
+    /// driver's parts guarantee that.
     pub fn lemma_survives(&self)
         ensures { (s : Machine) → IsConsistent s → Represents self.now s →
             DiskSurvives D.model (disk_held self.now) s }
@@ -71,9 +70,8 @@ impl<D: CrashDisk> Driver<D> {
         }
     }
 
-    /// Does nothing. Its contract says that a run of events may begin here, if no flight is out:
-    /// the invariant of a run (`RunSoFar`) holds for the run without events, from the ledger's disk
-    /// on.
+    /// Does nothing. Its contract states that a run of events may begin here, if no flight is out: the
+    /// invariant of a run (`RunSoFar`) holds for the run without events on the ledger's disk.
     pub fn lemma_begins(&self)
         requires { self.now.flight ≡ None }
         ensures { MayBegin D.model D.crashes self.now }
@@ -119,8 +117,8 @@ impl<D: CrashDisk> Driver<D> {
         }
     }
 
-    /// Takes back the flight that is out, and drops what it releases. If it runs out of memory, the
-    /// ledger is dropped too, and the disk is left.
+    /// Takes back the flight that is out, and drops its releases. If memory runs out, drops the ledger
+    /// too, and returns the disk.
     pub(crate) fn bring_home(self) -> Result<Ledger<D>, D>
         ensures home { IfOk result (λ home. home ≡ brought_home self.ledger self.flight) }
         ensures disk { IfErr result (λ disk. disk_held self ≡ Some disk) }

@@ -16,24 +16,24 @@ use coord_disk::{CrashDisk, Disk};
 use run::Run;
 use std::alloc::Global;
 
-/// Runs events on a ledger in one thread, and returns an answer to each, all releases, and the
-/// ledger. Tickets are numbered from 0 in the order of their submits. A crash forgets the tickets,
-/// the flight and the views, crashes the disk and opens it again. At the end a flight that is out
-/// comes back, and its releases are lost.
+/// Runs events on a ledger in one thread, and returns an answer to each, all releases, and the ledger.
+/// Tickets are numbered from 0 in the order of their submits. A crash drops the tickets, the flight and
+/// the views, crashes the disk and opens it again. At the end, a flight that is out is taken back, and
+/// its releases are lost.
 ///
-/// The main theorem: wherever the run is stopped, before, within or after any write, opening
-/// whatever the disk may then hold gives the world after a prefix of the accepted steps, none
-/// skipped and none in part. That prefix holds every step whose reply, packet or signal had been
-/// released, and every link predicate holds in that world.
+/// The main theorem: stop the run at any point, before, within or after any write. Whatever the disk
+/// then holds, opening it gives the world after a prefix of the accepted steps, none skipped and none
+/// in part. That prefix includes every step whose reply, packet or signal had been released, and every
+/// link predicate holds in that world.
 ///
 /// This holds at each moment of the run, between two events and inside each of them. `EachMoment`
 /// states the effect of the run on its disk, event by event: each event begins with the disk that
 /// the previous one left, and the last one leaves the disk of the returned ledger.
 ///
-/// A fault names the event at which the run ended, and has the answers to the events before it and
-/// all releases until then. The ledger, its flight and its tickets are dropped. The disk is
-/// returned: as those events have left it, or, if the run ended in a crash, as the opening after
-/// the crash has left it (`EndedEarly`).
+/// A fault names the event at which the run ended, and has the answers to the earlier events and all
+/// releases until then. The ledger, its flight and its tickets are dropped. The disk is returned as the
+/// earlier events left it or, if the run ended in a crash, as the opening after the crash left it
+/// (`EndedEarly`).
 pub fn run_events<D: CrashDisk>(
     alloc: Global,
     ledger: Ledger<D>,
@@ -41,7 +41,7 @@ pub fn run_events<D: CrashDisk>(
 ) -> Result<(Trace, Ledger<D>), (RunFault, D)>
     requires home { ledger.out ≡ None }
 
-    // A run with all its answers: the main theorem, and the ledger that is left.
+    // A run with all its answers: the main theorem, and the remaining ledger.
     ensures ran { IfOk result (λ r. (before : D) → (after : D) → ledger.disk ≡ Some before →
         r.1.disk ≡ Some after
         → Promised (D.model.keeps_model before) events.now (Completed D.model D.crashes
@@ -59,7 +59,7 @@ pub fn run_events<D: CrashDisk>(
     ensures cause { IfErr result (λ r. (before : D) → ledger.disk ≡ Some before →
         HasCauseToEnd (D.model.keeps_model before) events.now r.0.at r.0.trace.released.items r.0.kind) }
 
-    // On any disk: an answer to each event, and how often the device has failed.
+    // On any disk: an answer to each event, and the number of device failures.
     ensures answers { MatchResult result (λ r. length r.0.answers.items ≡ length events.now) (λ r.
         length r.0.trace.answers.items ≡ r.0.at) }
     ensures failures { (n : ℕ) → HasFailed D.model.failures ledger.disk n

@@ -1,4 +1,4 @@
-//! The events of a ledger in one thread, and their answers.
+//! The events of a ledger in one thread, with their answers.
 
 use coord_store::CommitFault;
 use coord_types::{Refusal, Reply, Step};
@@ -21,7 +21,7 @@ pub enum Event {
     Resend,
     /// Show the settled world.
     Show,
-    /// Crash the disk and open it again; tickets and the flight are gone.
+    /// Crash the disk and open it again. Tickets and the flight are lost.
     Crash,
 }
 
@@ -30,11 +30,11 @@ pub enum Event {
 pub enum Answer {
     /// The number of the accepted step.
     Accepted(u64),
-    /// The number of the step of the client's last order.
+    /// The order is a repeat: the number of its step.
     Repeated(u64),
-    /// Nothing changed.
+    /// The step, or the call, was refused and changed nothing.
     Refused(Refusal),
-    /// The number of steps that are out, from 1 to 256.
+    /// A flight of this many steps went out, from 1 to 256.
     Begun(u64),
     /// No flight went out: nothing is pending, one is out already, or the ledger has stopped.
     Nothing,
@@ -42,20 +42,20 @@ pub enum Answer {
     Committed,
     /// The flight was not committed.
     Failed(CommitFault),
-    /// The settled count after the flight is back.
+    /// The flight was taken back: the number of settled steps after that.
     Finished(u64),
     /// No flight is out.
     NoFlight,
-    /// There is no such ticket, or it was collected.
+    /// There is no such ticket, or its reply was already collected.
     NoTicket,
     /// The reply to a settled step.
     Collected(Reply),
-    /// The ticket's step is not settled.
+    /// The ticket's step is not settled yet.
     Waiting,
-    /// How many packets were released again.
+    /// The number of packets that were released again.
     Resent(u64),
     /// The settled world's rows.
     Shown(View),
-    /// The number of steps of the opened world.
+    /// The number of steps of the world that was opened after a crash.
     Opened(u64),
 }

@@ -1,4 +1,4 @@
-//! Flights: steps that are being committed.
+//! A flight: steps that are being committed.
 
 ghost use Rattle.std.specs.Prelude.{◌≡◌, ◌⊎◌, ◌+◌, ◌≤◌, true, List, ℕ, length, Err, OnOk, IsErrOf, MatchResult};
 ghost use Rattle.coord_types.specs.declared.limits.TheConstants.{MAX_BATCH_STEPS};
@@ -19,18 +19,19 @@ use coord_types::Step;
 use coord_world::World;
 use std::marker::Model;
 
-/// The store of a ledger, with the next 1 to 256 steps to commit. A ledger's `end_flush` takes it
-/// back; nothing else may drop it. Contracts see `FlightState` (`specs/ledger/State.antt`). Its
-/// type keeps the world that each image of its disk encodes: while the flight is new, the world
-/// before its steps; once it is committed, the world after them; if it is torn, one of both.
+/// The store of a ledger, with the next 1 to 256 steps to commit. A ledger's `end_flush` takes it back;
+/// nothing else may drop it. Contracts see `FlightState` (`specs/ledger/State.antt`). The type
+/// guarantees which world each image of its disk gives: before the commit the world before the steps,
+/// after it the world after them, and after a torn commit one of the two.
 pub struct Flight<D: Disk> {
     pub(crate) first: u64,
     pub(crate) steps: Vec<Step>,
-    /// Once the store has the world after the steps: the settled world of when the flight went out.
+    /// Once the store has the world after the steps: the world that was settled when the flight went
+    /// out.
     pub(crate) before: Option<World>,
     /// The world after the steps, until the commit moves it into the store. If the flight has all
     /// pending steps, it is a copy of the front world. A commit that ran out of memory may have
-    /// consumed it: the next try makes it again.
+    /// consumed it; the next attempt computes it again.
     pub(crate) next: Option<World>,
     pub(crate) mark: Mark,
     pub(crate) store: Store<D>,
@@ -58,23 +59,23 @@ impl<D: Disk> Model for Flight<D> {
 impl<D: Disk> Flight<D> {
     ghost use Rattle.coord_ledger.specs.ledger.Calls.{FlightGives};
 
-    /// Commits the steps. It takes no lock and never waits.
+    /// Commits the steps. It takes no lock and never waits for a thread.
     ///
-    /// After `OutOfMemory` it may be tried again. After `Device` the flight is torn, and each later
-    /// call returns `Stopped`; a committed flight returns `Again`.
+    /// After `OutOfMemory` the caller may try again. After `Device` the flight is torn, and each later
+    /// call returns `Stopped`. A committed flight returns `Again`.
     pub fn commit(&mut self) -> Result<(), CommitFault>
-        // A crash at any moment of the call leaves bytes of the world before the steps or after
-        // them.
+        // A crash at any moment of the call leaves bytes that give the world before the steps or the
+        // world after them.
         ensures any_moment { D.model.keeps_model self.old.disk ≡ true → self.old.mark ≡ New
             → LeavesOnly D.model self.old.disk self.new.disk
             (GivesEither self.old.world (fold self.old.world self.old.steps)) }
-        // If it runs out of memory, only the world before them.
+        // If memory runs out, a crash leaves only the world before the steps.
         ensures any_moment_refused { D.model.keeps_model self.old.disk ≡ true → self.old.mark ≡ New →
             IsErrOf result CommitFault.OutOfMemory
             → LeavesOnly D.model self.old.disk self.new.disk
             (IsOnlyWorld self.old.world) }
 
-        // Its answer, and the flight after it.
+        // The answer, and the flight after the call.
         ensures tried { self.old.mark ≡ New →
             MatchResult result (λ _. self.new.mark ≡ Good) (λ fault. ((fault ≡ Device) ×
             (self.new.mark ≡ Torn)) ⊎ ((fault ≡ OutOfMemory) × (self.new.mark ≡ New))) }
@@ -86,13 +87,13 @@ impl<D: Disk> Flight<D> {
         ensures same_steps { self.new.steps ≡ self.old.steps }
         ensures same_world { self.new.world ≡ self.old.world }
 
-        // Its effect on the disk.
+        // The effect on the disk.
         ensures failures { D.model.failures self.new.disk ≡
             D.model.failures self.old.disk + failures_in result }
         ensures calls { D.model.keeps_model self.old.disk ≡ true →
             D.model.clock self.new.disk ≤ D.model.clock self.old.disk + 8 }
 
-        // If the body of the batch fits after the present text, no checkpoint is made.
+        // If the body of the batch fits into the free part of the half, no checkpoint is made.
         ensures calls_where_it_fits { (half : ℕ) (body : List ℕ) →
             D.model.keeps_model self.old.disk ≡ true → self.old.mark ≡ New →
             IsBody self.old.world body self.old.steps →
@@ -123,7 +124,7 @@ impl<D: Disk> Flight<D> {
         }
     }
 
-    /// The settled world when it went out.
+    /// Returns the world that was settled when the flight went out.
     pub(crate) fn world(&self) -> &World
         ensures { result.now ≡ self.now.world }
     {
@@ -133,7 +134,7 @@ impl<D: Disk> Flight<D> {
         }
     }
 
-    // Takes the flight apart: the number of its steps, whether it was committed, and the store.
+    // Takes the flight apart: the number of its steps, its mark, and the store.
     pub(crate) fn into_parts(self) -> (usize, Mark, Store<D>)
         ensures size { result.0 ≡ length self.steps }
         ensures mark { result.1 ≡ self.mark }
@@ -156,7 +157,7 @@ impl<D: Disk> Flight<D> {
 }
 
 impl<D: Disk + Takable> Flight<D> {
-    // Returns the disk, and loses its steps: the ledger stays without its store.
+    // Returns the disk and drops the steps. The ledger remains without its store.
     pub(crate) fn into_disk(self) -> D
         ensures { result ≡ self.disk }
     {
@@ -168,7 +169,7 @@ impl<D: Disk + Takable> Flight<D> {
 impl<D: Disk> Flight<D> {
     ghost use Rattle.coord_ledger.specs.ledger.Calls.{FlightGives};
 
-    /// Does nothing: its contract is the invariant of the type.
+    /// Does nothing: its contract states the invariant of the type.
     pub fn lemma_images_give_world(&self)
         ensures some { 1 ≤ length self.now.steps }
         ensures most { length self.now.steps ≤ MAX_BATCH_STEPS }

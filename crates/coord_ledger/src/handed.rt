@@ -2,8 +2,8 @@
 
 use crate::Ticket;
 
-/// A ticket for the reply to a submitted step, and whether the step is new. It must be consumed,
-/// like its ticket.
+/// A ticket for the reply to a submitted step, and whether the step is new. Like its ticket, it must be
+/// consumed.
 pub enum Handed {
     /// The step was accepted.
     Accepted(Ticket),
@@ -15,7 +15,7 @@ impl Handed {
     ghost use Rattle.std.specs.Prelude.{◌≡◌};
     ghost use Rattle.coord_ledger.specs.ledger.Calls.{claim_of};
 
-    /// The ticket alone.
+    /// Returns the ticket alone.
     pub fn ticket(self) -> Ticket
         ensures { result ≡ claim_of self }
     {

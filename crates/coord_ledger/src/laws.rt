@@ -1,20 +1,19 @@
-//! Laws of the event machine, over the definitions alone: functions that do nothing, whose contracts
-//! are the laws.
+//! Laws of the event machine, over its definitions alone. Each is the contract of an empty function.
 
 ghost use Rattle.coord_ledger.specs.laws.Commits.{CommitIsSafe};
 ghost use Rattle.coord_ledger.specs.laws.Laws.{AdoptedIsConsistent, FinishKeepsKept, HasAnswer, KeptIsSafe, LogStays, NoSignalTwice, PrefixFromImages, RunGoesOn, RunIsConsistent, SettledStays, StaysConsistent, SubmitOrder};
 ghost use Rattle.coord_ledger.specs.laws.SignalsBetween.{ReleasedBetween, ReleasedWithDrops};
 ghost use Rattle.coord_ledger.specs.laws.Rebasing.{CrashReopens, RebasedAnswersAlike, RebasedGoesOn, RebasedIsConsistent};
 
-/// The first refusal that applies: Stopped; unless it is a repeat, PendingFull; then Exhausted, and
-/// the step's own refusals in the order of their numbers.
+/// A step is refused by the first refusal that applies: `Stopped`; for a step that is no repeat, also
+/// `PendingFull`, then `Exhausted`, then the step's own refusals in the order of their numbers.
 #[tactic(auto, using(crate::proofs::machine::Verdicts::submit_order))]
 pub fn submit_order()
     ensures { SubmitOrder }
 {}
 
-/// Accepting, settling and cutting keep a log consistent: each pending step stays fresh as more are
-/// settled.
+/// A log stays consistent when a step is accepted, when steps are settled, and when a crash cuts it.
+/// Each pending step stays fresh when more steps are settled.
 #[tactic(auto, using(crate::proofs::machine::Logs::log_stays))]
 pub fn log_stays()
     ensures { LogStays }
@@ -26,13 +25,13 @@ pub fn has_answer()
     ensures { HasAnswer }
 {}
 
-/// The settled steps stay, even in a crash.
+/// Each event, a crash too, keeps the settled steps.
 #[tactic(auto, using(crate::proofs::machine::SettledStays::settled_stays))]
 pub fn settled_stays()
     ensures { SettledStays }
 {}
 
-/// A ledger that was just made over a store is consistent.
+/// A ledger that was just created over a store is consistent.
 #[tactic(auto, using(crate::proofs::machine::Consistent::adopted_is_consistent))]
 pub fn adopted_is_consistent()
     ensures { AdoptedIsConsistent }
@@ -56,35 +55,35 @@ pub fn run_goes_on()
     ensures { RunGoesOn }
 {}
 
-/// Whatever a crash may keep is a legal world, with every step that has released or returned
-/// anything, and only accepted steps.
+/// Whatever a crash may keep is a legal world, after accepted steps alone, and includes every step with
+/// a released or collected output.
 #[tactic(auto, using(crate::proofs::machine::Safe::kept_is_safe))]
 pub fn kept_is_safe()
     ensures { KeptIsSafe }
 {}
 
-/// While a flight is committed, the worlds before its steps and after them are both legal, each
-/// with every step that has released or returned anything, and only accepted steps.
+/// While a flight is committed, the worlds before and after its steps are both legal. Both are worlds
+/// after accepted steps alone, and include every step with a released or collected output.
 pub fn commit_is_safe()
     ensures { CommitIsSafe }
 {}
 
-/// No step has signalled a node twice, crashes included.
+/// No step releases a signal of a node twice, even in runs with crashes.
 pub fn signals_once()
     ensures { NoSignalTwice }
 {}
 
-/// Between two moments of its settled steps at which every node of a part that no link leaves is
-/// Ready, if no node or link comes or goes meanwhile: a ledger releases no more signals of a node that
-/// has a link than resets were started in the part, and each node that is connected with one that was
-/// asked to reset is signalled.
+/// Bounds the signals between two moments of the settled steps at which every node of a part is Ready.
+/// No link leaves the part, and no node or link comes or goes meanwhile. Then a ledger releases at most
+/// as many signals of a linked node as resets were started in the part, and it signals each node that
+/// is connected with one whose reset was accepted.
 pub fn released_between()
     ensures { ReleasedBetween }
 {}
 
-/// While nodes and links come and go, but no link joins the part with the rest: a ledger releases no more
-/// signals of a node of the part than resets were started and links dropped there since every node of it
-/// was Ready, and its own resets answered Finished.
+/// The bound if nodes and links come and go, but no link joins the part with the rest: since every node
+/// of the part was Ready, a ledger releases at most as many signals of a node of it as resets were
+/// started and links dropped there, plus the node's own resets that were answered Finished.
 pub fn released_with_drops()
     ensures { ReleasedWithDrops }
 {}
@@ -94,31 +93,30 @@ pub fn finish_keeps_kept()
     ensures { FinishKeepsKept }
 {}
 
-/// The headline, from the store's statement about its images.
+/// The headline follows from the store's statement about the images of its disk.
 pub fn prefix_from_images()
     ensures { PrefixFromImages }
 {}
 
-/// A log stays consistent if its base moves along its settled steps.
+/// A log stays consistent if its base moves forward over some of its settled steps.
 #[tactic(auto, using(crate::proofs::machine::Logs::rebased_is_consistent))]
 pub fn rebased_is_consistent()
     ensures { RebasedIsConsistent }
 {}
 
-/// A ledger whose base is moved along the settled steps, like after a crash, gives the same
-/// answers.
+/// A ledger whose base moves forward over settled steps, as after a crash, gives the same answers.
 #[tactic(auto, using(crate::proofs::machine::Rebased::rebased_answers_alike))]
 pub fn rebased_answers_alike()
     ensures { RebasedAnswersAlike }
 {}
 
-/// After each of these answers it is still the same ledger with its base moved, until a crash.
+/// After each of these events, until a crash, it is still the same ledger with its base moved.
 #[tactic(auto, using(crate::proofs::machine::Rebased::rebased_goes_on))]
 pub fn rebased_goes_on()
     ensures { RebasedGoesOn }
 {}
 
-/// After a crash it is like one that was just created over a store of the kept world.
+/// After a crash a ledger behaves like one that was just created over a store with the kept world.
 pub fn crash_reopens()
     ensures { CrashReopens }
 {}

@@ -1,5 +1,5 @@
 //! The ledger: a base world, the steps accepted since, how many of them are settled, and the store,
-//! at home or out with a flight.
+//! unless a flight carries it.
 
 ghost use Rattle.std.specs.Prelude.{◌≡◌, ◌≤◌, false, true, is_some, None, Some, IfErr, IfOk, IfSome};
 ghost use Rattle.coord_types.specs.declared.limits.TheConstants.{MAX_STEPS};
@@ -22,34 +22,34 @@ use std::alloc::{AllocError, Global};
 use std::collections::VecDeque;
 use std::marker::Model;
 
-/// A ledger allocates room for this many steps when it is made. A trail that stays within it never
-/// moves. The room is more than 32 MiB, so that the C library maps it separately and returns it to
-/// the system when the ledger ends: smaller blocks stay with the thread that allocated them.
+/// A new ledger allocates room for this many steps. A trail that stays within it never moves. The room
+/// takes more than 32 MiB, so the C library maps it separately and returns it to the system when the
+/// ledger is dropped; smaller blocks would stay with the thread that allocated them.
 const TRAIL_ROOM: usize = 700_000;
 
-/// The steps accepted since a base world, and how many of them are settled on the disk. Contracts
-/// see `LedgerState` (`specs/ledger/State.antt`): the log, with the steps in doubt once the ledger
-/// has stopped; how many steps are out; and the disk, while the store is at home.
+/// The steps accepted since a base world, and how many of them are settled on the disk. Contracts see
+/// `LedgerState` (`specs/ledger/State.antt`): the log, with the steps in doubt once the ledger has
+/// stopped; the number of steps in flight; and the disk, unless a flight carries it.
 ///
-/// It keeps every step since it was made. At most 1,024 of them may be unsettled. It also keeps the
-/// world after all steps (front), the world after the settled ones, and the outputs of each
-/// unsettled step.
+/// A ledger keeps every step accepted since it was created, at most 1,024 of them unsettled. It also
+/// keeps the world after all steps (the front world), the world after the settled steps, and the
+/// outputs of each unsettled step.
 #[derive(Drop)]
 pub struct Ledger<D: Disk> {
     alloc: Global,
     base: World,
     trail: Vec<Step>,
-    /// The kinds of the replies to the steps of the trail, so that `collect` compares exactly and
-    /// takes no memory.
+    /// The kinds of the replies to the steps of the trail. With them `collect` compares exactly and
+    /// allocates nothing.
     kinds: Vec<Kind>,
-    /// The outputs of each unsettled step, from `hand_in`. They are released once the step is
+    /// The outputs of each unsettled step, recorded by `hand_in`. They are released once the step is
     /// settled, so this list does not grow with the settled steps.
     given: VecDeque<Vec<Output>>,
-    /// How many steps of the trail are settled.
+    /// The number of settled steps of the trail.
     done: usize,
     front: World,
     settled: World,
-    /// How many steps are out; it counts only while the store is away.
+    /// The number of steps in flight; meaningful only while the store is away.
     out: usize,
     doubt: Option<usize>,
     store: Option<Store<D>>,
@@ -80,7 +80,7 @@ impl<D: Disk> Model for Ledger<D> {
     }) l.kinds.items (listed l.given.items) l.front l.settled l.out l.store };
 }
 
-/// Three copies of a world: initially the base, the front and the settled world.
+/// Returns three copies of a world, for the base, the front and the settled world.
 fn copies(world: &World) -> Result<(World, World, World), AllocError>
     ensures base { IfOk result (λ r. r.0 ≡ world.now) }
     ensures front { IfOk result (λ r. r.1 ≡ world.now) }
@@ -107,8 +107,8 @@ fn copies(world: &World) -> Result<(World, World, World), AllocError>
 impl<D: Disk> Ledger<D> {
     ghost use Rattle.coord_ledger.specs.Facade.{LedgerGives, ledger_over};
 
-    /// Makes a ledger over a store that has not stopped. The store's world is the base, and no step
-    /// has been accepted since.
+    /// Makes a ledger over a store that has not stopped. The store's world becomes the base, and the
+    /// trail is empty.
     pub fn adopt(alloc: Global, store: Store<D>) -> Result<Self, (AllocError, Store<D>)>
         requires { has_stopped store ≡ false }
         ensures adopted { IfOk result (λ ledger. ledger ≡ ledger_over store.world store.disk) }
@@ -142,21 +142,21 @@ impl<D: Disk> Ledger<D> {
         })
     }
 
-    /// The world after all accepted steps.
+    /// Returns the world after all accepted steps.
     pub fn front(&self) -> &World
         ensures { result.now ≡ front_world self.now.log }
     {
         &self.front
     }
 
-    /// The world after the settled steps.
+    /// Returns the world after the settled steps.
     pub fn settled(&self) -> &World
         ensures { result.now ≡ settled_world self.now.log }
     {
         &self.settled
     }
 
-    /// The number of settled steps, including those before the base.
+    /// Returns the number of settled steps, including those before the base.
     pub fn settled_count(&self) -> u64
         ensures value { result ≡ settled_count self.now.log }
         ensures bounded { result ≤ MAX_STEPS }
@@ -165,7 +165,7 @@ impl<D: Disk> Ledger<D> {
         self.settled.count()
     }
 
-    /// The number of accepted steps, including those before the base.
+    /// Returns the number of accepted steps, including those before the base.
     pub fn accepted_count(&self) -> u64
         ensures value { result ≡ accepted_count self.now.log }
         ensures bounded { result ≤ MAX_STEPS }
@@ -174,15 +174,15 @@ impl<D: Disk> Ledger<D> {
         self.front.count()
     }
 
-    /// Whether the ledger has stopped: the device failed in a returned flight, so it accepts and
-    /// flushes nothing more.
+    /// Tests whether the ledger has stopped. It stops when a flight returns whose device failed, and
+    /// from then on accepts and flushes nothing.
     pub fn stopped(&self) -> bool
         ensures { result ≡ is_some self.now.log.doubt }
     {
         self.doubt.is_some()
     }
 
-    /// The number of a client's last accepted order, initially 0.
+    /// Returns the number of a client's last accepted order, or 0 if it has none.
     pub fn last(&self, client: Client) -> u64
         ensures { result ≡ last_number (get (front_world self.now.log).sessions client) }
     {
@@ -192,7 +192,7 @@ impl<D: Disk> Ledger<D> {
         }
     }
 
-    /// Returns the store, unless it is out with a flight. Pending steps are lost.
+    /// Returns the store, unless a flight carries it. Pending steps are lost.
     pub fn close(self) -> Result<Store<D>, Self>
         ensures home { IfOk result (λ store. self.disk ≡ Some store.disk) }
         ensures world { IfOk result (λ store. store.world ≡ settled_world self.log) }
@@ -203,7 +203,7 @@ impl<D: Disk> Ledger<D> {
         Ok(store)
     }
 
-    /// Does nothing: its contract is the invariant of the type.
+    /// Does nothing: its contract states the invariant of the type.
     pub fn lemma_images_give_settled(&self)
         ensures { IfSome self.now.disk (λ disk. D.model.keeps_model disk ≡ true →
             LedgerGives D.model.present self.now disk) }

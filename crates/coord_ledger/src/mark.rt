@@ -1,12 +1,12 @@
 //! The state of a flight.
 
-/// Whether a flight was committed.
+/// The state of a flight: whether it was committed.
 #[derive(Clone, Copy, PartialEq, Eq)]
 pub enum Mark {
-    /// The flight may still be committed.
+    /// The flight was not committed yet.
     New,
     /// The flight's steps are on the disk.
     Good,
-    /// The device failed: its steps may or may not be on the disk.
+    /// The device failed: the flight's steps are on the disk or not.
     Torn,
 }

@@ -1,4 +1,4 @@
-//! Releases that are still to be handed out.
+//! Releases that are still to be passed on.
 
 ghost use Rattle.std.specs.Prelude.{◌≡◌, drop, length, slice_get};
 
@@ -7,8 +7,8 @@ use coord_types::Output;
 use std::alloc::AllocError;
 use std::marker::Model;
 
-/// The releases that are not passed on yet. It must be consumed, by `lose_rest`. Contracts see the
-/// list of the remaining ones.
+/// The releases that are not yet passed on. It must be consumed by `lose_rest`. Contracts see the list
+/// of the remaining releases.
 pub struct Releases {
     rows: Vec<Release>,
     given: usize,
@@ -26,21 +26,21 @@ impl Model for Releases {
 }
 
 impl Releases {
-    // All of these.
+    // Wraps a list of releases.
     pub(crate) fn of(rows: Vec<Release>) -> Self
         ensures { result ≡ rows.items }
     {
         Releases { rows, given: 0 }
     }
 
-    /// The number of remaining ones.
+    /// Returns the number of remaining releases.
     pub fn len(&self) -> u64
         ensures { result ≡ length self.now }
     {
         (self.rows.len() - self.given) as u64
     }
 
-    /// The next one, if there is one.
+    /// Returns the next release, if there is one.
     pub fn next(&mut self) -> Option<Release>
         ensures first { result ≡ slice_get self.old 0 }
         ensures rest { self.new ≡ drop 1 self.old }
@@ -53,7 +53,7 @@ impl Releases {
         Some(release)
     }
 
-    /// Drops the remaining ones, and returns how many there were.
+    /// Drops the remaining releases, and returns their number.
     pub fn lose_rest(self) -> u64
         ensures { result ≡ length self }
     {

@@ -1,10 +1,10 @@
-//! The settled steps that a caller has seen of a ledger.
+//! The number of settled steps that a caller has seen.
 
 ghost use Rattle.std.specs.Prelude.{◌≡◌, max, nat_le};
 
 use std::marker::Model;
 
-/// The greatest number of a step that its holder knows to be settled, 0 at first. Contracts see the
+/// The greatest number of a step that its holder knows to be settled, initially 0. Contracts see this
 /// number.
 #[derive(Drop)]
 pub struct Seen {
@@ -20,14 +20,14 @@ impl Model for Seen {
 }
 
 impl Seen {
-    /// Nothing was shown yet.
+    /// Returns a seen count of 0.
     pub fn new() -> Self
         ensures { result ≡ 0 }
     {
         Seen { count: 0 }
     }
 
-    /// Notes that this step is settled. It never lowers the seen count.
+    /// Records that this step is settled. It never lowers the count.
     pub fn note(&mut self, step: u64)
         ensures { self.new ≡ max self.old step }
     {
@@ -36,14 +36,14 @@ impl Seen {
         }
     }
 
-    /// Whether no later step was seen than this one.
+    /// Tests whether the seen count is at most this number of settled steps.
     pub fn is_within(&self, settled: u64) -> bool
         ensures { result ≡ nat_le self.now settled }
     {
         self.count <= settled
     }
 
-    // The number.
+    // Returns the seen count.
     pub(crate) fn count(&self) -> u64
         ensures { result ≡ self.now }
     {

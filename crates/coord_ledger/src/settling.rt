@@ -1,4 +1,4 @@
-//! The releases of steps, and comparisons.
+//! Makes the releases of steps, and compares steps and worlds.
 
 ghost use Rattle.std.specs.Prelude.{◌≡◌, ◌+◌, ◌<◌, ◌≤◌, ◌^◌, ◌++◌, ◌↔◌, drop, length, map, take, IsTrue, OnOk, IfOk};
 ghost use Rattle.coord_ledger.specs.code.Holding.{listed, released_from};
@@ -10,28 +10,28 @@ use coord_world::World;
 use std::alloc::{AllocError, Global};
 use std::collections::VecDeque;
 
-/// Whether these are the same step.
+/// Tests whether two steps are equal.
 pub fn is_same_step(a: &Step, b: &Step) -> bool
     ensures { IsTrue result ↔ (a.now ≡ b.now) }
 {
     a == b
 }
 
-/// Whether these are the same world.
+/// Tests whether two worlds are equal.
 pub fn is_same_world(a: &World, b: &World) -> bool
     ensures { IsTrue result ↔ (a.now ≡ b.now) }
 {
     *a == *b
 }
 
-/// Whether these are the same steps.
+/// Tests whether two lists of steps are equal.
 pub fn are_same(a: &[Step], b: &[Step]) -> bool
     ensures { IsTrue result ↔ (a.now ≡ b.now) }
 {
     a == b
 }
 
-/// Adds the outputs of a step with this number.
+/// Appends the outputs of the step with this number.
 pub fn push_all(rows: &mut Vec<Release>, step: u64, outputs: &[Output]) -> Result<(), AllocError>
     ensures { OnOk result (rows.new.items ≡ rows.old.items ++ map (release_of step) outputs.now) }
 {
@@ -44,8 +44,8 @@ pub fn push_all(rows: &mut Vec<Release>, step: u64, outputs: &[Output]) -> Resul
     Ok(())
 }
 
-/// The releases of the first `size` steps, which are numbered from `first` on; `given` are the
-/// outputs of all.
+/// Returns the releases of the first `size` steps, which are numbered from `first` on. `given` has the
+/// outputs of all steps.
 pub fn released(
     alloc: Global,
     first: u64,

@@ -13,7 +13,7 @@ pub struct Note {
     pub kind: Kind,
 }
 
-/// Represents the reply to a step until the step is settled. It must be consumed, by `forget` or by
+/// The claim to the reply of a step that may not be settled yet. It must be consumed, by `forget` or by
 /// a ledger's `collect`. Contracts see its claim (`specs/ledger/State.antt`).
 pub struct Ticket {
     pub(crate) step: u64,
@@ -44,7 +44,7 @@ impl Ticket {
         }
     }
 
-    // The reply that it represents.
+    // Returns the claimed reply.
     pub(crate) fn reply(&self) -> Reply
         ensures { result ≡ reply_of self.now }
     {
@@ -54,14 +54,14 @@ impl Ticket {
         }
     }
 
-    /// The number of its step.
+    /// Returns the number of the ticket's step.
     pub fn step(&self) -> u64
         ensures { result ≡ self.now.step }
     {
         self.step
     }
 
-    /// The ticket's step, with the number and the kind of the reply.
+    /// Returns the ticket's step, with its number and the kind of its reply.
     pub fn note(&self) -> Note
         ensures step { result.step ≡ self.now.step }
         ensures what { result.what ≡ self.now.what }
@@ -74,7 +74,7 @@ impl Ticket {
         }
     }
 
-    /// Gives up the reply. (No postcondition: nothing remains.)
+    /// Drops the claim to the reply. (No postcondition: nothing remains.)
     pub fn forget(self) {
         let Ticket {
             step: _,

@@ -14,19 +14,19 @@ pub struct Trace {
     pub released: Vec<Release>,
 }
 
-/// Why a run ended early.
+/// The reason why a run ended early.
 #[derive(Clone, Copy, Debug, PartialEq, Eq)]
 pub enum RunFaultKind {
-    /// Out of memory: for the list of answers at the beginning of the run; for the list of tickets
-    /// or of releases, in `Submit`, `Finish` or `Resend`; for the ledger after a crash; or when the
-    /// last flight came back.
+    /// Memory ran out: for the list of answers at the beginning of the run; for the list of tickets or
+    /// of releases, in `Submit`, `Finish` or `Resend`; for the ledger after a crash; or when the last
+    /// flight was taken back.
     OutOfMemory,
     /// The store was not opened after a crash.
     Store(StoreFault),
 }
 
 impl RunFaultKind {
-    /// 1 for out of memory, 2 for a fault of the store.
+    /// Returns 1 for `OutOfMemory`, 2 for `Store`.
     pub fn number(self) -> u8
         ensures { result ≡ run_fault_number self }
     {
@@ -37,9 +37,9 @@ impl RunFaultKind {
     }
 }
 
-/// A run that ended early: at the event with this index, or, if the last flight could not be taken
-/// back, after the last one, so that the index is the number of events. It has the answers and
-/// releases until then. The ledger is gone.
+/// A run that ended early. `at` is the index of the event at which it ended, or the number of events if
+/// the last flight could not be taken back. It has the answers and releases until then. The ledger is
+/// dropped.
 #[derive(Drop)]
 pub struct RunFault {
     pub at: usize,

@@ -1,9 +1,9 @@
--- A text that arrives in pieces.
+-- The law of a text that arrives in pieces.
 use Rattle.std.specs.Prelude.{◌≡◌, ℕ, List, [], ◌∷◌, ◌++◌, Some}
 use Rattle.std.specs.List.{concat}
 use Rattle.coord_lines.specs.Lines.{Line, lines_of, lines_on}
 
--- the last of some lines is the line so far, and the lines before it are complete
+-- all lines but the last one, which may still continue
 abbrev pub ended : List Line → List Line
 ended [] = []
 ended (line ∷ []) = []
@@ -14,12 +14,12 @@ last_of [] = Some []
 last_of (line ∷ []) = line
 last_of (line ∷ next ∷ lines) = last_of (next ∷ lines)
 
--- The lines of a text in pieces. Each piece continues the line that the pieces before it left;
--- the line that the last piece leaves is the last line.
+-- The lines of a text that arrives in pieces. Each piece continues the line at which the previous piece ended; the line
+-- at which the last piece ends is the last line.
 abbrev pub lines_in_pieces : Line → List (List ℕ) → List Line
 lines_in_pieces line [] = lines_on line []
 lines_in_pieces line (piece ∷ pieces) = let lines = lines_on line piece in ended lines ++ lines_in_pieces (last_of lines) pieces
 
--- a text in any pieces has the lines of the whole
+-- a text that arrives in pieces has the lines of the whole text, whatever the pieces are
 abbrev pub PiecesHaveTheLinesOfTheWhole : Type 0
 PiecesHaveTheLinesOfTheWhole = (pieces : List (List ℕ)) → lines_in_pieces (Some []) pieces ≡ lines_of (concat pieces)

@@ -2,7 +2,7 @@
 
 ghost use Rattle.coord_lines.specs.Laws.{PiecesHaveTheLinesOfTheWhole};
 
-/// A text in any pieces has the lines of the whole.
+/// A text that arrives in pieces has the lines of the whole text, whatever the pieces are.
 #[tactic(auto, using(crate::proofs::Pieces::pieces_have_the_lines))]
 pub fn pieces_have_the_lines_of_the_whole()
     ensures { PiecesHaveTheLinesOfTheWhole }

@@ -10,7 +10,8 @@ use std::marker::Model;
 
 const LINE_FEED: u8 = b'\n';
 
-/// The bytes of a partial line. Contracts see them, or None once there are more than `MAX_LINE_BYTES`.
+/// The bytes of a partial line. Contracts see these bytes, or None once there are more than
+/// `MAX_LINE_BYTES`.
 #[derive(Drop)]
 pub struct LineBuffer {
     bytes: [u8; MAX_LINE_BYTES],
@@ -41,8 +42,8 @@ impl LineBuffer {
         }
     }
 
-    /// Appends the piece to the line, up to the first line feed, and returns the bytes after that.
-    /// Returns None if the piece has no line feed, so that the line continues.
+    /// Appends the piece to the line, up to the first line feed, and returns the bytes after the
+    /// line feed. Returns None if the piece has no line feed; the line then continues.
     pub fn take<'a>(&mut self, piece: &'a [u8]) -> Option<&'a [u8]>
         ensures line { self.new ≡ extended self.old (before_line_feed piece.now) }
         ensures behind { option_copied result ≡ behind_line_feed piece.now }
@@ -59,7 +60,7 @@ impl LineBuffer {
         }
     }
 
-    /// Returns the line; None if it is over the limit.
+    /// Returns the line, or None if it is longer than the limit.
     pub fn get(&self) -> Option<&[u8]>
         ensures line { option_copied result ≡ self.now }
         ensures within { IsWithin self.now }
@@ -93,7 +94,7 @@ impl LineBuffer {
     }
 }
 
-/// Returns the index of the first line feed.
+/// Returns the index of the first line feed, or None.
 fn line_feed_in(piece: &[u8]) -> Option<usize>
     ensures { result ≡ position is_line_feed piece.now }
 {

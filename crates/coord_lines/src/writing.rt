@@ -8,10 +8,10 @@ use crate::limits::MOST_CALLS;
 use std::io;
 use std::io::{ErrorKind, Write};
 
-/// Writes a whole text, with one call of `write` if the writer takes all of it; a call that was
-/// interrupted is repeated. If it fails, a prefix was written, and nothing else. The error is
-/// the writer's, or `WriteZero` if it took nothing, or not everything in `MOST_CALLS` calls; no clause
-/// says which.
+/// Writes a whole text, with one call of `write` if the writer takes all of it; an interrupted call
+/// is repeated. If it fails, a prefix of the text was written, and nothing else. It returns the
+/// writer's error, or `WriteZero` if the writer took nothing, or took not everything in
+/// `MOST_CALLS` calls; no clause states which error.
 pub fn write_whole<W: Write>(writer: &mut W, text: &[u8]) -> io::Result<()>
     ensures ok { OnOk result (Appends (W.contents writer.old) (W.contents writer.new) text.now) }
     ensures err { OnErr result (WritesFirstPart (W.contents writer.old)

@@ -1,4 +1,4 @@
--- The lane machine: one direction of a link, stop and wait, its messages numbered from 1.
+-- The lane machine: one direction of a link. It is a stop-and-wait queue whose messages are numbered from 1.
 use Rattle.std.specs.Prelude.{◌≡◌, ℕ, ◌+◌, ◌==◌, ◌&&◌, ◌||◌, not, nat_le, nat_lt, Bool, true, List, [], ◌∷◌, ◌++◌, Option, Some, None, Result, Ok, Err, if◌then◌else◌}
 use Rattle.std.proofs.Common.{refl}
 use Rattle.std.specs.Coded.{Coded, code_by, coded×, coded_ℕ, coded_list}
@@ -7,7 +7,8 @@ use Rattle.coord_types.specs.declared.messages.Msg.{Msg}
 use Rattle.coord_types.specs.declared.refusals.Refusal.{Refusal}
 use Rattle.coord_types.specs.declared.refusals.Refusal.TheVariants.{Old, Early, Differs}
 
--- `base` messages are receipted, the queue has the messages from number base + 1 on, and `got` messages were taken at the other end
+-- `base` messages are receipted, the queue holds the messages from number base + 1 on, and the other end has taken
+-- `got` messages
 pub record Lane : Type 0 where
   pub inc : ℕ
   pub base : ℕ
@@ -21,19 +22,19 @@ new_lane inc = record { inc = inc; base = 0; got = 0; queue = [] }
 abbrev pub sent : List Msg → Lane → Lane
 sent ms l = record l { queue = l.queue ++ ms }
 
--- the front is taken at the other end
+-- the other end takes the front
 abbrev pub took : Lane → Lane
 took l = record l { got = l.got + 1 }
 
--- the front is receipted and leaves the queue
+-- the receipt of the front arrives, and the front leaves the queue
 abbrev pub cleared : Lane → Lane
 cleared l = record l { base = l.base + 1; queue = behind_front l.queue }
 
--- whether the front was taken at the other end
+-- whether the other end has taken the front
 abbrev pub is_front_taken : Lane → Bool
 is_front_taken l = l.got == l.base + 1
 
--- the messages in transit: the queue, without its front if that was taken
+-- the messages in transit: the queue, without its front if the other end has taken that
 abbrev pub transit : Lane → List Msg
 transit l = if is_front_taken l then behind_front l.queue else l.queue
 
@@ -45,16 +46,17 @@ front_in base (m ∷ ms) = Some (base + 1, m)
 abbrev pub front_of : Lane → Option (ℕ × Msg)
 front_of l = front_in l.base l.queue
 
--- tests, each with its refusal
+-- a list of tests, each with its refusal
 abbrev pub Tests : Type 0
 Tests = List (Bool × Refusal)
 
--- the refusal of the first test that holds
+-- the refusal of the first test that holds, or Ok v if none holds
 abbrev pub refused_or : {V : Type 0} → V → Tests → Result V Refusal
 refused_or v [] = Ok v
 refused_or v (t ∷ ts) = if t.0 then Err t.1 else refused_or v ts
 
--- why a message with this number is not taken: it was taken already; it is not the next one, or the one before it is not receipted; it differs from the front
+-- why a data packet with this number is refused. Old: its message was already taken; Early: its message is not the next
+-- one, or the message before it has no receipt; Differs: its message is not the front
 abbrev pub against_take : Lane → ℕ → Msg → Tests
 against_take l number m =
     (nat_le number l.got, Old) ∷ (nat_lt (l.got + 1) number || not (l.got == l.base) || is_nil l.queue, Early)
@@ -63,7 +65,8 @@ against_take l number m =
 abbrev pub judged_take : Lane → ℕ → Msg → Result (Unit {0}) Refusal
 judged_take l number m = refused_or tt (against_take l number m)
 
--- why a receipt with this number clears nothing: its message was cleared already; it was not taken, or is not the front
+-- why a receipt with this number is refused. Old: its message was already cleared; Early: its message was not taken, or
+-- is not the front
 abbrev pub against_clear : Lane → ℕ → Tests
 against_clear l number =
     (nat_le number l.base, Old) ∷ (nat_lt l.got number || nat_lt (l.base + 1) number || is_nil l.queue, Early) ∷ []
@@ -71,11 +74,11 @@ against_clear l number =
 abbrev pub judged_clear : Lane → ℕ → Result (Unit {0}) Refusal
 judged_clear l number = refused_or tt (against_clear l number)
 
--- predicate A: of the queue nothing, or only the front, was taken at the other end
+-- predicate A: of the messages in the queue, the other end has taken none, or only the front
 abbrev pub has_front_taken_at_most : Lane → Bool
 has_front_taken_at_most l = (l.got == l.base) || ((l.got == l.base + 1) && not (is_nil l.queue))
 
--- the numbers of a lane agree with its queue
+-- predicate A as a statement
 abbrev pub Counts : Lane → Type 0
 Counts l = has_front_taken_at_most l ≡ true
 

@@ -1,9 +1,10 @@
--- A lane's array: its queue, and the padding after it.
+-- A lane's array: its queue, followed by padding.
 use Rattle.std.specs.Prelude.{List, [], ◌∷◌}
 use Rattle.coord_types.specs.declared.messages.Msg.{Msg}
 use Rattle.coord_types.specs.declared.messages.Msg.TheVariants.{Ack}
 
--- a queue of at most four messages in an array of four: the padding is always the same, so that the queue determines the array
+-- a queue of at most four messages in an array of four; the padding is always the same, so equal queues have equal
+-- arrays
 abbrev pub padded : List Msg → List Msg
 padded [] = Ack ∷ Ack ∷ Ack ∷ Ack ∷ []
 padded (a ∷ []) = a ∷ Ack ∷ Ack ∷ Ack ∷ []

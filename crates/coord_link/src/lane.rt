@@ -9,18 +9,18 @@ use std::marker::Model;
 /// The maximum number of messages in a lane.
 pub const PLACES: usize = 4;
 
-/// The padding after the queue in its array, which is never read.
+/// The padding after the queue in its array. It is never read.
 const BEHIND: Msg = Msg::Ack;
 
-/// The messages from one node to its neighbour, numbered from 1 since the link was made. Contracts
-/// see it as a lane of `specs/LaneMachine.antt`.
+/// One direction of a link: the messages from one node to its neighbour, numbered from 1 since the
+/// link was made. Contracts see it as a lane of `specs/LaneMachine.antt`.
 #[derive(Clone, Copy, PartialEq, Eq, Debug)]
 pub struct Lane {
     inc: u64,
     base: u64,
     got: u64,
-    /// The first `len` are the messages without a receipt, oldest first; the others are
-    /// `BEHIND`, so that equal lanes have equal arrays.
+    /// The first `len` entries are the messages without a receipt, oldest first; the others are
+    /// `BEHIND`, so equal lanes have equal arrays.
     queue: [Msg; PLACES],
     len: usize,
 }
@@ -107,7 +107,7 @@ impl Lane {
         self.base
     }
 
-    /// Returns the number of messages taken at the other end.
+    /// Returns the number of messages that the other end has taken.
     pub fn got(&self) -> u64
         ensures { result ≡ self.now.got }
     {
@@ -122,7 +122,7 @@ impl Lane {
         &self.queue[..self.len]
     }
 
-    /// Tests whether the queue has no room for another message.
+    /// Tests whether the queue is full.
     pub fn is_full(&self) -> bool
         ensures full { IsTrue result ↔ (length self.now.queue ≡ PLACES) }
         ensures most { length self.now.queue ≤ PLACES }
@@ -151,7 +151,7 @@ impl Lane {
         }
     }
 
-    /// Returns the value of `current` after the front is cleared.
+    /// Returns what `current` will return once the front is cleared.
     pub fn next(&self) -> Option<(u64, Msg)>
         requires front { 0 < length self.now.queue }
         requires room { self.now.base < 2 ^ 64 - 2 }
@@ -164,9 +164,9 @@ impl Lane {
         }
     }
 
-    /// Judges whether the message with this number is taken now. It is Old if it was taken already,
-    /// Early if it is not the next one or the one before it has no receipt, and Differs if it
-    /// differs from the front.
+    /// Judges whether the message with this number can be taken now. The refusal is Old if the
+    /// message was already taken, Early if it is not the next one or the one before it has no
+    /// receipt, and Differs if it differs from the front.
     pub fn judge_take(&self, number: u64, msg: Msg) -> Result<(), Refusal>
         ensures { result ≡ judged_take self.now number msg }
     {
@@ -182,7 +182,7 @@ impl Lane {
         Ok(())
     }
 
-    /// Records that the front was taken at the other end, as `judge_take` allowed.
+    /// Records that the other end has taken the front. `judge_take` must have allowed it.
     pub fn take(&mut self)
         requires { self.old.got < 2 ^ 64 - 1 }
         ensures { self.new ≡ took self.old }
@@ -190,8 +190,8 @@ impl Lane {
         self.got += 1;
     }
 
-    /// Judges whether a receipt with this number clears the front. It is Old if its message was cleared
-    /// already, and Early if that message was not taken or is not the front.
+    /// Judges whether a receipt with this number clears the front. The refusal is Old if its
+    /// message was already cleared, and Early if that message was not taken or is not the front.
     pub fn judge_clear(&self, number: u64) -> Result<(), Refusal>
         ensures { result ≡ judged_clear self.now number }
     {
@@ -204,7 +204,7 @@ impl Lane {
         Ok(())
     }
 
-    /// Removes the front, whose receipt arrived, as `judge_clear` allowed.
+    /// Removes the front, whose receipt has arrived. `judge_clear` must have allowed it.
     pub fn clear(&mut self)
         requires front { 0 < length self.old.queue }
         requires room { self.old.base < 2 ^ 64 - 1 }
@@ -215,14 +215,16 @@ impl Lane {
         self.len -= 1;
     }
 
-    /// Tests whether the front was taken at the other end: one more message is taken than is receipted.
+    /// Tests whether the other end has taken the front, that is, one message more than is
+    /// receipted.
     pub fn is_front_taken(&self) -> bool
         ensures { result ≡ is_front_taken self.now }
     {
         self.got > self.base && self.got - self.base == 1
     }
 
-    /// Returns the messages in transit: the queue, without its front if that was taken.
+    /// Returns the messages in transit: the queue, without its front if the other end has taken
+    /// that.
     pub fn transit(&self) -> &[Msg]
         ensures { result.now ≡ transit self.now }
     {

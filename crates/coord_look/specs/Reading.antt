@@ -13,13 +13,13 @@ use Rattle.coord_member.specs.declared.view.Entry.{Entry}
 use Rattle.coord_member.specs.declared.view.Entry.TheVariants.{Node, Link}
 use Rattle.coord_member.specs.declared.view.Row.{Row}
 
--- ---- who is connected
+-- ---- which nodes are connected
 
--- a link between one of these nodes and a node that is not one of them
+-- whether the link joins one of these nodes with a node that is not one of them
 abbrev pub crosses : NodeSet → LinkView → Bool
 crosses reached link = not (beq (contains reached link.a) (contains reached link.b))
 
--- one of the links joins the two
+-- some link joins x and y
 pub record AreLinked (links : List LinkView) (x y : ℕ) : Type 0 where
   pub link : LinkView
   pub shown : IsOneOf link links
@@ -30,11 +30,11 @@ abbrev pub IsWay : List LinkView → ℕ → List ℕ → ℕ → Type 0
 IsWay links u [] v = u ≡ v
 IsWay links u (x ∷ way) v = AreLinked links u x × IsWay links x way v
 
--- exactly the nodes to which there is a path
+-- the set has exactly the nodes to which there is a path from u
 abbrev pub AreConnected : List LinkView → ℕ → NodeSet → Type 0
 AreConnected links u reached = (v : ℕ) → (contains reached v ≡ true) ↔ ((way : List ℕ) × IsWay links u way v)
 
--- ---- how they stand
+-- ---- the state of the connected nodes
 
 abbrev pub is_of : ℕ → NodeView → Bool
 is_of node row = row.node == node
@@ -44,15 +44,15 @@ is_ready_mode Ready = true
 is_ready_mode Abort = false
 is_ready_mode Converge = false
 
--- if a node is one of these, it is in no reset
+-- the node is in no reset, if it is one of these
 abbrev pub is_quiet : NodeSet → NodeView → Bool
 is_quiet reached row = not (contains reached row.node) || is_ready_mode row.mode
 
--- if a node is one of these, it is in no reset, and its epoch is confirmed
+-- the node is in no reset and has confirmed its epoch, if it is one of these
 abbrev pub is_through : NodeSet → NodeView → Bool
 is_through reached row = not (contains reached row.node) || (is_ready_mode row.mode && (row.epoch == row.confirmed))
 
--- ---- who they are
+-- ---- the entries of the party
 
 abbrev pub node_entries : NodeSet → NodeView → List Entry
 node_entries reached row = if contains reached row.node then Node row.node row.epoch ∷ [] else []
@@ -68,7 +68,7 @@ party_in reached view = flat_map (node_entries reached) view.nodes ++ flat_map (
 abbrev pub row_in : NodeSet → Shown → NodeView → Row
 row_in reached view row = record { epoch = row.epoch; confirmed = row.confirmed; through = list_all (is_through reached) view.nodes; quiet = list_all (is_quiet reached) view.nodes }
 
--- the row of this node and the entries of those that are connected with it
+-- a look at this view: the member's row and its party, from the nodes that are connected with its node
 pub record IsReadOf (view : Shown) (node : ℕ) (own : NodeView) (row : Row) (party : List Entry) : Type 0 where
   pub reached : NodeSet
   pub connected : AreConnected view.links node reached

@@ -1,5 +1,5 @@
--- What the member of a node sees of a world: its node's row, the state of the connected nodes, and which they are. Connected
--- has the same meaning as in the law of waves.
+-- What the member of a node sees of a world: its node's row, the state of the connected nodes, and its party.
+-- "Connected" has the same meaning as in the law of waves.
 use Rattle.std.specs.Prelude.{◌≡◌, ℕ, ◌<◌, ◌↔◌, true, List, [], ◌∷◌, Some}
 use Rattle.coord_types.specs.Table.{has}
 use Rattle.coord_types.specs.declared.messages.Mode.TheVariants.{Ready}
@@ -16,14 +16,15 @@ abbrev pub AllDistinct : {A : Type 0} → List A → Type 0
 AllDistinct [] = Unit {0}
 AllDistinct (x ∷ xs) = (IsOneOf x xs → ⊥) × AllDistinct xs
 
--- a link of the world, with its lesser end first
+-- the world has this link, with its lesser end first
 pub record IsWorldLink (w : World) (a b incarnation : ℕ) : Type 0 where
   pub turned : a < b
   pub lane : Lane
   pub there : lane_at w.links a b ≡ Some lane
   pub made : lane.inc ≡ incarnation
 
--- exactly the nodes that are connected with node i, each with its epoch, and exactly the links between them
+-- the party has exactly the nodes that are connected with node i, each with its epoch, and exactly the links between
+-- them
 pub record IsPartyOf (w : World) (i : ℕ) (now : List Entry) : Type 0 where
   pub every_node : (n : ℕ) → has w.nodes n ≡ true → Connected w i n → IsOneOf (Node n (state w n).epoch) now
   pub every_link : (a b incarnation : ℕ) → Connected w i a → IsWorldLink w a b incarnation → IsOneOf (Link a b incarnation) now
@@ -31,7 +32,7 @@ pub record IsPartyOf (w : World) (i : ℕ) (now : List Entry) : Type 0 where
   pub links : (a b incarnation : ℕ) → IsOneOf (Link a b incarnation) now → Connected w i a × IsWorldLink w a b incarnation
   pub once : AllDistinct now
 
--- in no reset, with its epoch confirmed
+-- the node is in no reset, and its epoch is confirmed
 pub record IsThrough (w : World) (v : ℕ) : Type 0 where
   pub ready : (state w v).mode ≡ Ready
   pub confirmed : (state w v).epoch ≡ (state w v).confirmed

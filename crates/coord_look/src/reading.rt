@@ -12,22 +12,22 @@ use coord_types::{Mode, NodeId, NodeSet};
 use coord_view::{LinkView, NodeView, View};
 use std::alloc::{AllocError, Global};
 
-/// What the member of a node sees: the row of its node, and the connected nodes and links, the
-/// nodes before the links, each in ascending order.
+/// What the member of a node reads in a view: its node's row, and its party, in which nodes come
+/// before links, each in ascending order.
 #[derive(Drop, Debug)]
 pub struct Look {
     pub row: Row,
     pub party: Vec<Entry>,
 }
 
-/// The row of a node.
+/// Returns the row of a node, or None if the node does not exist.
 fn row_of(nodes: &[NodeView], node: NodeId) -> Option<&NodeView>
     ensures { option_copied result ≡ find (is_of node) nodes.now }
 {
     nodes.iter().find(|row| row.node == node)
 }
 
-/// Returns whether each of these nodes in the view is in no reset, with its epoch confirmed.
+/// Tests whether each of these nodes in the view is in no reset and has confirmed its epoch.
 fn are_through(nodes: &[NodeView], reached: NodeSet) -> bool
     ensures { result ≡ list_all (is_through reached) nodes.now }
 {
@@ -36,14 +36,14 @@ fn are_through(nodes: &[NodeView], reached: NodeSet) -> bool
     })
 }
 
-/// Returns whether none of these nodes in the view is in a reset.
+/// Tests whether none of these nodes in the view is in a reset.
 fn are_quiet(nodes: &[NodeView], reached: NodeSet) -> bool
     ensures { result ≡ list_all (is_quiet reached) nodes.now }
 {
     nodes.iter().all(|row| !reached.contains(row.node) || row.mode == Mode::Ready)
 }
 
-/// Adds a node, if it is one of these.
+/// Appends the entry of a node, if it is one of these.
 fn push_node(party: &mut Vec<Entry>, reached: NodeSet, row: &NodeView) -> Result<(), AllocError>
     ensures { OnOk result (party.new.items ≡ party.old.items ++ node_entries reached row.now) }
 {
@@ -56,7 +56,7 @@ fn push_node(party: &mut Vec<Entry>, reached: NodeSet, row: &NodeView) -> Result
     Ok(())
 }
 
-/// Adds a link, if it is between two of these.
+/// Appends the entry of a link, if it joins two of these nodes.
 fn push_link(party: &mut Vec<Entry>, reached: NodeSet, link: &LinkView) -> Result<(), AllocError>
     ensures { OnOk result (party.new.items ≡ party.old.items ++ link_entries reached link.now) }
 {
@@ -84,7 +84,7 @@ fn party_in(alloc: Global, view: &View, reached: NodeSet) -> Result<Vec<Entry>, 
     Ok(party)
 }
 
-/// Returns what the member of a node reads in a view; None if the node does not exist.
+/// Returns what the member of a node reads in a view, or None if the node does not exist.
 pub fn look_of(alloc: Global, view: &View, node: NodeId) -> Result<Option<Look>, AllocError>
     ensures absent { IfOk result (λ found. IfNone found (find (is_of node) view.now.nodes ≡ None)) }
     ensures read { IfOk result (λ found. IfSome found (λ look. (own : NodeView) × ((find (is_of node) view.now.nodes ≡ Some own) × IsReadOf view.now node own look.row look.party.items))) }

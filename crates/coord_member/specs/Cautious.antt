@@ -1,7 +1,8 @@
 -- Members whose histories have more parties than their starts have talked with.
 --
--- A member writes the shown party into its history before it knows whether its start will talk with it, and forgets
--- which of them were written in advance if the power is cut. Such a party counts as one that a start talked with.
+-- A member writes the shown party into its history before it knows whether its start will talk with that party. After a
+-- power cut it no longer knows which parties it wrote in advance, so it treats each of them as one that a start talked
+-- with.
 use Rattle.std.specs.Prelude.{◌≡◌, ◌⊎◌, ℕ, suc, Bool, List, [], ◌∷◌, ◌++◌}
 use Rattle.coord_member.specs.declared.view.Entry.{Entry}
 use Rattle.coord_member.specs.declared.view.Row.{Row}
@@ -13,26 +14,26 @@ use Rattle.coord_member.specs.NoMix.{IsUnmixed}
 use Rattle.coord_member.specs.Honest.{nothing_shown}
 use Rattle.coord_member.specs.Fair.{IsFair}
 
--- the due action if the history has these parties too
+-- the due action if the history had these parties too
 abbrev pub due_with : List (List Entry) → Kept → Row → List Entry → Due
 due_with more kept row now = due_of kept.begun kept.party (was_before now (more ++ kept.history)) row now
 
--- they turn the due action into waiting or a reset, or change nothing: as if the member had not looked, or had
--- crashed
+-- more parties in the history turn the due action into waiting or a reset, or do not change it
 abbrev pub MoreOnlyForbids : Type 0
 MoreOnlyForbids = (more : List (List Entry)) (kept : Kept) (row : Row) (now : List Entry) → (due_with more kept row now ≡ due kept row now) ⊎ ((due_with more kept row now ≡ Wait) ⊎ (due_with more kept row now ≡ Reset))
 
--- the event that happens if these parties are added to the history of the member that looks
+-- the world after an event, if the member that looks had these parties in its history too
 abbrev pub happens_with : MemberWorld → List (List Entry) → Event → MemberWorld
 happens_with w more (Look i row now) =
     let m = w.member i in let d = due_with more m.kept row now in looked w i (member_for m (kept_for m.kept now d) row d)
 happens_with w more event = happens w event
 
--- with different parties at each event
+-- the world after these events, if histories have additional parties, which may differ from event to event
 abbrev pub run_with : (ℕ → List (List Entry)) → MemberWorld → List Event → MemberWorld
 run_with more w [] = w
 run_with more w (event ∷ events) = run_with (λ k. more (suc k)) (happens_with w (more 0) event) events
 
--- whichever members may lose their files, and whatever other parties their histories have at each look
+-- no runs are mixed, whichever members may lose their files, and whatever additional parties histories have at each
+-- look
 abbrev pub NoMixWithMore : Type 0
 NoMixWithMore = (keeps : ℕ → Bool) (made : ℕ → Entry → ℕ) (more : ℕ → List (List Entry)) (events : List Event) → IsFair keeps made nothing_shown events → IsUnmixed (run_with more new_world events)

@@ -1,7 +1,7 @@
 -- The fence of a start, and the gate of a resource that starts of several runs use.
 --
--- A start may be paused at any moment, and its requests may arrive late. So each request to a resource names its
--- start, and the resource remembers which came before.
+-- A start may be paused at any moment, and its requests may arrive late. So each request to a resource carries the
+-- fence of its start, and the gate of the resource remembers which fences it has accepted.
 use Rattle.std.specs.Prelude.{◌≡◌, ℕ, ◌<◌, ◌⊎◌, ◌&&◌, ◌||◌, nat_lt, Bool, true, false, List, [], ◌∷◌, if◌then◌else◌}
 use Rattle.std.specs.List.{AllByRecursion}
 use Rattle.std.specs.Str.{bytes_eq}
@@ -9,12 +9,12 @@ use Rattle.coord_member.specs.declared.fence.Gate.{Gate}
 
 -- ---- the gate
 
--- the gate before anything was accepted
+-- the gate of a resource that has accepted no fence
 abbrev pub new_gate : Gate
 new_gate = record { floor = 0; count = 0 }
 
--- a count that is greater than all accepted ones, or, for the run that was accepted last, greater than all those of
--- other runs
+-- whether the gate accepts a count. For the run that was accepted last (`is_own`), the count must be greater than the
+-- counts of all other runs; for another run, greater than all accepted counts
 abbrev pub admits : Gate → Bool → ℕ → Bool
 admits gate is_own count = nat_lt gate.count count || (is_own && nat_lt gate.floor count)
 
@@ -24,14 +24,14 @@ passed gate is_own count = record { floor = if is_own then gate.floor else gate.
 
 -- ---- a resource
 
--- the fence of a start: the count of the look that fixed its party, and the name of its run
+-- the fence of a start: the number of settled steps in the view that fixed its party, and the tag that names its run
 pub record Fence : Type 0 where
   pub count : ℕ
   pub tag : List ℕ
 
 pub record Resource : Type 0 where
   pub gate : Gate
-  pub tag : List ℕ  -- of the fence that was accepted last
+  pub tag : List ℕ  -- the tag of the fence that was accepted last
 
 abbrev pub new_resource : Resource
 new_resource = record { gate = new_gate; tag = [] }
@@ -45,7 +45,7 @@ accepts r f = admits r.gate (is_own r f) f.count
 abbrev pub held_by : Bool → Resource → Fence → Resource
 held_by own r f = record { gate = passed r.gate own f.count; tag = f.tag }
 
--- the gate after one fence is presented, and after several. A rejected one changes nothing
+-- the resource after one fence is presented, and after several; a rejected fence changes nothing
 abbrev pub behind : Resource → Fence → Resource
 behind r f = if accepts r f then held_by (is_own r f) r f else r
 
@@ -53,22 +53,22 @@ abbrev pub behind_all : Resource → List Fence → Resource
 behind_all r [] = r
 behind_all r (f ∷ fences) = behind_all (behind r f) fences
 
--- ---- what holds, whatever is presented, in any order, late and again
+-- ---- laws that hold for all fences, in any order, late or repeated
 
--- after a fence that was accepted, those of other runs have greater counts
+-- fences of other runs that are accepted after an accepted fence have greater counts
 abbrev pub LaterIsGreater : Type 0
 LaterIsGreater = (r : Resource) (g f : Fence) (between : List Fence) → accepts r g ≡ true → accepts (behind_all (behind r g) between) f ≡ true → (f.tag ≡ g.tag) ⊎ (g.count < f.count)
 
--- a start that was accepted before one of another run is never accepted after it
+-- a start that was accepted before a start of another run is never accepted after it
 abbrev pub NoStartReturns : Type 0
 NoStartReturns =
     (r : Resource) (f g : Fence) (between later : List Fence) → (f.tag ≡ g.tag → ⊥) → accepts r f ≡ true → accepts (behind_all (behind r f) between) g ≡ true →
     accepts (behind_all (behind (behind_all (behind r f) between) g) later) f ≡ false
 
--- of the same run, or with a lesser count
+-- fence g is of the same run as f, or has a lesser count
 abbrev pub IsNoNewer : Fence → Fence → Type 0
 IsNoNewer f g = (g.tag ≡ f.tag) ⊎ (g.count < f.count)
 
--- a fence that is newer than those of all other runs is accepted whenever it comes
+-- a fence that is newer than the fences of all other runs is accepted whenever it arrives
 abbrev pub NewestIsAccepted : Type 0
 NewestIsAccepted = (f : Fence) (fences : List Fence) → 0 < f.count → AllByRecursion (IsNoNewer f) fences → accepts (behind_all new_resource fences) f ≡ true

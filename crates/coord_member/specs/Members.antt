@@ -6,50 +6,50 @@ use Rattle.coord_member.specs.declared.rule.Due.{Due}
 use Rattle.coord_member.specs.declared.rule.Due.TheVariants.{Begin}
 use Rattle.coord_member.specs.Rule.{Kept, new_kept, due, kept_after, tag_for, begun_with, without_work, same_party}
 
--- the work that a member has from one begin to the next: no other has its serial number
+-- the work of a member from one begin to the next; each start has a different serial number
 pub record Start : Type 0 where
   pub node : ℕ
   pub epoch : ℕ
   pub serial : ℕ
 
 pub record Member : Type 0 where
-  pub kept : Kept  -- on the disk
-  pub tag : Option (List Entry)  -- in memory: it talks, in the run of this name
-  pub loading : Option ℕ  -- in memory: it loads the common start for this epoch
+  pub kept : Kept  -- on disk
+  pub tag : Option (List Entry)  -- in memory: the party that names its run, if it may talk
+  pub loading : Option ℕ  -- in memory: the epoch whose common start it is loading
   pub work : Option Start
-  pub causal_past : List Start  -- the starts that its work has heard of, at first or at second hand, itself among them
+  pub causal_past : List Start  -- the starts that its work has heard of, directly or through others, including its own start
 
 pub record Message : Type 0 where
   pub tag : List Entry
   pub causal_past : List Start
 
--- this start has talked in the run of this name
+-- a start that has talked, and the party that names its run
 pub record Talked : Type 0 where
   pub start : Start
   pub party : List Entry
 
 pub record MemberWorld : Type 0 where
   pub member : ℕ → Member
-  pub messages : List Message  -- all that were ever sent, the newest first
-  pub talked : List Talked  -- all that ever were
-  pub serial : ℕ  -- of the next start
+  pub messages : List Message  -- all messages ever sent, newest first
+  pub talked : List Talked  -- all starts that ever talked, with the names of their runs
+  pub serial : ℕ  -- the serial number of the next start
 
--- no work in hand
+-- a member without work
 abbrev pub idle : Kept → Member
 idle kept = record { kept = kept; tag = None; loading = None; work = None; causal_past = [] }
 
 abbrev pub new_world : MemberWorld
 new_world = record { member = λ i. idle new_kept; messages = []; talked = []; serial = 0 }
 
--- the next event, at member i. A lost message is never heard
+-- an event at member i; a lost message is one that is never heard
 pub data Event : Type 0 where
-  Look : (i : ℕ) → Row → List Entry → Event  -- it is shown a row of its node and those that are connected
-  Load : (i : ℕ) → Event  -- it has loaded the common start for the epoch that it begins
-  Crash : (i : ℕ) → Event  -- its files stay
-  Forget : (i : ℕ) → Event  -- its work is gone, and its other files stay
-  Lose : (i : ℕ) → Event  -- all its files are gone
+  Look : (i : ℕ) → Row → List Entry → Event  -- the member reads a view: its node's row and its party
+  Load : (i : ℕ) → Event  -- the member has loaded the common start for the epoch that it begins
+  Crash : (i : ℕ) → Event  -- the member crashes and keeps its files
+  Forget : (i : ℕ) → Event  -- the member loses its work and keeps its other files
+  Lose : (i : ℕ) → Event  -- the member loses all its files
   Send : (i : ℕ) → Event
-  Hear : (i k : ℕ) → Event  -- the k-th message comes, late, again or for the first time
+  Hear : (i k : ℕ) → Event  -- the k-th message arrives: late, again or for the first time
 
 abbrev pub with_member : MemberWorld → ℕ → Member → MemberWorld
 with_member w i m = record w { member = λ j. if j == i then m else w.member j }
@@ -60,7 +60,7 @@ abbrev pub talked_by : Option Start → Option (List Entry) → List Talked
 talked_by (Some start) (Some party) = record { start = start; party = party } ∷ []
 talked_by _ _ = []
 
--- the member after it has carried out the due action and stored the due change
+-- the member after it has stored the due change and carried out the due action
 abbrev pub member_for : Member → Kept → Row → Due → Member
 member_for m kept row Begin = record { kept = kept; tag = None; loading = Some row.epoch; work = None; causal_past = [] }
 member_for m kept row d = record m { kept = kept; tag = tag_for kept d }
@@ -71,7 +71,7 @@ member_after m row now = member_for m (kept_after m.kept row now) row (due m.kep
 abbrev pub looked : MemberWorld → ℕ → Member → MemberWorld
 looked w i m = with_member (record w { talked = talked_by m.work m.tag ++ w.talked }) i m
 
--- ---- a begin's second half
+-- ---- the end of a begin
 
 abbrev pub loaded : MemberWorld → ℕ → Option ℕ → MemberWorld
 loaded w i None = w
@@ -85,7 +85,7 @@ abbrev pub message_of : Option (List Entry) → List Start → List Message
 message_of None causal_past = []
 message_of (Some tag) causal_past = record { tag = tag; causal_past = causal_past } ∷ []
 
--- only a member that talks hears, and only messages with its own tag
+-- whether a member accepts a message: it must talk, and the message must have its own tag
 abbrev pub is_of_run : Option (List Entry) → List Entry → Bool
 is_of_run None tag = false
 is_of_run (Some own) tag = same_party own tag

@@ -1,4 +1,4 @@
--- Two members that refuse each other: each talks in another run, and both see the same.
+-- Two members that refuse each other's messages: they talk in different runs, although both see the same party.
 use Rattle.std.specs.Prelude.{◌≡◌, false, List, Some}
 use Rattle.coord_member.specs.declared.view.Entry.{Entry}
 use Rattle.coord_member.specs.declared.view.Row.{Row}
@@ -6,16 +6,17 @@ use Rattle.coord_member.specs.declared.rule.Due.{Due}
 use Rattle.coord_member.specs.declared.rule.Due.TheVariants.{Talk, Reset}
 use Rattle.coord_member.specs.Rule.{Kept, due, due_when_refused, kept_after, same_party, tag_for}
 
--- the due action after the look that a rejected message caused; the message says what its sender saw
+-- the due action after a message was rejected and the member looked again; `own` is its tag, `tag` the tag of the
+-- message, and `shown` what the message's sender saw
 abbrev pub due_at_refusal : Kept → Row → List Entry → List Entry → List Entry → List Entry → Due
 due_at_refusal kept row now own tag shown = due_when_refused (due kept row now) (same_party own tag) (same_party now shown)
 
--- a talking member, with its tag
+-- the member talks, with this tag
 pub record TalksBy (kept : Kept) (row : Row) (now tag : List Entry) : Type 0 where
   pub talks : due kept row now ≡ Talk
   pub by : tag_for (kept_after kept row now) Talk ≡ Some tag
 
--- both ask for a reset, so that they don't wait for each other forever
+-- both members ask for a reset, so they do not wait for each other forever
 abbrev pub RefusersAsk : Type 0
 RefusersAsk = (k l : Kept) (r s : Row) (now own other : List Entry) → TalksBy k r now own → TalksBy l s now other → same_party own other ≡ false →
     (due_at_refusal k r now own other now ≡ Reset) × (due_at_refusal l s now other own now ≡ Reset)

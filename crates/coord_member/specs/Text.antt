@@ -1,4 +1,4 @@
--- The text of a party: a line for each of its entries.
+-- The text of a party: one line for each of its entries.
 use Rattle.std.specs.Prelude.{◌≡◌, ℕ, ◌^◌, ◌<◌, List, ◌++◌, codes, decimal}
 use Rattle.std.specs.List.{AllByRecursion, flat_map}
 use Rattle.coord_member.specs.declared.view.Entry.{Entry}
@@ -11,7 +11,7 @@ entry_line (Link a b incarnation) = decimal a ++ (codes " " ++ (decimal b ++ (co
 abbrev pub party_text : List Entry → List ℕ
 party_text = flat_map entry_line
 
--- the numbers fit into their type
+-- the numbers fit into a u64
 abbrev pub IsWritten : Entry → Type 0
 IsWritten (Node n e) = (n < 2 ^ 64) × (e < 2 ^ 64)
 IsWritten (Link a b incarnation) = (a < 2 ^ 64) × (b < 2 ^ 64) × (incarnation < 2 ^ 64)

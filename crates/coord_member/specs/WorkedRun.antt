@@ -1,5 +1,6 @@
--- Two members talk; the second loses its files, and its node is removed and added again, so that it begins its epoch 1 twice. And
--- a store is restored, so that the first sees an old party again.
+-- Two worked runs. In the first, two members talk; the second member loses its files, and its node is removed and added
+-- again, so it begins its epoch 1 twice. In the second, a store is restored, so a member sees a party again that it
+-- already talked with.
 use Rattle.std.specs.Prelude.{◌≡◌, ℕ, ◌==◌, ◌&&◌, List, [], ◌∷◌, ◌++◌, Some, None, true, false, if◌then◌else◌}
 use Rattle.coord_member.specs.declared.view.Entry.{Entry}
 use Rattle.coord_member.specs.declared.view.Entry.TheVariants.{Node, Link}
@@ -9,7 +10,7 @@ use Rattle.coord_member.specs.Rule.{due}
 use Rattle.coord_member.specs.Members.{Event, Look, Load, Crash, Lose, Send, Hear, new_world, run}
 use Rattle.coord_member.specs.Honest.{IsHonest, nothing_shown}
 
--- the link of the second life has incarnation 9
+-- the life in which a link was made: node 2's link with incarnation 9 belongs to its second life
 abbrev pub life_of : ℕ → Entry → ℕ
 life_of n (Node m e) = 0
 life_of n (Link a b incarnation) = if (n == 2) && (incarnation == 9) then 1 else 0
@@ -31,10 +32,10 @@ worked =
     Look 1 (begins 1) before ∷ Load 1 ∷ Look 2 (begins 1) before ∷ Crash 2 ∷ Look 2 (begins 1) before ∷ Load 2
     ∷ Look 1 (talks 1) before ∷ Look 2 (talks 1) before ∷ Send 2 ∷ Hear 1 0
     ∷ Lose 2 ∷ Look 2 (begins 1) behind ∷ Load 2 ∷ Look 1 (record { epoch = 2; confirmed = 1; through = false; quiet = true }) behind ∷ Load 1
-    -- the old message is refused, and the new one heard
+    -- the old message is rejected, and the new one is heard
     ∷ Look 1 (talks 2) behind ∷ Look 2 (talks 1) behind ∷ Send 2 ∷ Hear 1 1 ∷ Hear 1 0 ∷ []
 
--- a store is restored: member 1 sees a party again that it talked with
+-- a store is restored: member 1 sees a party again that it already talked with
 abbrev pub talked_once : List Event
 talked_once = Look 1 (begins 1) before ∷ Load 1 ∷ Look 1 (talks 1) before ∷ []
 
@@ -47,7 +48,7 @@ pub record WorkedRun : Type 0 where
       ((run new_world worked).member 1).causal_past
       ≡ record { node = 2; epoch = 1; serial = 2 } ∷ record { node = 1; epoch = 2; serial = 3 } ∷ []
   pub tag : ((run new_world worked).member 1).tag ≡ Some behind
-  -- the member talks by that party once, and by another one again
+  -- the member talks in the run of that party once, and later in the run of another party
   pub once : ((run new_world talked_once).member 1).tag ≡ Some before
   pub refused : ((run new_world put_back).member 1).tag ≡ None
   pub asks : due ((run new_world put_back).member 1).kept (talks 1) before ≡ Reset

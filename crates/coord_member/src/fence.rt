@@ -3,14 +3,14 @@
 ghost use Rattle.std.specs.Prelude.{◌≡◌, Some, None, if◌then◌else◌};
 ghost use Rattle.coord_member.specs.Fence.{admits, new_gate, passed};
 
-/// The state of a resource's gate: what it keeps about the fences that it has accepted, beside the
-/// tag of the last one.
+/// The gate of a resource: the counts that it keeps of the fences that it has accepted. The
+/// resource also keeps the tag of the last one.
 #[derive(Clone, Copy, PartialEq, Eq, Debug)]
 pub struct Gate {
-    /// The greatest accepted count at the moment when the last tag replaced another one: a fence
-    /// with the last tag must be above it.
+    /// The greatest count that was accepted before the last change of the tag: a fence with the
+    /// last tag must have a greater count.
     pub floor: u64,
-    /// The greatest accepted count: a fence with any other tag must be above it.
+    /// The greatest accepted count: a fence with another tag must have a greater count.
     pub count: u64,
 }
 
@@ -22,8 +22,8 @@ impl Gate {
         Gate { floor: 0, count: 0 }
     }
 
-    /// Returns the gate after a fence with this count; a flag says whether its tag is that of the
-    /// last accepted one. None: the fence is refused, and nothing changes.
+    /// Returns the gate after it accepts a fence with this count, or None if it refuses the fence.
+    /// `is_own` says whether the fence has the tag of the last accepted one.
     pub fn pass(self, is_own: bool, count: u64) -> Option<Gate>
         ensures { result ≡ (if admits self is_own count then Some (passed self is_own count) else None) }
     {

@@ -1,4 +1,4 @@
-//! What a member keeps, and what a view makes of it.
+//! The state that a member keeps on disk, and the rule applied to it.
 
 ghost use Rattle.std.specs.Prelude.{◌≡◌, [], ◌∷◌, ◌++◌, IfOk, OnOk, map};
 ghost use Rattle.coord_member.specs.Rule.{due, kept_after, was_before};
@@ -9,12 +9,12 @@ use crate::view::{Entry, Row};
 use std::alloc::{AllocError, Global};
 use std::marker::Model;
 
-/// What a member keeps on the disk beside its work.
+/// The state that a member keeps on disk besides its work.
 #[derive(Drop, Debug)]
 pub struct Kept {
-    /// The epoch of the work in hand; None: no work is begun.
+    /// The epoch of the present work, or None if no work is begun.
     begun: Option<u64>,
-    /// The party with which the present start first talked; None: it has talked with nobody yet.
+    /// The party with which the present start first talked, or None if it has not talked yet.
     party: Option<Vec<Entry>>,
     /// The parties with which the member's starts have first talked.
     history: Vec<Vec<Entry>>,
@@ -34,7 +34,7 @@ impl Model for Kept {
     } };
 }
 
-/// The due action, and what must be on disk before it.
+/// The due action, and the state that must be on disk before it.
 #[derive(Drop, Debug)]
 pub struct Judged {
     pub due: Due,
@@ -45,9 +45,9 @@ impl Judged {
     ghost use Rattle.coord_member.specs.Rule.{tag_for};
     ghost use Rattle.std.specs.Option.{option_map};
 
-    /// The party whose digest is the tag of each message, as long as the member talks: that of its
-    /// first talk, not the one shown now. None: it doesn't talk, or was alone at its first talk,
-    /// and sends nothing and hears nothing.
+    /// Returns the party whose digest is the tag of each message: the one with which the start
+    /// first talked, which may differ from the one shown now. Returns None if the member may not
+    /// talk, or was alone when it first talked; it then sends and accepts no messages.
     pub fn tag(&self) -> Option<&[Entry]>
         ensures { option_map (λ party. party.now) result ≡ tag_for self.now.kept self.now.due }
     {
@@ -63,7 +63,7 @@ impl Kept {
     ghost use Rattle.std.specs.Prelude.{is_some};
     ghost use Rattle.coord_member.specs.Rule.{begun_with, changed, due, new_kept, run_of, was_before};
 
-    /// Nothing was ever begun.
+    /// Returns the state of a new member: no work was ever begun.
     pub fn new(alloc: Global) -> Self
         ensures { result ≡ new_kept }
     {
@@ -74,14 +74,15 @@ impl Kept {
         }
     }
 
-    /// Whether its start has talked.
+    /// Tests whether the present start has talked.
     fn has_party(&self) -> bool
         ensures { result ≡ is_some self.now.party }
     {
         self.party.is_some()
     }
 
-    /// The run of its start, if that talked with anybody.
+    /// Returns the party that names the run of the present start, if it has talked with another
+    /// node.
     fn run(&self) -> Option<&[Entry]>
         ensures { option_map (λ party. party.now) result ≡ run_of self.now.party }
     {
@@ -97,7 +98,7 @@ impl Kept {
         }
     }
 
-    /// Returns the action that a view requires of it.
+    /// Returns the action that the rule requires for this view.
     fn due(&self, row: Row, now: &[Entry]) -> Due
         ensures { result ≡ due self.now row now.now }
     {
@@ -144,7 +145,7 @@ impl Kept {
         }
     }
 
-    /// The common start is loaded, and on the disk with that epoch, after a begin.
+    /// Returns the state once the common start for this epoch is loaded and on disk, after a begin.
     pub fn begun(self, epoch: u64) -> Self
         requires { (self.begun ≡ None) × (self.party ≡ None) }
         ensures { result ≡ begun_with self epoch }
@@ -158,7 +159,7 @@ impl Kept {
     }
 }
 
-/// A party joins the history.
+/// Adds a party to the history.
 fn append(alloc: Global, history: &mut Vec<Vec<Entry>>, now: &[Entry]) -> Result<(), AllocError>
     ensures { OnOk result (map (λ v. v.items) history.new.items ≡ map (λ v. v.items) history.old.items ++ (now.now ∷ [])) }
 {
@@ -166,7 +167,7 @@ fn append(alloc: Global, history: &mut Vec<Vec<Entry>>, now: &[Entry]) -> Result
     Ok(())
 }
 
-/// Whether a start talked with just these.
+/// Tests whether a start has talked with exactly this party.
 fn was_before(now: &[Entry], history: &[Vec<Entry>]) -> bool
     ensures { result ≡ was_before now.now (map (λ v. v.items) history.now) }
 {
@@ -179,9 +180,9 @@ fn was_before(now: &[Entry], history: &[Vec<Entry>]) -> bool
     was
 }
 
-/// Judges a view for a member. The stored values must be on disk before the member acts: a party
-/// joins the history before it is noted as the start's own, and a begin leaves neither work nor
-/// party.
+/// Applies the rule to a view. The returned state must be on disk before the member acts. A party
+/// must be in the history on disk before it is recorded as the start's own, and a begin must leave
+/// no work and no party on disk.
 #[tactic(auto, using(crate::proofs::Changed::changed_is))]
 pub fn judge(alloc: Global, kept: Kept, row: Row, now: Vec<Entry>) -> Result<Judged, AllocError>
     ensures due { IfOk result (λ judged. judged.due ≡ due kept row now.items) }

@@ -1,4 +1,4 @@
-//! The laws of members: functions that do nothing, whose contracts are the laws.
+//! The laws of members: functions without a body whose contracts state the laws.
 
 ghost use Rattle.coord_member.specs.Cautious.{MoreOnlyForbids, NoMixWithMore};
 ghost use Rattle.coord_member.specs.Fair.{NoMixFair};
@@ -10,67 +10,70 @@ ghost use Rattle.coord_member.specs.Refusals.{RefusersAsk};
 ghost use Rattle.coord_member.specs.Text.{PartyTextInjective};
 ghost use Rattle.coord_member.specs.WorkedRun.{WorkedRun};
 
-/// Whatever is shown to any number of members that lose no files, in any order, and however often
-/// and late messages are heard: no start ever hears of two starts of one member, everything that a
-/// talking start has heard came from starts that talked in its run, and a start talks in only one
-/// run.
+/// No start ever hears of two starts of one member; all starts that a talking start has heard of
+/// have talked in its run; and no start talks in two runs. This holds for any number of members
+/// that lose no files, whatever views they see, in any order, and however late or often messages
+/// are heard.
 pub fn no_mix()
     ensures { NoMix }
 {}
 
-/// The same if members may lose all their files at any moment, provided that the shown views are a
-/// store's history: a confirmed epoch doesn't fall while its node stays, and no link comes again.
+/// The same law for members that may lose all their files at any moment, provided that the views
+/// they see are a store's history: a confirmed epoch does not fall while its node exists, and no
+/// removed link returns.
 pub fn no_mix_where_files_are_lost()
     ensures { NoMixHonest }
 {}
 
-/// Both at once: members that keep their files may see anything, while others lose theirs.
+/// Both laws at once: members that keep their files may see any views, while others lose their
+/// files.
 pub fn no_mix_where_some_files_are_lost()
     ensures { NoMixFair }
 {}
 
-/// Parties in a member's history that no start of it talked with turn the due action into waiting
-/// or a reset, or change nothing.
+/// Parties in a member's history that none of its starts talked with turn the due action into
+/// waiting or a reset, or do not change it.
 #[tactic(auto, using(crate::proofs::Cautious::more_only_forbids))]
 pub fn more_only_forbids()
     ensures { MoreOnlyForbids }
 {}
 
-/// So no runs are mixed if members write a party into their histories before they know whether they
-/// will talk with it, and forget that they did: at each look a history may have any number of other
-/// parties.
+/// No runs are mixed even if members write a party into their histories before they know whether
+/// they will talk with it, and forget that they did: at each look a history may have any number of
+/// additional parties.
 #[tactic(auto, using(crate::proofs::Fair::no_mix_with_more))]
 pub fn no_mix_with_more_parties()
     ensures { NoMixWithMore }
 {}
 
-/// A member that reads back what `specs/OnDisk.antt` requires continues like one that has crashed,
-/// or whose work is gone, and whose history has more parties.
+/// A member that reads back what `specs/OnDisk.antt` requires continues like a member that has
+/// crashed, or that has lost its work, and whose history has more parties.
 #[tactic(auto, using(crate::proofs::OnDisk::left_is_enough))]
 pub fn what_is_left_is_enough()
     ensures { LeftIsEnough }
 {}
 
-/// After a fence that a resource accepted, it accepts those of other runs only with greater counts.
+/// After a resource has accepted a fence, it accepts fences of other runs only with greater counts.
 #[tactic(auto, using(crate::proofs::Fences::later_is_greater))]
 pub fn later_fences_are_greater()
     ensures { LaterIsGreater }
 {}
 
-/// A start that a resource accepted before one of another run is never accepted after it, whatever
-/// is presented, in any order, late and again.
+/// A start that a resource accepted before a start of another run is never accepted after it,
+/// whatever fences are presented, in any order, late or repeated.
 #[tactic(auto, using(crate::proofs::Fences::no_start_returns))]
 pub fn no_start_returns()
     ensures { NoStartReturns }
 {}
 
-/// A fence that is newer than those of all other runs is accepted whenever it comes.
+/// A fence that is newer than the fences of all other runs is accepted whenever it arrives.
 #[tactic(auto, using(crate::proofs::Fences::newest_is_accepted))]
 pub fn newest_fence_is_accepted()
     ensures { NewestIsAccepted }
 {}
 
-/// Two talking members that see the same and refuse each other both ask for a reset.
+/// Two talking members that see the same party and refuse each other's messages both ask for a
+/// reset.
 pub fn refusers_ask()
     ensures { RefusersAsk }
 {}
@@ -81,9 +84,9 @@ pub fn party_text_injective()
     ensures { PartyTextInjective }
 {}
 
-/// Worked runs: a member begins an epoch a second time, with its files lost and its node in another
-/// life, and only that start is heard; a store is restored, and a member sees a party again that it
-/// talked with.
+/// Worked runs: a member that has lost its files begins an epoch a second time, after its node was
+/// removed and added again, and only its second start is heard; a store is restored, and a member
+/// sees a party again that it already talked with.
 pub fn worked_run()
     ensures { WorkedRun }
 {}

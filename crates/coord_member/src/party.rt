@@ -1,4 +1,4 @@
-//! Parties: those that are connected, as a list in one order that all members share.
+//! Parties: the nodes and links that are connected, as a list in an order that all members share.
 
 ghost use Rattle.std.specs.Prelude.{◌≡◌};
 ghost use Rattle.std.specs.List.{list_any};
@@ -6,28 +6,28 @@ ghost use Rattle.coord_member.specs.Rule.{is_alone, is_within, same_entry, same_
 
 use crate::view::Entry;
 
-/// Whether these have this entry.
+/// Tests whether the party has this entry.
 fn has(party: &[Entry], entry: Entry) -> bool
     ensures { result ≡ list_any (same_entry entry) party.now }
 {
     party.iter().any(|other| entry == *other)
 }
 
-/// Whether each of these is in the party.
+/// Tests whether each entry of `now` is in the party.
 pub fn is_within(now: &[Entry], party: &[Entry]) -> bool
     ensures { result ≡ is_within now.now party.now }
 {
     now.iter().all(|entry| has(party, *entry))
 }
 
-/// Whether these are the same, in the same order.
+/// Tests whether two parties have the same entries in the same order.
 pub fn same_party(now: &[Entry], party: &[Entry]) -> bool
     ensures { result ≡ same_party now.now party.now }
 {
     now == party
 }
 
-/// Whether this is a node that is connected with nobody.
+/// Tests whether the party is a single node.
 pub fn is_alone(party: &[Entry]) -> bool
     ensures { result ≡ is_alone party.now }
 {

@@ -1,4 +1,4 @@
-//! The rule, without memory.
+//! The rule, without allocation.
 
 ghost use Rattle.std.specs.Prelude.{◌≡◌};
 ghost use Rattle.std.specs.Option.{option_map};
@@ -7,34 +7,36 @@ ghost use Rattle.coord_member.specs.Rule.{admits, change_of, due_of, due_when_re
 use crate::party::{is_alone, is_within};
 use crate::view::{Entry, Row};
 
-/// The action of a member.
+/// The action that the rule requires of a member.
 #[derive(Clone, Copy, PartialEq, Eq, Debug)]
 pub enum Due {
-    /// The member talks, in the run of its party.
+    /// The member may talk, in the run of its party.
     Talk,
-    /// The member waits for others, or for a reset in progress.
+    /// The member waits for other members, or for the end of a reset.
     Wait,
-    /// The member begins the shown epoch: it drops its work, loads the common start and confirms.
+    /// The member begins the shown epoch: it discards its work, loads the common start and
+    /// confirms.
     Begin,
     /// The member asks for a reset.
     Reset,
 }
 
-/// How the stored values change before the due action.
+/// The change of the stored values before the due action.
 #[derive(Clone, Copy, PartialEq, Eq, Debug)]
 pub enum Change {
-    /// Nothing.
+    /// The stored values do not change.
     Keeps,
-    /// No work is begun any more, and the start has no party: both in one write, or after the work
-    /// itself is dropped.
+    /// No work is begun any more, and the start has no party. Both are stored in one write, or
+    /// after the work itself is discarded.
     Drops,
-    /// The shown party becomes the start's party. It is alone, so it is not added to the history.
+    /// The shown party becomes the start's party. It is a single node, so it is not added to the
+    /// history.
     NotesAlone,
     /// The shown party is added to the history, and then becomes the start's party.
     NotesFirst,
 }
 
-/// Returns whether the work in hand, if there is any, belongs to the shown epoch, which is
+/// Tests whether the present work, if there is any, is of the shown epoch, and that epoch is
 /// confirmed.
 fn is_begun(begun: Option<u64>, row: Row) -> bool
     ensures { result ≡ is_begun begun row }
@@ -42,8 +44,8 @@ fn is_begun(begun: Option<u64>, row: Row) -> bool
     row.epoch == row.confirmed && begun == Some(row.epoch)
 }
 
-/// Returns whether nobody has joined those that the start first talked with, or, if it didn't talk,
-/// whether no start before it talked with exactly these.
+/// Tests whether the start may talk: if it has talked, no entry was added to its party; if not, no
+/// earlier start talked with exactly this party.
 fn admits(party: Option<&[Entry]>, was: bool, now: &[Entry]) -> bool
     ensures { result ≡ admits (option_map (λ p. p.now) party.entry) was now.now }
 {
@@ -53,8 +55,8 @@ fn admits(party: Option<&[Entry]>, was: bool, now: &[Entry]) -> bool
     }
 }
 
-/// Returns the due action. `begun` is the epoch of the present work, `party` the one with which its
-/// start first talked, and `was` says whether any start talked with exactly the shown party.
+/// Returns the due action. `begun` is the epoch of the present work, `party` the party with which
+/// its start first talked, and `was` says whether any start talked with exactly the shown party.
 pub fn due_of(
     begun: Option<u64>,
     party: Option<&[Entry]>,
@@ -78,7 +80,8 @@ pub fn due_of(
     if row.quiet { Due::Reset } else { Due::Wait }
 }
 
-/// Returns what changes on disk before the action; `has_party`: the start has talked.
+/// Returns the change that is stored before the action. `has_party` says whether the start has
+/// talked.
 pub fn change_of(due: Due, has_party: bool, now: &[Entry]) -> Change
     ensures { result ≡ change_of due has_party now.now }
 {
@@ -91,9 +94,9 @@ pub fn change_of(due: Due, has_party: bool, now: &[Entry]) -> Change
     }
 }
 
-/// Returns the due action after a member rejected a message for its tag and looked. If it is due to
-/// talk, still with another tag, and the sender saw exactly what it sees itself, no look of either
-/// can bring the two together, and it asks for a reset.
+/// Returns the due action after a member rejected a message because of its tag and looked again. If
+/// it may still talk, with another tag than the sender's, and the sender saw exactly what the
+/// member sees, no look by either can reconcile them, and the member asks for a reset.
 pub fn on_refused(due: Due, is_same_tag: bool, is_same_view: bool) -> Due
     ensures { result ≡ due_when_refused due is_same_tag is_same_view }
 {

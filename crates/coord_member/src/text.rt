@@ -6,7 +6,7 @@ ghost use Rattle.coord_member.specs.Text.{entry_line, party_text};
 use crate::view::Entry;
 use std::alloc::{AllocError, Global};
 
-/// Adds the line of an entry: a node's number and epoch, or a link's ends and incarnation.
+/// Appends the line of an entry: a node's number and epoch, or a link's ends and incarnation.
 pub fn print_entry(text: &mut String, entry: Entry) -> Result<(), AllocError>
     ensures { OnOk result (string_bytes text.new ≡ string_bytes text.old ++ entry_line entry) }
 {
@@ -16,8 +16,9 @@ pub fn print_entry(text: &mut String, entry: Entry) -> Result<(), AllocError>
     }
 }
 
-/// The text of a party: the line of each entry, in the party's order. Its digest is the tag of
-/// those who talk in that run; docs/SERVICES.md requires the order of the lines' bytes.
+/// Returns the text of a party: the lines of its entries, in the party's order. Its digest is the
+/// tag of the members that talk in that run; docs/SERVICES.md requires that the lines are in the
+/// order of their bytes.
 pub fn party_text(alloc: Global, party: &[Entry]) -> Result<String, AllocError>
     ensures { IfOk result (λ text. string_bytes text ≡ party_text party.now) }
 {

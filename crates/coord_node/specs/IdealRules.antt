@@ -10,11 +10,11 @@ use Rattle.coord_types.specs.declared.steps.Step.TheVariants.{Order, Take, Clear
 use Rattle.coord_node.specs.Rules.{Transition, with_neighbour}
 use Rattle.coord_node.specs.Steps.{transitions}
 
--- the messages that a transition sends to y
+-- the messages that a transition sends to node y
 abbrev pub added : Transition → ℕ → List Msg
 added d y = if set.contains d.to y then d.message ∷ [] else []
 
--- node u has the state r
+-- sets the state of node u to r
 abbrev pub set_state : Ideal → ℕ → NodeState → Ideal
 set_state w u r = record w { state = λ x. if x == u then r else w.state x }
 
@@ -25,7 +25,7 @@ ideal_applied w u d = record w {
   in_transit = λ x y. if (x == u) && w.linked x y then w.in_transit x y ++ added d y else w.in_transit x y;
 }
 
--- these transitions, one after the other
+-- applies these transitions, one after the other
 abbrev pub ideal_all_applied : Ideal → List (ℕ × Transition) → Ideal
 ideal_all_applied w [] = w
 ideal_all_applied w (d ∷ ds) = ideal_all_applied (ideal_applied w d.0 d.1) ds
@@ -34,11 +34,11 @@ ideal_all_applied w (d ∷ ds) = ideal_all_applied (ideal_applied w d.0 d.1) ds
 abbrev pub headed : Ideal → ℕ → ℕ → Ideal
 headed w v u = record w { in_transit = λ x y. if (x == v) && (y == u) then behind_front (w.in_transit x y) else w.in_transit x y }
 
--- whether x and y are a and b
+-- whether x and y are a and b, in either order
 abbrev pub is_link : ℕ → ℕ → ℕ → ℕ → Bool
 is_link a b x y = ((x == a) && (y == b)) || ((x == b) && (y == a))
 
--- links a and b, with nothing in transit
+-- links a and b, with no message in transit
 abbrev pub linked_up : Ideal → ℕ → ℕ → Ideal
 linked_up w a b = record w {
   state = λ x. if x == b then with_neighbour (w.state b) a else (if x == a then with_neighbour (w.state a) b else w.state x);
@@ -46,11 +46,11 @@ linked_up w a b = record w {
   in_transit = λ x y. if is_link a b x y then [] else w.in_transit x y;
 }
 
--- removes the link of a and b, with the messages in transit
+-- removes the link of a and b, and the messages in transit on it
 abbrev pub without_link : Ideal → ℕ → ℕ → Ideal
 without_link w a b = record w { linked = λ x y. not (is_link a b x y) && w.linked x y; in_transit = λ x y. if is_link a b x y then [] else w.in_transit x y }
 
--- the changes of a step that precede any node's transition
+-- the part of a command's effect that comes before any transition
 abbrev pub ideal_ordered : Ideal → Command → Ideal
 ideal_ordered w (Add u g) = set_state w u (new_node g)
 ideal_ordered w (Remove u) = set_state w u no_node

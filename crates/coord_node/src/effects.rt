@@ -6,10 +6,10 @@ ghost use Rattle.coord_types.specs.NodeSet as set;
 use coord_types::{Msg, NodeId, NodeSet};
 use std::alloc::{AllocError, Global};
 
-/// The messages to be sent, and whether the node finished a reset.
+/// The messages to send, and whether the node finished a reset.
 #[derive(Drop, Debug)]
 pub struct Effects {
-    /// The receivers, in ascending order, each with its message.
+    /// The messages with their receivers, in ascending order of the receivers.
     pub sends: Vec<(NodeId, Msg)>,
     /// Whether the node entered its next epoch.
     pub finished: bool,
@@ -27,7 +27,7 @@ impl Effects {
         }
     }
 
-    /// Returns an Ack to one node.
+    /// Returns effects that send an Ack to one node.
     pub(crate) fn answer(alloc: Global, to: NodeId) -> Result<Self, AllocError>
         ensures sends { IfOk result (λ d. d.sends.items ≡ record { 0 = to; 1 = Msg.Ack } ∷ []) }
         ensures finished { IfOk result (λ d. d.finished ≡ false) }
@@ -40,7 +40,7 @@ impl Effects {
     }
 }
 
-/// Returns one message to each of these nodes, in ascending order.
+/// Returns effects that send this message to each of these nodes, in ascending order.
 pub(crate) fn sends_to(
     alloc: Global,
     to: NodeSet,

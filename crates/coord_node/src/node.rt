@@ -55,22 +55,22 @@ impl Model for Node {
     } };
 }
 
-/// All fields of a node, to restore it from.
+/// All fields of a node, from which `Node::restore` makes the node.
 #[derive(Clone, Copy, Debug)]
 pub struct NodeFields {
     pub group: Group,
     pub mode: Mode,
     /// The neighbour to which the node owes its acknowledgement.
     pub parent: Option<NodeId>,
-    /// The neighbours whose acknowledgement the node awaits.
+    /// The neighbours from which the node awaits an acknowledgement.
     pub pend: NodeSet,
     pub neighbours: NodeSet,
     /// The number of resets that the node has finished.
     pub epoch: u64,
     /// The last epoch whose signal the service is known to have acted on.
     pub confirmed: u64,
-    /// The number of links between the node and the one that began its reset; 0 for a Ready node, and
-    /// in version 1.
+    /// The number of links between the node and the node that began its reset; 0 for a Ready node
+    /// and in version 1.
     pub distance: u64,
 }
 
@@ -137,35 +137,36 @@ impl Node {
         self.parent
     }
 
-    /// The neighbours whose acknowledgement the node awaits.
+    /// Returns the neighbours from which the node awaits an acknowledgement.
     pub fn pend(&self) -> NodeSet
         ensures { result ≡ self.now.pend }
     {
         self.pend
     }
 
-    /// Returns the nodes that it has links to.
+    /// Returns the nodes to which this node has links.
     pub fn neighbours(&self) -> NodeSet
         ensures { result ≡ self.now.neighbours }
     {
         self.neighbours
     }
 
-    /// Returns the number of resets that it has finished.
+    /// Returns the number of resets that the node has finished.
     pub fn epoch(&self) -> u64
         ensures { result ≡ self.now.epoch }
     {
         self.epoch
     }
 
-    /// The last epoch whose signal the service is known to have acted on.
+    /// Returns the last epoch whose signal the service is known to have acted on.
     pub fn confirmed(&self) -> u64
         ensures { result ≡ self.now.confirmed }
     {
         self.confirmed
     }
 
-    /// Returns the number of links between the node and the one that began its reset; 0 for a Ready node.
+    /// Returns the number of links between the node and the node that began its reset; 0 for a
+    /// Ready node and in version 1.
     pub fn distance(&self) -> u64
         ensures { result ≡ self.now.distance }
     {
@@ -191,8 +192,8 @@ impl Node {
         self.wave_on(alloc, version, None, others, 0)
     }
 
-    /// Handles an Abort from a neighbour, with the distance that a Ready node takes; in version 1 it
-    /// always takes 0.
+    /// Handles an Abort from a neighbour. A Ready node takes the distance that it carries, or 0 in
+    /// version 1.
     #[tactic(auto, using(coord_types::proofs::Sets::listed))]
     pub fn on_abort(
         &mut self,
@@ -264,7 +265,7 @@ impl Node {
         }
     }
 
-    /// Drops the link to a neighbour.
+    /// Handles the loss of the link to a neighbour.
     pub fn lost(&mut self, alloc: Global, other: NodeId) -> Result<Effects, AllocError>
         requires { self.old.epoch < 2 ^ 64 - 1 }
         ensures state { OnOk result (self.new ≡ (lost self.old other).state) }
@@ -280,7 +281,7 @@ impl Node {
         Ok(effects)
     }
 
-    /// Adds a link to another node.
+    /// Handles a new link to another node.
     pub fn gained(&mut self, alloc: Global, other: NodeId) -> Effects
         ensures state { self.new ≡ with_neighbour self.old other }
         ensures sends { result.sends.items ≡ [] }
@@ -320,7 +321,8 @@ impl Node {
         })
     }
 
-    /// Takes this distance, passes the abort wave on, and awaits the nodes that it sent it to.
+    /// Enters a reset with this distance and parent: passes the abort wave on to `others`, and
+    /// awaits their acknowledgements.
     fn wave_on(
         &mut self,
         alloc: Global,
@@ -357,7 +359,7 @@ impl Node {
         kept(version, self.distance + 1)
     }
 
-    /// Handles the last awaited acknowledgement.
+    /// Handles the arrival of the last awaited acknowledgement.
     #[tactic(auto, using(coord_types::proofs::Sets::listed))]
     fn acknowledged(&mut self, alloc: Global) -> Result<Effects, AllocError>
         requires { self.old.epoch < 2 ^ 64 - 1 }
@@ -378,7 +380,7 @@ impl Node {
         }
     }
 
-    /// Removes this neighbour, and keeps the mode.
+    /// Returns the node without this neighbour, in the same mode.
     fn without(&self, other: NodeId) -> Node
         ensures { result ≡ record self.now {
           parent = without self.now.parent other;
@@ -399,8 +401,8 @@ impl Node {
         }
     }
 
-    /// Continues after a link was dropped: `awaited` says that the other end's acknowledgement was
-    /// awaited, and `child` that the other end was the parent.
+    /// Continues after the link to a neighbour was dropped. `awaited` says whether its
+    /// acknowledgement was awaited, and `child` whether it was the parent.
     #[tactic(auto, using(coord_types::proofs::Sets::listed))]
     fn go_on(&mut self, alloc: Global, awaited: bool, child: bool) -> Result<Effects, AllocError>
         requires { self.old.epoch < 2 ^ 64 - 1 }
@@ -420,7 +422,7 @@ impl Node {
     }
 }
 
-/// Returns the distance to store for this one: in version 1 it is 0.
+/// Returns the distance to store: 0 in version 1.
 fn kept(version: Version, distance: u64) -> u64
     ensures { result ≡ kept version distance }
 {

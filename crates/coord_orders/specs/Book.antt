@@ -20,7 +20,7 @@ abbrev pub written_over : Option Command → ℕ → Command → Option OrderBoo
 written_over None last x = Some (with_order last x)
 written_over (Some y) last x = None
 
--- writes an order down, if none is in hand
+-- records an order in the book; None if another order is already in hand
 abbrev pub written : OrderBook → Command → Option OrderBook
 written b x = written_over b.kept.in_hand b.kept.last x
 
@@ -28,7 +28,7 @@ abbrev pub line_with : ℕ → Option Command → Option Line
 line_with last None = None
 line_with last (Some x) = Some (record { number = last + 1; command = x })
 
--- the order in hand, with the number after the last one
+-- the line of the order in hand: its number is the one after the last; None if no order is in hand
 abbrev pub line_of : Kept → Option Line
 line_of kept = line_with kept.last kept.in_hand
 
@@ -42,14 +42,15 @@ is_at serial (Some n) = n == serial
 abbrev pub is_awaited : OrderBook → ℕ → Bool
 is_awaited b serial = is_at serial b.awaited
 
--- the book after an answer with this meaning
+-- the stored book after an answer with this meaning
 abbrev pub kept_after : Kept → Meaning → Kept
 kept_after kept (Done reply) = record { last = kept.last + 1; in_hand = None }
 kept_after kept NotDone = record { last = kept.last; in_hand = None }
 kept_after kept SendAgain = kept
 kept_after kept CountLost = kept
 
--- an answer to any other line than the awaited one means nothing
+-- the book after an answer, and the meaning of the answer: an answer to a line other than the awaited one has no
+-- meaning and changes nothing
 abbrev pub heard : OrderBook → ℕ → Answer → Heard
 heard b serial a =
     if is_awaited b serial then record { book = opened (kept_after b.kept (meaning_of a)); meaning = Some (meaning_of a) }

@@ -8,28 +8,28 @@ use Rattle.coord_orders.specs.declared.meaning.Meaning.TheVariants.{CountLost}
 use Rattle.coord_orders.specs.Meanings.{meaning_of}
 use Rattle.coord_orders.specs.Exchange.{Event, Exchange, Given, begun, orders_of, run}
 
--- nothing, or the order in hand with its number
+-- the list is empty, or has only the order in hand with its number
 abbrev pub IsInHand : Kept → List Session → Type 0
 IsInHand kept [] = Unit {0}
 IsInHand kept (s ∷ []) = (s.number ≡ kept.last + 1) × (kept.in_hand ≡ Some s.command)
 IsInHand kept (s ∷ t ∷ ss) = ⊥
 
--- the numbers rise by one, from the one after the first to the last one
+-- the numbers of these orders rise by one, from first + 1 to last
 abbrev pub Counts : ℕ → ℕ → List Session → Type 0
 Counts first last [] = last ≡ first
 Counts first last (s ∷ ss) = (s.number ≡ first + 1) × Counts s.number last ss
 
 pub record IsOnce (c : ℕ) (base : World) (first : ℕ) (e : Exchange) : Type 0 where
-  -- the client's orders in the trail are those that it noted as done, with their replies and in order, followed by at most the
-  -- order in hand: no refused order is among them
+  -- The client's orders in the trail are the orders that it noted as done, with their replies and in order, followed by
+  -- at most the order in hand. So no refused order is in the trail
   pub orders : (more : List Session) × ((orders_of c base e.trail ≡ e.done ++ more) × IsInHand e.book.kept more)
-  -- orders noted as done are settled, so no crash removes one
+  -- the orders noted as done are settled, so no crash removes one
   pub settled : (more : List Session) × (orders_of c base (take e.settled e.trail) ≡ e.done ++ more)
-  -- no order occurs twice
+  -- the numbers of the orders noted as done rise by one, so no order occurs twice
   pub numbers : Counts first e.book.kept.last e.done
-  -- no counted answer reports a lost count
+  -- no answer to the awaited line means a lost count
   pub counted : (k : ℕ) (g : Given) → slice_get e.answers k ≡ Some g → e.book.awaited ≡ Some g.serial → meaning_of g.answer ≢ CountLost
 
--- over any world, and for any list of events, if the client begins with its last number there
+-- `IsOnce` holds for any base world and any list of events, if the client begins with its last number in that world
 abbrev pub ExactlyOnce : Type 0
 ExactlyOnce = (c : ℕ) (base : World) (events : List Event) → IsOnce c base (last_number (get base.sessions c)) (run c base (begun (last_number (get base.sessions c))) events)

@@ -1,4 +1,4 @@
--- A client, the lines and answers in transit, and the server as far as it concerns the client's orders.
+-- A model of a client, the lines and answers in transit, and the part of the server that concerns the client's orders.
 use Rattle.std.specs.Prelude.{ℕ, zero, suc, ◌+◌, ◌==◌, nat_le, max, min, Bool, false, List, [], ◌∷◌, ◌++◌, Option, Some, None, Result, Ok, Err, if◌then◌else◌, length, take, slice_get}
 use Rattle.coord_types.specs.declared.refusals.Refusal.{Refusal}
 use Rattle.coord_types.specs.declared.steps.Command.{Command}
@@ -19,12 +19,12 @@ use Rattle.coord_orders.specs.declared.meaning.Meaning.TheVariants.{Done, NotDon
 use Rattle.coord_orders.specs.Meanings.{meaning_of_refusal}
 use Rattle.coord_orders.specs.Book.{heard, line_of, opened, sending, written}
 
--- a line with its serial number
+-- a line that was sent, with its serial number
 pub record Sent : Type 0 where
   pub serial : ℕ
   pub line : Line
 
--- a reply that waits until its step is settled
+-- a reply that waits until its step is settled, with the serial number of the line that it answers
 pub record Owed : Type 0 where
   pub serial : ℕ
   pub reply : Reply
@@ -35,31 +35,31 @@ pub record Given : Type 0 where
 
 pub record Exchange : Type 0 where
   pub book : OrderBook
-  pub done : List Session  -- what the client noted as done, in turn: number, order and reply
-  pub sent : ℕ  -- how many lines it ever sent
-  pub under_way : List Sent  -- lines that may still come to the server, the oldest first
+  pub done : List Session  -- the orders that the client noted as done, in order, each with its number and reply
+  pub sent : ℕ  -- the number of lines ever sent
+  pub under_way : List Sent  -- the lines that may still reach the server, oldest first
   pub trail : List Step  -- the accepted steps, of all clients
-  pub settled : ℕ  -- how many of them are settled
+  pub settled : ℕ  -- the number of settled steps
   pub owed : List Owed
-  pub answers : List Given  -- all that were ever given
+  pub answers : List Given  -- all answers ever given, including those that were lost
 
--- the client begins with this number, and the server with an empty trail
+-- the initial state: the client's last number is `last`, and the server's trail is empty
 abbrev pub begun : ℕ → Exchange
 begun last = record { book = opened (record { last = last; in_hand = None }); done = []; sent = 0; under_way = []; trail = []; settled = 0; owed = []; answers = [] }
 
--- an event at the client, at the server or on the way between them
+-- an event at the client, at the server or between them
 pub data Event : Type 0 where
-  Write : Command → Event  -- the client writes an order down
-  Send : Event  -- it sends its order in hand, for the first time or again
-  Lose : (k : ℕ) → Event  -- the k-th line under way is lost, or the server turns it away unread
-  Arrive : Event  -- the oldest line under way comes to the server, which judges it
-  TurnAway : (serial : ℕ) → Refusal → Event  -- the server answers a line by a refusal that answers_up_to nothing, whatever became of the line
-  Other : Step → Event  -- the server takes a step that is no order of the client
+  Write : Command → Event  -- the client records an order
+  Send : Event  -- the client sends its order in hand, for the first time or again
+  Lose : (k : ℕ) → Event  -- the k-th line in transit is lost, or the server rejects it unread
+  Arrive : Event  -- the oldest line in transit reaches the server, which judges it
+  TurnAway : (serial : ℕ) → Refusal → Event  -- the server answers a line by a refusal that leaves the outcome of its order unknown, whatever happened to the line
+  Other : Step → Event  -- the server accepts a step that is not an order of the client
   Settle : (n : ℕ) → Event  -- the first n steps are settled, if fewer were
-  Release : (k : ℕ) → Event  -- the k-th reply that waits is given, if its step is settled
-  Hear : (k : ℕ) → Event  -- the client hears the k-th answer that was ever given: late, again or for the first time
-  Crash : Event  -- the client crashes: its book stays
-  Fall : (n : ℕ) → Event  -- the server crashes: the first n steps are left, and all that are settled
+  Release : (k : ℕ) → Event  -- the k-th waiting reply is given, if its step is settled
+  Hear : (k : ℕ) → Event  -- the client receives the k-th answer ever given: late, again or for the first time
+  Crash : Event  -- the client crashes: its stored book is kept
+  Fall : (n : ℕ) → Event  -- the server crashes: the first n steps survive, and all settled ones
 
 -- ---- the client
 
@@ -75,7 +75,7 @@ abbrev pub noted_as : ℕ → Option Command → Reply → List Session
 noted_as last None r = []
 noted_as last (Some x) r = record { number = last + 1; command = x; reply = r } ∷ []
 
--- the notes after an answer with this meaning
+-- the orders that the client notes as done after an answer with this meaning
 abbrev pub noted : Kept → Meaning → List Session
 noted kept (Done r) = noted_as kept.last kept.in_hand r
 noted kept NotDone = []
@@ -102,7 +102,7 @@ without (suc k) (l ∷ ls) = l ∷ without k ls
 abbrev pub order_by : ℕ → Line → Step
 order_by c line = Order c line.number line.command
 
--- the server's verdict on a line over its world
+-- the state after the server's verdict on a line
 abbrev pub answered : ℕ → World → Sent → Exchange → Result Verdict Refusal → Exchange
 answered c w l e (Ok (Fresh kind)) = record e {
   trail = e.trail ++ (order_by c l.line ∷ []);
@@ -146,7 +146,7 @@ happens c base e (Hear k) = with_answer e (slice_get e.answers k)
 happens c base e Crash = record e { book = opened e.book.kept }
 happens c base e (Fall n) = record e { trail = take (max n e.settled) e.trail; owed = [] }
 
--- client c and the server, from a world
+-- the state after these events, for client c and a server with this base world
 abbrev pub run : ℕ → World → Exchange → List Event → Exchange
 run c base e [] = e
 run c base e (event ∷ events) = run c base (happens c base e event) events

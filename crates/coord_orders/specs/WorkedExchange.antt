@@ -1,4 +1,4 @@
--- Worked examples: exchanges from the empty world.
+-- Worked examples: exchanges over the empty world.
 use Rattle.std.specs.Prelude.{◌≡◌, List, [], ◌∷◌, ◌++◌, None}
 use Rattle.coord_types.specs.declared.steps.Command.TheVariants.{Add}
 use Rattle.coord_types.specs.declared.steps.Kind.TheVariants.{Done}
@@ -10,18 +10,18 @@ use Rattle.coord_orders.specs.Exchange.{Event, Exchange, Write, Send, Lose, Arri
 abbrev pub base : World
 base = no_world 1
 
--- client 1 from its first order on
+-- the state after these events, for client 1 without any order before
 abbrev pub after : List Event → Exchange
 after events = run 1 base (begun 0) events
 
 abbrev pub added : Session
 added = record { number = 1; command = Add 1 1; reply = record { step = 1; kind = Done } }
 
--- a line is lost, the client crashes, the line arrives again, and its first answer late
+-- a line is lost, the client crashes, the line arrives twice, and its first answer arrives late
 abbrev pub repeats : List Event
 repeats = Write (Add 1 1) ∷ Send ∷ Lose 0 ∷ Send ∷ Arrive ∷ Crash ∷ Send ∷ Arrive ∷ Settle 1 ∷ Release 0 ∷ Release 1 ∷ Hear 0 ∷ Hear 1 ∷ Hear 1 ∷ []
 
--- the node already exists
+-- an order that is refused, because the node already exists
 abbrev pub again : List Event
 again = Write (Add 1 1) ∷ Send ∷ Arrive ∷ Hear 2 ∷ []
 

@@ -1,4 +1,4 @@
-//! The book.
+//! A client's order book.
 
 ghost use Rattle.std.specs.Prelude.{◌≡◌, ◌<◌, Some, None};
 ghost use Rattle.coord_orders.specs.Book.{heard, is_awaited, kept_after, line_of, opened, sending, written};
@@ -6,28 +6,28 @@ ghost use Rattle.coord_orders.specs.Book.{heard, is_awaited, kept_after, line_of
 use crate::meaning::{Answer, Meaning};
 use coord_types::Command;
 
-/// The state of a client on disk.
+/// The part of a client's order book that is stored on disk.
 #[derive(Clone, Copy, Debug, PartialEq, Eq)]
 pub struct Kept {
-    /// The number of its last order that was carried out; 0 for none.
+    /// The number of the client's last order that was carried out; 0 if there is none.
     pub last: u64,
-    /// The order that is written down under the next number, and whose outcome is unknown.
+    /// The order that is recorded under the next number, and whose outcome is unknown.
     pub in_hand: Option<Command>,
 }
 
-/// An order with its number, as a line asks for it.
+/// An order with its number, as a line to the server states it.
 #[derive(Clone, Copy, Debug, PartialEq, Eq)]
 pub struct Line {
     pub number: u64,
     pub command: Command,
 }
 
-/// The stored state of a client, and the line whose answer it awaits (in memory).
+/// A client's order book: the stored part, and in memory the line whose answer it awaits.
 #[derive(Clone, Copy, Debug, PartialEq, Eq)]
 pub struct OrderBook {
-    /// What must be on disk before a line is sent, and before the next order is written down.
+    /// The part that must be on disk before a line is sent, and before the next order is recorded.
     pub kept: Kept,
-    /// The serial number of the line that was sent last, if its answer may still come.
+    /// The serial number of the line that was sent last, if its answer is still awaited.
     pub awaited: Option<u64>,
 }
 
@@ -35,12 +35,12 @@ pub struct OrderBook {
 #[derive(Clone, Copy, Debug, PartialEq, Eq)]
 pub struct Heard {
     pub book: OrderBook,
-    /// None: the answer belongs to another line than the awaited one, and means nothing.
+    /// None if the answer belongs to a line other than the awaited one, and so has no meaning.
     pub meaning: Option<Meaning>,
 }
 
 impl OrderBook {
-    /// The book of a client that starts with its stored book.
+    /// Returns the book of a client that starts with this stored part. It awaits no answer.
     pub fn open(kept: Kept) -> Self
         ensures { result ≡ opened kept }
     {
@@ -50,8 +50,8 @@ impl OrderBook {
         }
     }
 
-    /// Writes an order down under the next number. Returns None if there is one already, whose
-    /// outcome is unknown.
+    /// Records an order under the next number. Returns None if another order, whose outcome is
+    /// unknown, is already in hand.
     pub fn write_down(self, command: Command) -> Option<Self>
         ensures { result ≡ written self command }
     {
@@ -67,7 +67,7 @@ impl OrderBook {
         }
     }
 
-    /// Returns the line to send, for the first time or again; None if no order is in hand.
+    /// Returns the line to send, for the first time or again, or None if no order is in hand.
     pub fn line(&self) -> Option<Line>
         requires { self.now.kept.last < u64.MAX }
         ensures { result ≡ line_of self.now.kept }
@@ -82,9 +82,9 @@ impl OrderBook {
         }
     }
 
-    /// The line is sent, under a serial number that no line of this client had before: from now on
-    /// only the answer to this line counts. (If each line has its own connection, the connection is
-    /// its number.)
+    /// Records that the line is sent under a serial number that no other line of this client had:
+    /// from now on only the answer to this line counts. (If each line has its own connection, the
+    /// serial number stands for the connection.)
     pub fn send(self, serial: u64) -> Self
         ensures { result ≡ sending self serial }
     {
@@ -94,14 +94,14 @@ impl OrderBook {
         }
     }
 
-    /// Returns whether the answer to this line is awaited.
+    /// Tests whether the answer to the line with this serial number is awaited.
     fn awaits(&self, serial: u64) -> bool
         ensures { result ≡ is_awaited self.now serial }
     {
         self.awaited == Some(serial)
     }
 
-    /// Hears an answer to the line with this serial number.
+    /// Handles an answer to the line with this serial number.
     pub fn hear(self, serial: u64, answer: Answer) -> Heard
         requires { self.kept.last < u64.MAX }
         ensures { result ≡ heard self serial answer }
@@ -121,7 +121,7 @@ impl OrderBook {
 }
 
 impl Kept {
-    /// The book after an answer with this meaning.
+    /// Returns the stored part after an answer with this meaning.
     fn after(self, meaning: Meaning) -> Self
         requires { self.last < u64.MAX }
         ensures { result ≡ kept_after self meaning }

@@ -1,25 +1,26 @@
-//! Laws of the order book: functions that do nothing, whose contracts are the laws.
+//! Laws of the order book: functions without a body whose contracts state the laws.
 
 ghost use Rattle.coord_orders.specs.ExactlyOnce.{ExactlyOnce};
 ghost use Rattle.coord_orders.specs.FoundCount.{CountIsFound};
 ghost use Rattle.coord_orders.specs.WorkedExchange.{WorkedExchange};
 
-/// Over any world, and whatever is lost, late, heard again or cut off by a crash (of the client to
-/// its stored book, of the server to some of its steps with all settled ones): the client's orders
-/// in the trail are those that it noted as done, in turn, and at most the one in hand after them.
+/// The client's orders in the trail are those that it noted as done, in order, followed by at most
+/// the order in hand. This holds over any world, and whatever is lost, late, received twice or cut
+/// off by a crash (the client keeps its stored book, the server some of its steps with all settled
+/// ones).
 pub fn exactly_once()
     ensures { ExactlyOnce }
 {}
 
-/// A probe with any number does no harm, and its refusal shows whether the number is the client's
-/// last one, the next one or another one.
+/// If the client's last order is not a probe, a probe with any number changes nothing, and its
+/// refusal shows whether the number is the client's last one, the next one or another one.
 #[tactic(auto, using(crate::proofs::FoundCount::count_is_found))]
 pub fn count_is_found()
     ensures { CountIsFound }
 {}
 
-/// Exchanges whose outcomes are known: a line that is lost and one that comes again, a late answer, a
-/// refusal, and a crash of the server before the order is settled.
+/// Worked examples: a line that is lost and one that arrives twice, a late answer, a refusal, and a
+/// crash of the server before the order is settled.
 #[tactic(auto, using(crate::proofs::Worked::worked_exchange))]
 pub fn worked_exchange()
     ensures { WorkedExchange }

@@ -5,8 +5,8 @@ ghost use Rattle.coord_orders.specs.Meanings.{meaning_of, meaning_of_refusal};
 
 use coord_types::{Refusal, Reply};
 
-/// The answer to the line of an order: a reply or a refusal. A fault, or the end of the connection,
-/// is neither.
+/// The answer to the line of an order: a reply or a refusal. A fault or the end of the connection
+/// is not an answer.
 #[derive(Clone, Copy, Debug, PartialEq, Eq)]
 pub enum Answer {
     Replied(Reply),
@@ -20,10 +20,10 @@ pub enum Meaning {
     Done(Reply),
     /// The order was not carried out, and its number is free.
     NotDone,
-    /// Nothing is known: the same line must be sent again.
+    /// The outcome is unknown: the same line must be sent again.
     SendAgain,
-    /// The number is neither the client's last one nor the next, or it is the last one with another
-    /// order: the client and the server disagree on the client's numbers.
+    /// The number is not the client's last or next one, or it is the last one with another order:
+    /// the client and the server disagree on the client's numbers.
     CountLost,
 }
 
@@ -39,7 +39,8 @@ impl Answer {
     }
 }
 
-/// Returns the meaning of a refusal. One that no order gets means nothing.
+/// Returns the meaning of a refusal. A refusal that no order can get means that the outcome is
+/// unknown.
 fn of_refusal(refusal: Refusal) -> Meaning
     ensures { result ≡ meaning_of_refusal refusal }
 {

@@ -1,4 +1,5 @@
--- The possible answers of a desk over an engine. Other threads call the engine too, so each answer is right in some possible state of the engine.
+-- The possible answers of a desk over an engine. Other threads call the engine too, so each answer is true in
+-- some possible state of the engine.
 use Rattle.std.specs.Prelude.{◌≡◌, ◌⊎◌, ℕ, Bool, List, drop, max, length, Result, Ok, Err}
 use Rattle.atomic_table.specs.Seated.{TableId}
 use Rattle.coord_types.specs.declared.packets.Packet.{Packet}
@@ -21,54 +22,56 @@ use Rattle.coord_admin.specs.declared.answer.Answer.TheVariants.{Closed}
 use Rattle.coord_admin.specs.declared.request.Request.{Request}
 use Rattle.coord_admin.specs.declared.request.Request.TheVariants as request
 
--- the notes of the steps that were accepted for the desk, the greatest step that it knows to be settled, the settled
--- steps that it has read, and the port for resent packets
+-- The state of a desk: the notes of the steps accepted for it, the greatest number of a step that it knows to
+-- be settled, the settled steps that it has read, and the port for resent packets.
 pub record DeskState (P : Type 0) : Type 0 where
   pub notes : List Note
   pub seen : ℕ
   pub read : List Step
   pub port : P
 
--- the steps that were read after earlier ones
+-- the steps that a token has read after the steps of earlier instances
 abbrev pub read_in : List Step → Beginning → List Step
 read_in earlier read = drop (length earlier) read.steps
 
--- some steps of this history were read after earlier ones
+-- A token has read some steps of this history after the steps of earlier instances.
 abbrev pub IsReadIn : TableId → List Step → Beginning → Type 0
 IsReadIn history earlier read = HasReadSettled history earlier (read_in earlier read) read
 
--- This holds in some state that the engine can have, whose settled steps are those read now. They begin with those read before.
+-- P holds in some possible state of the engine, whose settled steps are the ones that the desk has read now.
+-- They begin with the steps that it had read before.
 pub record AtMomentAnswered {D : Type 0} (b : Basis D) (before now : List Step) (P : GuardedState D → Type 0) : Type 0 where
   pub at : AtSomeMoment b (λ g. P g × (settled_steps g.ledger.log ≡ now))
   pub begins : StartsWith now before
 
--- a step was submitted, and its ticket has this claim
+-- A step was submitted, and its ticket has this claim.
 abbrev pub AcceptsOrder : {D : Type 0} → Basis D → Step → Claim → List Note → List Note → Type 0
 AcceptsOrder {D} b s claim before after = AtSomeMoment b (Submits {D = D} s (Ok claim) before after)
 
--- the answer to a ticket, without the ticket that a refusal returned
+-- the answer to a ticket, without the ticket that a refusal returns
 abbrev pub without_ticket : Result Reply (Refusal × Claim) → Result Reply Refusal
 without_ticket (Ok reply) = Ok reply
 without_ticket (Err refused) = Err refused.0
 
--- the answer to a posted step, with these steps read before and these now: its reply once it is settled, or the reason
--- why there will be none
+-- The answer to a posted step, from a desk that had read the steps `before` and has read the steps `now`: the
+-- reply once the step is settled, or the reason why there will be none.
 abbrev pub Replies : {D : Type 0} → Basis D → Result Claim Refusal → Result Reply Refusal → List Step → List Step → Type 0
 Replies {D} b (Ok claim) (Ok reply) before now = AtMomentAnswered b before now (λ g. CollectsAs {D = D} g.ledger claim (Settled reply))
 Replies {D} b (Ok claim) (Err refusal) before now = AtMomentAnswered b before now (λ g. CollectsAs {D = D} g.ledger claim (Refused refusal claim))
 Replies {D} b (Err why) (Ok reply) before now = ⊥
 Replies {D} b (Err why) (Err refusal) before now = (refusal ≡ why) × (now ≡ before)
 
--- A reply is returned once its step is settled. A refusal is one of the submitting, or it comes while the reply is
--- waited for: then the step was accepted, and a repeat of its number gets the reply. The lists of steps: those read
--- before and now.
+-- A reply is returned once its step is settled. A refusal belongs to the submission, or comes later, while
+-- the desk waits for the reply: then the step was accepted, and the same order sent again gets the reply. The
+-- two lists are the steps that the desk had read before, and those that it has read now.
 abbrev pub AnswersOrder : {D : Type 0} → Basis D → Step → Result Reply Refusal → List Note → List Note → List Step → List Step → Type 0
 AnswersOrder {D} b s (Ok reply) before after read now = (claim : Claim) × AcceptsOrder b s claim before after × AtMomentAnswered b read now (λ g. CollectsAs {D = D} g.ledger claim (Settled reply))
 AnswersOrder {D} b s (Err refusal) before after read now =
     (AtSomeMoment b (Submits {D = D} s (Err refusal) before after) × (now ≡ read))
     ⊎ ((claim : Claim) × AcceptsOrder b s claim before after × AtMomentAnswered b read now (λ g. CollectsAs {D = D} g.ledger claim (Refused refusal claim)))
 
--- the settled world is shown unchanged after the steps read now; or a refusal, for a reason that holds then
+-- The view shows the world after exactly the steps that the desk has read now; a refusal has a reason that
+-- holds in that state.
 abbrev pub ShowsTo : {D : Type 0} → Basis D → Result shown.Shown Refusal → ℕ → ℕ → List Step → List Step → Type 0
 ShowsTo {D} b (Ok view) seen later before now = AtMomentAnswered b before now (Shows {D = D} view seen later)
 ShowsTo {D} b (Err refusal) seen later before now = AtMomentAnswered b before now (RefusesShow {D = D} refusal seen) × (later ≡ seen)
@@ -77,14 +80,14 @@ abbrev pub seen_after : Result Reply Refusal → ℕ → ℕ
 seen_after (Ok reply) seen = max seen reply.step
 seen_after (Err refusal) seen = seen
 
--- the number of packets that were sent again
+-- the number of resent packets
 abbrev pub Resends : {D : Type 0} → Basis D → Result ℕ Refusal → Type 0
 Resends {D} b (Ok count) = (released : List Release) × AtSomeMoment b (SendsAgain {D = D} released) × (count ≡ length released)
 Resends {D} b (Err refusal) = refusal ≡ OutOfMemory
 
--- The packets that may have been lost were requested from a port again, each once and in order, and then the port was
--- asked to pass them on; and this is their number. `carried`, `signalled`, `handed_on`: the possible states of the
--- port after each request.
+-- The packets that may have been lost were requested from a port again, each once and in order, then the port
+-- handed them on, and `count` is their number. `carried`, `signalled` and `handed_on` are the possible states
+-- of the port after each request.
 abbrev pub HandsAgain : {D P : Type 0} → Basis D → (P → ℕ → Packet → Bool → P → Type 0) → (P → ℕ → ℕ → ℕ → Bool → P → Type 0) → (P → ℕ → P → Type 0) → ℕ → P → P → Type 0
 HandsAgain {D} b carried signalled handed_on count port later =
     (released : List Release) × AtSomeMoment b (SendsAgain {D = D} released) × (count ≡ length released) × AreHanded carried signalled handed_on port (deliveries_of released) later
@@ -97,15 +100,16 @@ DeskAnswers {D} b d request.Show answer e =
 DeskAnswers {D} b d request.Resend answer e = (result : Result ℕ Refusal) × (answer ≡ resend_answer result) × Resends b result × (e.notes ≡ d.notes) × (e.seen ≡ d.seen) × (e.read ≡ d.read)
 DeskAnswers {D} b d request.Close answer e = (answer ≡ Closed) × (e ≡ d)
 
--- an order is submitted, and nothing more of the settled world is known; nothing else is posted
+-- An order is submitted, and the desk learns nothing more about the settled world. Nothing else can be
+-- posted.
 abbrev pub DeskPosts : {D P : Type 0} → Basis D → DeskState P → Request → Result Claim Refusal → DeskState P → Type 0
 DeskPosts {D} b d (request.Order client number command) posted e = AtSomeMoment b (Submits {D = D} (step.Order client number command) posted d.notes e.notes) × (e.seen ≡ d.seen) × (e.read ≡ d.read) × (e.port ≡ d.port)
 DeskPosts {D} b d request posted e = ⊥
 
--- once an order was accepted its reply is awaited, and nothing more is noted
+-- The reply to an accepted order is awaited, and no further step is noted.
 abbrev pub DeskReplies : {D P : Type 0} → Basis D → DeskState P → Result Claim Refusal → Result Reply Refusal → DeskState P → Type 0
 DeskReplies {D} b d posted reply e = Replies b posted reply d.read e.read × (e.notes ≡ d.notes) × (e.seen ≡ seen_after reply d.seen) × (e.port ≡ d.port)
 
--- the number of steps that its engine kept at some moment, at least as many as the desk has noted itself
+-- The number of steps that the engine kept at some moment; at least the number of the desk's own notes.
 abbrev pub DeskKeeps : {D P : Type 0} → Basis D → DeskState P → ℕ → Type 0
 DeskKeeps {D} b d kept = (trail : ℕ) × AtSomeMoment {D = D} b (λ g. trail ≡ length g.ledger.log.trail) × (kept ≡ max trail (length d.notes))

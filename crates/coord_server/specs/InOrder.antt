@@ -1,5 +1,5 @@
--- The answers of an instance in its one history: each follows from some number of first settled steps, and that
--- number never falls.
+-- The answers of an instance follow from its history: each from the first n settled steps, for some n that
+-- never falls.
 use Rattle.std.specs.List.{AllByRecursion}
 use Rattle.std.specs.Prelude.{◌≡◌, ◌⊎◌, ℕ, List, [], ◌∷◌, ◌++◌, Result, Ok, Some, map, slice_get, take}
 use Rattle.coord_types.specs.declared.steps.Reply.{Reply}
@@ -22,29 +22,30 @@ use Rattle.coord_admin.specs.declared.request.Request.TheVariants as request
 use Rattle.coord_server.specs.EngineDesk.{DeskState}
 use Rattle.coord_server.specs.Ending.{IsClosed, ServedWhileOpen}
 
--- an answer to a line, and the steps of its instance that were settled when it was returned
+-- an answer to a line, with the steps of its instance from which it follows
 pub record Returned : Type 0 where
   pub line : Line
   pub answer : Answer
   pub after : List Step
 
--- The reply is that to the order's own step: the order is among these steps, and got this reply there. Or the world before them kept that reply for that order.
+-- The reply belongs to the order's own step: the order is among these steps and got this reply there, or the
+-- world before them kept the reply for that order.
 abbrev pub IsOwnReply : World → List Step → Step → Reply → Type 0
 IsOwnReply base steps s r =
     ((place : ℕ) × (slice_get steps place ≡ Some s) × (reply (fold base (take place steps)) s ≡ r))
     ⊎ IsKeptBy base (record { step = r.step; what = s; kind = r.kind })
 
--- only an order gets a reply, and it is that of its step
+-- Only an order gets a reply, and the reply belongs to its own step.
 abbrev pub RepliesTo : World → List Step → Reply → Result Request LineFault → Type 0
 RepliesTo base steps r (Ok (request.Order client number command)) = IsOwnReply base steps (step.Order client number command) r
 RepliesTo base steps r asked = ⊥
 
--- whoever asks for a view gets that of the world after these steps
+-- A request for a view gets the view of the world after these steps.
 abbrev pub ShowsAfter : World → List Step → Shown → Result Request LineFault → Type 0
 ShowsAfter base steps view (Ok request.Show) = (accepted : ℕ) × (view ≡ shown accepted (fold base steps))
 ShowsAfter base steps view asked = ⊥
 
--- the answer to the request follows from these steps from a world
+-- The answer to this request follows from these steps over this world.
 abbrev pub BearOut : World → List Step → Result Request LineFault → Answer → Type 0
 BearOut base steps asked (answer.Replied r) = RepliesTo base steps r asked
 BearOut base steps asked (answer.Shown view) = ShowsAfter base steps view asked
@@ -56,13 +57,14 @@ BearOut base steps asked (answer.Faulted f) = Unit {0}
 abbrev pub IsBorneOut : World → Returned → Type 0
 IsBorneOut base t = BearOut base t.after (asked_by t.line) t.answer
 
--- the steps of these answers begin with those of the answer before, and lead to those
+-- The steps of each answer extend those of the previous answer. Those of the first answer extend `first`, and
+-- `last` extends those of the last answer.
 abbrev pub GoOn : List Step → List Returned → List Step → Type 0
 GoOn first [] last = StartsWith last first
 GoOn first (t ∷ returned) last = StartsWith t.after first × GoOn t.after returned last
 
--- The output of a connection is the answers to its first lines, each following from settled steps, which include
--- these first ones and those of the answer before. It may break off in one more line.
+-- The output of a connection is the answers to a prefix of its input lines, in order, and possibly the beginning of
+-- the next answer. Each answer follows from a list of steps that extends `first` and the list of the previous answer.
 pub record WritesInOrder (base : World) (first : List Step) (talk : Talk) (last : List Step) : Type 0 where
   pub returned : List Returned
   pub torn : List Returned
@@ -74,13 +76,13 @@ pub record WritesInOrder (base : World) (first : List Step) (talk : Talk) (last 
   pub broken : ((torn ≡ []) × (part ≡ [])) ⊎ ((t : Returned) × (torn ≡ t ∷ []) × IsFirstPart part (reply_line t.answer))
   pub text_is : talk.bytes_written ≡ reply_lines (map (λ t. t.answer) returned) ++ part
 
--- over these connections, one after the other
+-- The same for these connections, one after another.
 abbrev pub AllInOrder : World → List Step → List Connection → List Step → Type 0
 AllInOrder base first [] last = StartsWith last first
 AllInOrder base first (c ∷ cs) last = (now : List Step) × WritesInOrder base first c.talk now × AllInOrder base now cs last
 
--- Everything that the desk of an instance replied or showed, over one connection after another, whether or not a line closed it, follows in this way from the settled steps that the desk
--- has read.
+-- Everything that the desk of an instance replied or showed over its connections follows, in this way, from
+-- the settled steps that the desk has read, whether or not a line closed the desk.
 abbrev pub AnsweredInOrder : Type 0 → Type 0 → {V : Type 0} → (V → List Talk → V → Type 0) → Type 0
 AnsweredInOrder D P {V} talked =
     (b : Basis D) (most : ℕ) (port : P) (v w : V) (desk : DeskState P)

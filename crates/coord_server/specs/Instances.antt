@@ -1,4 +1,5 @@
--- The instances of a server, one after the other: each is one history over the store that the previous one left.
+-- The instances of a server, one after another: each is one history over the store that the previous one
+-- left.
 use Rattle.std.specs.List.{range_with_len}
 use Rattle.std.specs.Prelude.{◌≡◌, ◌⊎◌, ℕ, ◌+◌, ◌-◌, ◌≤◌, List, [], ◌∷◌, ◌++◌, false, true, Option, Some, flat_map, length, map, take}
 use Rattle.coord_disk.specs.Model.DiskModel.{DiskModel}
@@ -18,18 +19,21 @@ use Rattle.coord_server.specs.declared.instance_end.InstanceEnd.{InstanceEnd}
 use Rattle.coord_server.specs.declared.instance_end.InstanceEnd.TheVariants as end
 use Rattle.coord_server.specs.declared.server_end.ServerEnd.{ServerEnd}
 
--- the end of a server with this last instance: one that rests and can't continue ends it too, and so does one without memory for the next one, or without a first line
+-- The end of a server whose last instance ended in this way. An instance that rests is the last one if its
+-- store can't continue.
 abbrev pub IsLastInstance : InstanceEnd → Option ServerFault → Type 0
 IsLastInstance end.Resting served = served ≡ Some fault.Device
 IsLastInstance end.Unfollowed served = served ≡ Some fault.OutOfMemory
 IsLastInstance end.Unprinted served = (served ≡ Some fault.OutOfMemory) ⊎ (served ≡ Some fault.Write)
 IsLastInstance (end.Ended why) served = served ≡ why
 
--- The next instance may begin over the parts of one that rests: its store has not stopped, everything accepted is settled, and it has the steps of an instance.
+-- The next instance may begin over the parts of a resting one: its store has not stopped, all accepted steps
+-- are settled, and there are as many as an instance has.
 abbrev pub MayGoOn : {D : Type 0} → ℕ → Closed D → Type 0
 MayGoOn most left = (has_stopped left.store ≡ false) × (left.settled ≡ left.base.count + length left.trail.items) × (most ≤ length left.trail.items)
 
--- The causes of the fault of a server with instances of this many steps: Write only if its output has failed, and Device only if no next instance could begin.
+-- The causes of a server's fault: `Write` only if the output has failed, and `Device` only if no next
+-- instance could begin.
 abbrev pub HasFaultForCause : {D V W : Type 0} → ℕ → ServerEnd D V W → Type 0
 HasFaultForCause most ended = (ended.served ≡ Some fault.Write → ended.printer.is_broken ≡ true) × (ended.served ≡ Some fault.Device → ¬ MayGoOn most ended.closed)
 
@@ -37,29 +41,32 @@ HasFaultForCause most ended = (ended.served ≡ Some fault.Write → ended.print
 abbrev pub instance_steps : ℕ
 instance_steps = 262144
 
--- One instance: the port of its desk and the desk at its end, the remaining parts of its engine, and the callers
--- then.
+-- One instance: its desk's port, the desk at the end, the remaining parts of its engine, and the callers at
+-- that time.
 pub record InstanceRun (D V : Type 0) : Type 0 where
   pub port : Local
   pub desk : DeskState Local
   pub left : Closed D
   pub callers : V
 
--- the steps that these instances accepted, each instance's after those of the one before
+-- the steps that these instances accepted, one instance after another
 abbrev pub all_steps : {D V : Type 0} → List (InstanceRun D V) → List Step
 all_steps instances = flat_map (λ l. l.left.trail.items) instances
 
--- the outputs of their steps, each instance's from the world that it began with
+-- the outputs of these steps, each instance's over the world that it began with
 abbrev pub all_given : {D V : Type 0} → List (InstanceRun D V) → List StepOutcome
 all_given instances = flat_map (λ l. outs l.left.base l.left.trail.items) instances
 
--- `talked v talks w`: the callers were v, had these talks, and then are w. An instance ends after `most` steps
+-- `talked v talks w`: the callers were in the state v, had these talks, and then are in the state w. `most`:
+-- the number of steps of an instance
 module _ {D : Type 0} (m : DiskModel D) {V : Type 0} (talked : V → List Talk → V → Type 0) (most : ℕ) where
   -- the basis of an instance that began over a store with this world
   abbrev pub begun_over : World → Basis D
   begun_over world = based_on m world []
 
-  -- An instance from this world that rests: no line has closed it, it has the steps of an instance, it is one history, everything accepted is settled, its desk has answered by a prefix of that, and its store has not stopped. The next one begins over the world of that store.
+  -- An instance over this world that rests: no line has closed it, it has as many steps as an instance has,
+  -- it is one history, all its accepted steps are settled, its desk's answers follow from a prefix of them,
+  -- and its store has not stopped. The next instance begins over the world of that store.
   pub record Rests (began : World) (v : V) (instance : InstanceRun D V) : Type 0 where
     pub served : ServedWhileOpen (begun_over began) talked most instance.port v instance.callers instance.desk
     pub old : most ≤ length instance.left.trail.items
@@ -68,31 +75,33 @@ module _ {D : Type 0} (m : DiskModel D) {V : Type 0} (talked : V → List Talk �
     pub going : has_stopped instance.left.store ≡ false
     pub returned : StartsWith (first_settled instance.left.base instance.left.trail.items instance.left.settled) instance.desk.read
 
-  -- instances that rest, each beginning where the previous one ended; afterwards this is the world, and these are
-  -- the callers
+  -- Resting instances, each of which began where the previous one ended. `next` and `w` are the world and the
+  -- callers after the last one.
   abbrev pub HaveRested : World → V → List (InstanceRun D V) → World → V → Type 0
   HaveRested began v [] next w = (next ≡ began) × (w ≡ v)
   HaveRested began v (instance ∷ later) next w = Rests began v instance × HaveRested instance.left.store.world instance.callers later next w
 
--- `failed v w`: the callers were v, and have failed
+-- `failed v w`: the callers were in the state v, and have failed
 module _ {D : Type 0} (m : DiskModel D) {V : Type 0} (talked : V → List Talk → V → Type 0) (failed : V → V → Type 0) (most : ℕ) where
-  -- The last instance of a server, from this world, with this end: its desk served until then, and answered by settled steps; and its engine was left in that state.
+  -- The last instance of a server, over this world, with this end: its desk served until then, with answers
+  -- that follow from settled steps, and its engine was taken apart into these parts.
   pub record IsLast (began : World) (v : V) (instance : InstanceRun D V) (why : Option ServerFault) : Type 0 where
     pub served : Serves (based_on m began []) talked failed most instance.port v instance.callers instance.desk why
     pub history : IsLeftAs (based_on m began []) instance.desk instance.left why
     pub returned : StartsWith (first_settled instance.left.base instance.left.trail.items instance.left.settled) instance.desk.read
 
-  -- these are the instances of a server that ended for this reason, with these remaining parts: each but the last
-  -- rests, and the next one begins where it ended
+  -- The instances of a server that ended for this reason with these remaining parts. Each except the last
+  -- rests, and the next one begins where it ended.
   abbrev pub AreInstances : World → V → List (InstanceRun D V) → Option ServerFault → Closed D → V → Type 0
   AreInstances began v [] why left callers = ⊥
   AreInstances began v (instance ∷ []) why left callers = IsLast began v instance why × (instance.left ≡ left) × (instance.callers ≡ callers)
   AreInstances began v (instance ∷ next ∷ later) why left callers = Rests m talked most began v instance × AreInstances instance.left.store.world instance.callers (next ∷ later) why left callers
 
--- Instances from the world of a first store, of which the last one left this store and this count of settled steps,
--- are one history. Their steps are one trail from that world, and each instance began with the world after the steps
--- of those before it. Their outputs are those of that one trail, and each step has its own number: so no step, and no
--- signal of one, is in two instances. The store has the world after all settled steps, which are the first ones.
+-- The instances over the world of the first store are one history; the last one left this store and this
+-- number of settled steps. Their steps are one trail from that world, and each instance began with the world
+-- after the steps of those before it. Their outputs are the outputs of that trail, and each step has its own
+-- number; so no step, and no signal of a step, belongs to two instances. The store has the world after all
+-- settled steps, which are a prefix of the trail.
 pub record AreOneHistory {D V : Type 0} (began : World) (instances : List (InstanceRun D V)) (store : Kept D) (settled : ℕ) : Type 0 where
   pub trail : IsTrail began (all_steps instances)
   pub follow : (before rest : List (InstanceRun D V)) (instance : InstanceRun D V) → instances ≡ before ++ instance ∷ rest → instance.left.base ≡ fold began (all_steps before)
@@ -102,7 +111,7 @@ pub record AreOneHistory {D V : Type 0} (began : World) (instances : List (Insta
   pub most : settled ≤ began.count + length (all_steps instances)
   pub world : store.world ≡ fold began (take (settled - began.count) (all_steps instances))
 
--- the instances of a server are one history
+-- The instances of a server are one history.
 abbrev pub InstancesAreOne : {D : Type 0} → DiskModel D → {V : Type 0} → (V → List Talk → V → Type 0) → (V → V → Type 0) → ℕ → Type 0
 InstancesAreOne {D} m {V} talked failed most =
     (began : World) (v w : V) (instances : List (InstanceRun D V)) (why : Option ServerFault) (left : Closed D) → AreInstances m talked failed most began v instances why left w → AreOneHistory began instances left.store left.settled

@@ -12,54 +12,56 @@ use Rattle.coord_server.specs.declared.last_line.LastLine.{LastLine}
 use Rattle.coord_server.specs.Lines.{after_line, is_next, nothing_since}
 use Rattle.coord_server.specs.Signals.{StepSignal}
 
--- the server listens at this address
+-- the line that says at which address the server listens
 abbrev pub listening_line : SocketAddr → List ℕ
 listening_line address = codes "listening " ++ socket_text address ++ codes "\n"
 
--- a reset has ended at this node, and this epoch has begun
+-- the line that says that a reset has ended at this node and this epoch has begun
 abbrev pub signal_line : ℕ → ℕ → List ℕ
 signal_line node epoch = codes "signal " ++ decimal node ++ codes " " ++ decimal epoch ++ codes "\n"
 
--- an output as contracts see it, whether a line to it has failed, how many signals were lost because they did not come after the last one, and the last one printed
+-- The state of a printer: its output as contracts see it, whether a line could not be written, the number of
+-- signals that were lost because they may not follow the last one, and the last printed signal.
 pub record PrinterState (W : Type 0) : Type 0 where
   pub output : W
   pub is_broken : Bool
   pub lost : ℕ
   pub last : LastLine
 
--- nothing was printed yet, and signals will be of later steps than this one
+-- the state before anything was printed, for signals of steps after this one
 abbrev pub new_printer : {W : Type 0} → W → ℕ → PrinterState W
 new_printer output since = record { output = output; is_broken = false; lost = 0; last = nothing_since since }
 
--- the lines of some signals, in their order
+-- the lines of these signals, in order
 abbrev pub signal_lines : List StepSignal → List ℕ
 signal_lines signals = flat_map (λ s. signal_line s.node s.epoch) signals
 
--- each of these signals comes after the one before it, the first after this one; and that is the last of them
+-- Each of these signals may follow the one before it, and the first one may follow `first`; the last of them
+-- is `last`.
 abbrev pub Follow : LastLine → List StepSignal → LastLine → Type 0
 Follow first [] last = last ≡ first
 Follow first (s ∷ later) last = (is_next first s.step s.node ≡ true) × Follow (after_line first s.step s.node) later last
 
--- one more signal was lost
+-- the state after one more signal was lost
 abbrev pub with_lost : {W : Type 0} → PrinterState W → PrinterState W
 with_lost p = record p { lost = one_more p.lost }
 
--- whether a line to it has failed, or a signal of a later step than this one was printed
+-- whether a line could not be written, or a signal of a step that is not settled was printed
 abbrev pub is_amiss : {W : Type 0} → PrinterState W → ℕ → Bool
 is_amiss p settled = p.is_broken || not (nat_le p.last.step settled)
 
--- the faults of a line that was not printed
+-- the possible faults if a line is not printed
 abbrev pub IsOfPrinting : ServerFault → Type 0
 IsOfPrinting returned = (returned ≡ fault.OutOfMemory) ⊎ (returned ≡ fault.Write)
 
--- the written part of the line of an address in which the output failed: a prefix of it
+-- The part of an address line that was written before the output failed is a prefix of the line.
 pub record IsTornAddress {W : Type 0} (q : PrinterState W) (torn : List ℕ) : Type 0 where
   pub broken : q.is_broken ≡ true
   pub address : SocketAddr
   pub part : IsFirstPart torn (listening_line address)
 
--- the written part of the line of a signal in which the output failed: a prefix of it. The signal may be printed, and
--- comes after the last one
+-- The part of a signal's line that was written before the output failed is a prefix of the line. This signal
+-- may be printed, and may follow the last one.
 pub record IsTornSignal {W : Type 0} (may : ℕ → ℕ → ℕ → Type 0) (q : PrinterState W) (torn : List ℕ) : Type 0 where
   pub broken : q.is_broken ≡ true
   pub signal : StepSignal
@@ -67,38 +69,40 @@ pub record IsTornSignal {W : Type 0} (may : ℕ → ℕ → ℕ → Type 0) (q :
   pub next : is_next q.last signal.step signal.node ≡ true
   pub part : IsFirstPart torn (signal_line signal.node signal.epoch)
 
--- The reason why the first line was not printed, if it should have been: memory ran out, or the output failed.
+-- The reason why the first line was not printed when it was requested: memory ran out, or the output failed.
 abbrev pub IsUnprintedFor : {W : Type 0} → PrinterState W → Option ServerFault → Type 0
 IsUnprintedFor p None = Unit {0}
 IsUnprintedFor p (Some fault.OutOfMemory) = Unit {0}
 IsUnprintedFor p (Some fault.Write) = p.is_broken ≡ true
 IsUnprintedFor p (Some other) = ⊥
 
--- `contents` are the bytes of an output, if they are known
+-- `contents`: the bytes that an output holds, if they are known
 module _ {W : Type 0} (contents : W → Option (List ℕ)) where
-  -- the line of an address was printed
+  -- The line of an address was printed.
   abbrev pub PrintsAddress : PrinterState W → PrinterState W → Type 0
   PrintsAddress p q = (address : SocketAddr) × Appends (contents p.output) (contents q.output) (listening_line address) × (q.is_broken ≡ false) × (q.last ≡ p.last)
 
-  -- a prefix of this line was written, and then the output failed: no line is printed any more
+  -- A prefix of this line was written, and then the output failed. No more lines are printed.
   abbrev pub BreaksIn : PrinterState W → List ℕ → PrinterState W → Type 0
   BreaksIn p line q = WritesFirstPart (contents p.output) (contents q.output) line × (q.is_broken ≡ true) × (q.lost ≡ p.lost) × (q.last ≡ p.last)
 
-  -- the line of a signal that comes after the last one was printed; or the signal does not come after it, nothing was printed, and it was counted as lost
+  -- The signal's line was printed if the signal may follow the last one; otherwise nothing was printed, and
+  -- the signal counts as lost.
   abbrev pub Prints : PrinterState W → StepSignal → PrinterState W → Type 0
   Prints p s q =
       ((is_next p.last s.step s.node ≡ true) × Appends (contents p.output) (contents q.output) (signal_line s.node s.epoch) × (q.is_broken ≡ false) × (q.lost ≡ p.lost) × (q.last ≡ after_line p.last s.step s.node))
       ⊎ ((is_next p.last s.step s.node ≡ false) × (q ≡ with_lost p))
 
-  -- these signals came, in order: each was printed once, or lost because it did not come after the last one printed
+  -- These signals arrived in order. Each was printed once, or was lost because it may not follow the last
+  -- printed one.
   abbrev pub PrintsEach : PrinterState W → List StepSignal → PrinterState W → Type 0
   PrintsEach p [] q = q ≡ p
   PrintsEach p (s ∷ later) q = (m : PrinterState W) × Prints p s m × PrintsEach m later q
 
-  -- `may`: which signals may be printed, by step, node and epoch
+  -- `may`: the signals that may be printed, by step, node and epoch
   module _ (may : ℕ → ℕ → ℕ → Type 0) where
-    -- The lines of such signals were printed, each after the one before it; if the output failed in a line, followed
-    -- by a prefix of that one.
+    -- The lines of permitted signals were printed, each of which may follow the one before. If the output
+    -- failed within a line, a prefix of that line was written too.
     pub record HasPrinted (p q : PrinterState W) : Type 0 where
       pub signals : List StepSignal
       pub torn : List ℕ
@@ -107,7 +111,8 @@ module _ {W : Type 0} (contents : W → Option (List ℕ)) where
       pub follow : Follow p.last signals q.last
       pub whole : (torn ≡ []) ⊎ IsTornSignal may q torn
 
-    -- The line of an address was printed, and after it lines of such signals; or a prefix of that line, perhaps nothing.
+    -- The line of an address was printed, and then lines of permitted signals; or only a prefix of the
+    -- address line, possibly empty.
     pub record IsPrinted (p q : PrinterState W) : Type 0 where
       pub first : List ℕ
       pub signals : List StepSignal

@@ -1,4 +1,4 @@
--- The steps of an instance to which its replies and its remaining disk refer.
+-- The steps of an instance that its replies name, and that its remaining disk holds.
 use Rattle.std.specs.List.{AllByRecursion}
 use Rattle.std.specs.Prelude.{◌≡◌, ◌⊎◌, ℕ, ◌+◌, ◌-◌, ◌≤◌, true, List, [], ◌∷◌, ◌++◌, Contains, Ok, Some, length, slice_get, take}
 use Rattle.coord_disk.specs.Model.Present.{IsImage}
@@ -22,16 +22,18 @@ use Rattle.coord_lines.specs.Written.{IsFirstPart}
 use Rattle.coord_server.specs.EngineDesk.{AnswersOrder, DeskKeeps, DeskState}
 use Rattle.coord_server.specs.Ending.{IsClosed, IsOneHistory, ServedWhileOpen}
 
--- An order that gets a reply was just noted, with the number and the kind of the reply; or nothing was, since it repeats one. Of these settled steps, which were read by then, that of this number is the order, and was answered with that kind; or the base kept that reply for that order.
+-- An order that got a reply was just noted with the reply's number and kind, or it is a repeat and nothing
+-- was noted. Among the settled steps that were read by then, the step with this number is the order and was
+-- answered with this kind; or the base kept this reply for this order.
 pub record NamesItsStep {D : Type 0} (b : Basis D) (s : Step) (reply : Reply) (before after : List Note) (read : List Step) : Type 0 where
   pub noted : (after ≡ before ++ record { step = reply.step; what = s; kind = reply.kind } ∷ []) ⊎ (after ≡ before)
   pub settled : AtSomeMoment b (λ g. IsCollectable g.ledger.log (record { step = reply.step; what = s; kind = reply.kind }) × (settled_steps g.ledger.log ≡ read))
 
--- each reply that a desk gives to an order names its step
+-- Each reply of a desk to an order names the order's step.
 abbrev pub RepliesNameSteps : Type 0 → Type 0
 RepliesNameSteps D = (b : Basis D) (s : Step) (reply : Reply) (before after : List Note) (read now : List Step) → AnswersOrder b s (Ok reply) before after read now → NamesItsStep b s reply before after now
 
--- the remaining trail of an instance has the step of a note at the note's number, and returns the note's reply for it
+-- The remaining trail of an instance has the note's step at its number, and gives it the note's reply.
 pub record IsReplied {D : Type 0} (left : Closed D) (note : Note) : Type 0 where
   pub place : ℕ
   pub number : note.step ≡ left.base.count + place + 1
@@ -40,11 +42,11 @@ pub record IsReplied {D : Type 0} (left : Closed D) (note : Note) : Type 0 where
   pub given : slice_get (outs left.base left.trail.items) place ≡ Some outcome
   pub reply : outcome.reply ≡ record { step = note.step; kind = note.kind }
 
--- each reply that a desk noted in an instance is the reply of its step in the history that is left
+-- Each reply that a desk noted in an instance is the reply of its step in the remaining history.
 abbrev pub NotesAreReplies : Type 0 → Type 0 → Type 0
 NotesAreReplies D P = (b : Basis D) (desk : DeskState P) (left : Closed D) → IsOneHistory b desk left → (note : Note) → Contains desk.notes note → IsReplied left note
 
--- an answer names no later step than this one, in its reply or in its view
+-- An answer names no later step than this one, in its reply or in its view.
 abbrev pub AnswersUpTo : ℕ → Answer → Type 0
 AnswersUpTo step (Replied r) = r.step ≤ step
 AnswersUpTo step (Shown v) = v.settled ≤ step
@@ -53,7 +55,7 @@ AnswersUpTo step (Resent n) = Unit {0}
 AnswersUpTo step answer.Closed = Unit {0}
 AnswersUpTo step (Faulted f) = Unit {0}
 
--- the output is lines, each of which names no later step than this one; in the last of them it may break off
+-- The output consists of lines that name no later step than this one. It may break off within the last line.
 pub record WritesUpTo (step : ℕ) (text : List ℕ) : Type 0 where
   pub returned : List Answer
   pub up_to : AllByRecursion (AnswersUpTo step) returned
@@ -61,31 +63,32 @@ pub record WritesUpTo (step : ℕ) (text : List ℕ) : Type 0 where
   pub broken : (part ≡ []) ⊎ ((last : Answer) × AnswersUpTo step last × IsFirstPart part (reply_line last))
   pub text_is : text ≡ reply_lines returned ++ part
 
--- over each of these connections
+-- The same for the output of each of these connections.
 abbrev pub AllWriteUpTo : ℕ → List Connection → Type 0
 AllWriteUpTo step cs = AllByRecursion (λ c. WritesUpTo step c.talk.bytes_written) cs
 
--- all replies and views of an instance's desk are of steps that are settled in its remaining parts, whether or not a
--- line closed it
+-- All replies and views of an instance's desk come from steps that are settled in the remaining parts,
+-- whether or not a line closed the desk.
 abbrev pub ReturnedIsSettled : Type 0 → Type 0 → {V : Type 0} → (V → List Talk → V → Type 0) → Type 0
 ReturnedIsSettled D P {V} talked =
     (b : Basis D) (most : ℕ) (port : P) (v w : V) (desk : DeskState P) (left : Closed D) → IsOneHistory b desk left
     → ((served : ServedWhileOpen b talked most port v w desk) → AllWriteUpTo left.settled served.0)
     × ((served : IsClosed b talked most port v w desk) → AllWriteUpTo left.settled (served.0 ++ served.1 ∷ []))
 
--- these bytes give the world after the settled steps of an instance; or after a stop that of those and the next ones, which were in doubt
+-- These bytes give the world after the settled steps of an instance or, after a stop, possibly the world
+-- after the steps in doubt too.
 abbrev pub InstanceGives : {D : Type 0} → Closed D → List ℕ → Type 0
 InstanceGives left bytes =
     Recovered bytes left.store.world
     ⊎ ((size : ℕ) × (has_stopped left.store ≡ true) × (left.settled + size ≤ left.base.count + length left.trail.items)
     × Recovered bytes (fold left.base (take (left.settled - left.base.count + size) left.trail.items)))
 
--- the same for all bytes that a crash may leave of the disk of an instance
+-- Whatever a crash may leave of an instance's disk gives such a world.
 abbrev pub InstancesLeaveSteps : Type 0 → Type 0 → Type 0
 InstancesLeaveSteps D P =
     (b : Basis D) (desk : DeskState P) (left : Closed D) → IsOneHistory b desk left
     → b.keeps_model left.store.disk ≡ true → (image : List ℕ) → IsImage (b.present left.store.disk) image → InstanceGives left image
 
--- a desk that has noted as many steps as its instance has does not keep fewer, whatever its engine keeps
+-- If a desk has noted as many steps as an instance has, it never keeps fewer, whatever its engine keeps.
 abbrev pub NotesEndALife : Type 0 → Type 0 → Type 0
 NotesEndALife D P = (b : Basis D) (desk : DeskState P) (most : ℕ) → most ≤ length desk.notes → ¬ HasKeptFewer (DeskKeeps b) desk most

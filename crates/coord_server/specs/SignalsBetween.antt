@@ -1,4 +1,4 @@
--- How often a server prints signals between two moments at which every node of a part is Ready.
+-- The number of signals that a server prints between two moments at which every node of a part is Ready.
 use Rattle.std.specs.Prelude.{◌≡◌, ℕ, ◌+◌, ◌≤◌, ◌==◌, ◌&&◌, Bool, true, List, ◌++◌, Option, length, count_by, nat_le, nat_lt}
 use Rattle.coord_disk.specs.Model.DiskModel.{DiskModel}
 use Rattle.coord_types.specs.declared.steps.Step.{Step}
@@ -15,12 +15,13 @@ use Rattle.coord_server.specs.ServerRun.{ServerRun}
 use Rattle.coord_server.specs.Signals.{StepSignal}
 use Rattle.coord_server.specs.declared.server_end.ServerEnd.{ServerEnd}
 
--- whether a signal is one of node v by a step after step a, up to step b
+-- whether this is a signal of node v by a step after step a, up to step b
 abbrev pub is_printed_within : ℕ → ℕ → ℕ → StepSignal → Bool
 is_printed_within a b v s = (nat_lt a s.step && nat_le s.step b) && (s.node == v)
 
--- What a server has printed in all its instances keeps the bounds between two moments of its settled steps: it printed no more lines of a
--- node's signals by the steps between than resets were started there.
+-- The signals that a server has printed in all its instances keep the bounds between two moments of its
+-- settled steps: for the steps in between, it printed at most as many lines of a node's signals as resets
+-- were started there.
 abbrev pub PrintedBetween : {D V W : Type 0} → DiskModel D → (V → List Talk → V → Type 0) → (V → V → Type 0) → (W → Option (List ℕ)) → Type 0
 PrintedBetween {D} {V} {W} model talked failed contents =
     (most : ℕ) (store : Kept D) (callers : V) (printer : PrinterState W) (ended : ServerEnd D V W) (run : ServerRun model talked failed most contents (GivesSignal store.world) store callers printer ended) →
@@ -28,8 +29,9 @@ PrintedBetween {D} {V} {W} model talked failed contents =
     first_settled store.world (all_steps run.instances) ended.closed.settled ≡ earlier ++ (between ++ rest) → IsReadyAgain store.world earlier between part →
     BoundSignals (fold store.world earlier) between part (λ v. count_by (is_printed_within (store.world.count + length earlier) (store.world.count + length earlier + length between) v) run.printed.signals)
 
--- While nodes and links come and go, as long as no link joins the part with the rest, it printed no more lines of signals of a node of the
--- part by the steps between than resets were started and links dropped there, and its own resets answered Finished.
+-- The bound if nodes and links come and go, as long as no link joins the part with the rest: for the steps in
+-- between, it printed at most as many lines of signals of a node of the part as resets were started and links
+-- dropped there, plus the node's own resets that were answered Finished.
 abbrev pub PrintedWithDrops : {D V W : Type 0} → DiskModel D → (V → List Talk → V → Type 0) → (V → V → Type 0) → (W → Option (List ℕ)) → Type 0
 PrintedWithDrops {D} {V} {W} model talked failed contents =
     (most : ℕ) (store : Kept D) (callers : V) (printer : PrinterState W) (ended : ServerEnd D V W) (run : ServerRun model talked failed most contents (GivesSignal store.world) store callers printer ended) →

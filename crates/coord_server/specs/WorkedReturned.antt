@@ -6,7 +6,7 @@ use Rattle.coord_admin.specs.declared.answer.Answer.{Answer}
 use Rattle.coord_admin.specs.declared.answer.Answer.TheVariants.{Closed, Replied, Shown}
 use Rattle.coord_server.specs.Returned.{AnswersUpTo, WritesUpTo}
 
--- the reply to the third step, its line, and a world with three settled steps of five accepted ones
+-- the reply to the third step, its line, and a view of a world with three settled steps of five accepted ones
 abbrev pub third_reply : Answer
 third_reply = Replied (record { step = 3; kind = Started })
 
@@ -16,7 +16,8 @@ third_line = codes "{\"kind\":\"started\",\"step\":3}\n"
 abbrev pub third_world : Answer
 third_world = Shown (record { accepted = 5; settled = 3; nodes = []; links = [] })
 
--- they name no later step than the third, but not only the first two; a reader of the line alone knows it too
+-- They name no later step than the third, but the third too, not only the first two. A reader of the line
+-- alone finds the same.
 pub record ReturnUpToThird : Type 0 where
   pub returned : AllByRecursion (AnswersUpTo 3) (third_reply ∷ third_world ∷ Closed ∷ [])
   pub written : WritesUpTo 3 third_line

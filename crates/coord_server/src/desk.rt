@@ -15,9 +15,9 @@ use coord_view::View;
 use std::marker::Model;
 use std::sync::Wait;
 
-/// A desk that queries an engine, and hands resent packets to a port. Contracts see the notes of
-/// its share, its seen count, the settled steps that it has read, and the port. Each answer is
-/// right after the steps that it has read by then.
+/// A desk that queries an engine, and passes resent packets to a port. Contracts see the notes of its
+/// share, its seen count, the settled steps that it has read, and the port. Each answer follows from
+/// the steps that it has read when it answers.
 #[derive(Drop)]
 pub struct EngineDesk<'a, D: Disk, L: Origin, P: Port, R: Wait> {
     rt: &'a R,
@@ -25,7 +25,7 @@ pub struct EngineDesk<'a, D: Disk, L: Origin, P: Port, R: Wait> {
     port: P,
     share: Share<L>,
     seen: Seen,
-    /// Has read the settled steps by which the desk has answered.
+    /// A token that has read the settled steps from which the desk's answers follow.
     reader: LogPrefix,
 }
 
@@ -45,8 +45,7 @@ impl<'a, D: Disk, L: Origin, P: Port, R: Wait> Model for EngineDesk<'a, D, L, P,
 }
 
 impl<'a, D: Disk, L: Origin, P: Port + Drop, R: Wait> EngineDesk<'a, D, L, P, R> {
-    /// A desk that has seen nothing yet, with a reader that has read the steps of earlier
-    /// instances.
+    /// Makes a desk that has seen nothing yet. Its reader has read the steps of earlier instances.
     pub fn new(
         rt: &'a R,
         engine: &'a Engine<D, L>,
@@ -67,8 +66,7 @@ impl<'a, D: Disk, L: Origin, P: Port + Drop, R: Wait> EngineDesk<'a, D, L, P, R>
         }
     }
 
-    /// The desk's share, with the notes of its accepted steps, the desk's seen count, and its
-    /// token.
+    /// Returns the desk's share, with the notes of its accepted steps, its seen count, and its token.
     pub fn into_parts(self) -> (Share<L>, Seen, LogPrefix)
         ensures notes { result.0 ≡ self.entry.notes }
         ensures seen { result.1 ≡ self.entry.seen }
@@ -86,7 +84,7 @@ impl<'a, D: Disk, L: Origin, P: Port + Drop, R: Wait> EngineDesk<'a, D, L, P, R>
     }
 }
 
-/// Returns the reply to a step that was posted, or why there is none. A reader reads on.
+/// Returns the reply to a posted step, or the reason why there is none. The reader reads on.
 fn reply_to<D: Disk, L: Origin, R: Wait>(
     rt: &R,
     engine: &Engine<D, L>,
@@ -104,7 +102,7 @@ fn reply_to<D: Disk, L: Origin, R: Wait>(
     }
 }
 
-/// Wakes the flusher, and waits for the reply to a step that was accepted. A reader reads on.
+/// Wakes the flusher, and waits for the reply to an accepted step. The reader reads on.
 #[tactic(auto, using(crate::proofs::Reading::read_collected))]
 fn collect<D: Disk, L: Origin, R: Wait>(
     rt: &R,
@@ -121,7 +119,7 @@ fn collect<D: Disk, L: Origin, R: Wait>(
     without_ticket(engine.collect(rt, ticket, reader))
 }
 
-/// Returns the answer to a ticket, and drops a ticket that came back.
+/// Returns the answer to a ticket, and drops the ticket that a refusal returns.
 fn without_ticket(answer: Result<Reply, (Refusal, Ticket)>) -> Result<Reply, Refusal>
     ensures { result ≡ without_ticket answer }
 {
@@ -134,7 +132,7 @@ fn without_ticket(answer: Result<Reply, (Refusal, Ticket)>) -> Result<Reply, Ref
     }
 }
 
-/// Shows the settled world to a caller that has seen this many steps of it. A reader reads on.
+/// Shows the settled world to a caller with this seen count. The reader reads on.
 #[tactic(auto, using(crate::proofs::Reading::shows_to, crate::proofs::Reading::read_shown))]
 fn show<D: Disk, L: Origin, R: Wait>(
     rt: &R,
@@ -150,7 +148,7 @@ fn show<D: Disk, L: Origin, R: Wait>(
     engine.show(rt, seen, reader)
 }
 
-/// Hands the packets that may have been lost to a port again, and returns their number.
+/// Passes the packets that may have been lost to a port again, and returns their number.
 fn resend<D: Disk, L: Origin, P: Port, R: Wait>(
     rt: &R,
     engine: &Engine<D, L>,
@@ -185,8 +183,8 @@ impl<'a, D: Disk, L: Origin, P: Port, R: Wait> Desk for EngineDesk<'a, D, L, P, 
 
     ghost keeps = { DeskKeeps (based_on D.model L.base L.before) };
 
-    /// Returns the number of steps that the engine keeps. The desk's own notes are among them; but
-    /// no clause says that of a lock, so they are counted too.
+    /// Returns the number of steps that the engine keeps. The desk's own notes are among them; but no
+    /// clause can state that of a value under a lock, so the result is at least their number.
     fn kept(&self) -> usize {
         self.engine.kept(self.rt).max(self.share.notes().len())
     }

@@ -7,9 +7,9 @@ use std::fmt;
 /// A fault that ended a server, or occurred while it ended.
 #[derive(Clone, Copy, Debug, PartialEq, Eq, Drop)]
 pub enum ServerFault {
-    /// There was not enough memory to serve, or to begin the next instance.
+    /// Memory ran out, for serving or for the next instance.
     OutOfMemory,
-    /// There was not enough memory, or no thread, to begin an instance: nobody was served in it.
+    /// Memory ran out, or no thread could be started, when an instance began; nobody was served in it.
     NotBegun,
     /// The listener failed.
     Socket,
@@ -17,7 +17,7 @@ pub enum ServerFault {
     Device,
     /// A line could not be printed.
     Write,
-    /// The engine could not be closed. That would be a bug of this program: no call of the engine
+    /// The engine could not be closed. That would be a bug of this program: no sequence of its calls
     /// leads there.
     NotClosed(CloseFault),
 }

@@ -1,4 +1,4 @@
-//! One instance of a server: an engine with its threads, from a store to its remaining parts.
+//! Runs one instance of a server: an engine with its threads, from a store to the remaining parts.
 
 ghost use Rattle.std.specs.Prelude.{◌≡◌, ◌≤◌, [], false, length, IfErr, IfOk, IfSome, None, Some};
 ghost use Rattle.coord_engine.specs.MonotoneLog.{StartsWith};
@@ -35,25 +35,25 @@ use std::sync::ledger::Blank;
 use std::thread::Threads;
 use std::time::Clock;
 
-/// The desk's share allocates room for this many notes when an instance begins, and the flusher's
-/// for as many. Notes that stay within it never move. The room is more than 32 MiB, so that the C
-/// library maps it separately and returns it to the system when the instance ends: smaller blocks
-/// stay with the thread that allocated them.
+/// The desk's share and the flusher's each allocate room for this many notes when an instance begins.
+/// Notes that stay within it never move. The room takes more than 32 MiB, so the C library maps it
+/// separately and returns it to the system when the instance ends; smaller blocks would stay with the
+/// thread that allocated them.
 const NOTES_ROOM: usize = 600_000;
 
-/// The start of an instance: a store's ledger, in which nothing is accepted yet, and a handle of
-/// the server's history.
+/// The start of an instance: the ledger of a store, which has accepted nothing yet, and a handle of the
+/// server's history.
 #[derive(Drop)]
 pub struct InstanceStart<D: Disk> {
     pub history: MonotoneLog,
     pub ledger: Ledger<D>,
-    /// The store, unchanged.
+    /// The store before the instance, for comparison.
     pub over: Snapshot<Store<D>>,
     pub ghost adopted: { ledger ≡ ledger_over over.value.world over.value.disk },
 }
 
 impl<D: Disk> InstanceStart<D> {
-    /// Begins over a store, which is returned if memory runs out.
+    /// Makes a ledger over a store. If memory runs out, returns the store.
     pub fn new(alloc: Global, history: &MonotoneLog, store: Store<D>) -> Result<Self, Store<D>>
         requires { has_stopped store ≡ false }
         ensures history { IfOk result (λ start. start.history ≡ history.now) }
@@ -75,8 +75,8 @@ impl<D: Disk> InstanceStart<D> {
     }
 }
 
-/// The remaining parts of an instance, the callers, and the authority of the history, which has its
-/// settled steps now.
+/// The remaining parts of an instance, the callers, and the authority of the history, to which the
+/// instance's settled steps are written.
 #[derive(Drop)]
 pub struct Instance<D: Disk, C> {
     pub closed: Closed<D>,
@@ -85,11 +85,12 @@ pub struct Instance<D: Disk, C> {
     pub left: InstanceEnd,
 }
 
-/// Serves a ledger's store to the callers, until a line closes it or the instance is old, and
-/// returns the engine's parts, in any case. Accepted steps are settled first. The first instance
-/// opens the output.
+/// Serves a ledger's store to the callers until a line closes it or the instance is old, and returns
+/// the engine's parts in any case. Accepted steps are settled first. The first instance opens the
+/// output.
 ///
-/// An instance without memory or a thread serves nobody and leaves its engine unused; `left` says
+/// If memory or threads are lacking, the instance serves nobody and leaves its engine unused; `left`
+/// reports that, and whether the engine refused to be closed with all shares.
 /// so, and whether the engine refused to be closed with all shares.
 pub fn serve_instance<
     D: Disk + Send,
@@ -122,8 +123,8 @@ pub fn serve_instance<
     serve_ledger::<D, Brand, C, O, R>(setting, blank, history, writer, ledger, callers, opening)
 }
 
-/// Runs the threads of an instance over an engine, and takes the engine apart. `L` names the
-/// history and the ledger.
+/// Runs the threads of an instance over an engine, and takes the engine apart. `L` names the history
+/// and the ledger.
 fn serve_ledger<
     D: Disk + Send,
     L: Origin + Send + Sync,
@@ -170,7 +171,7 @@ fn serve_ledger<
     }
 }
 
-/// Makes the desk's share and the flusher's, allocates room for everything that an instance must
+/// Makes the shares of the desk and the flusher, allocates room for everything that an instance must
 /// not lose, and connects the port to a channel for each worker. Returns None if memory runs out.
 fn begin<D: Disk, L: Origin, O: SignalSource, R: Wait>(
     setting: &Setting<'_, R, O>,
@@ -202,8 +203,8 @@ fn share_with_room<D: Disk, L: Origin, R: Wait>(rt: &R, engine: &Engine<D, L>) -
     Some(share)
 }
 
-/// The remaining parts of an instance that did not begin, the callers, whom nobody served, and its
-/// engine's parts.
+/// Returns the remaining parts of an instance that did not begin, the callers, none of whom was served,
+/// and the parts of its engine.
 fn unbegun<D: Disk, L: Origin, C, O: SignalSource, R: Wait + Clock>(
     setting: &Setting<'_, R, O>,
     engine: Engine<D, L>,
@@ -231,9 +232,9 @@ fn unbegun<D: Disk, L: Origin, C, O: SignalSource, R: Wait + Clock>(
     }
 }
 
-/// The remaining parts of an instance whose threads have run, once its engine is taken apart with
-/// all shares; or, if the engine refuses them, whatever they noted. The written history begins with
-/// the steps that the desk has read.
+/// Takes the engine apart after the threads of an instance have run, and returns the remaining parts.
+/// If the engine refuses the shares, it is taken apart whatever they noted. The steps that the desk has
+/// read are a prefix of the written history.
 fn retired<D: Disk, L: Origin, C: Callers, R: Wait + Clock>(
     rt: &R,
     history: &MonotoneLog,
@@ -273,7 +274,7 @@ fn retired<D: Disk, L: Origin, C: Callers, R: Wait + Clock>(
     }
 }
 
-/// Returns how an instance was left, from the end of its serving and the closing of its engine.
+/// Returns the end of an instance, from the end of its serving and the result of closing its engine.
 fn left_with(served: InstanceEnd, refused: Option<CloseFault>) -> InstanceEnd
     ensures named { refused ≡ None → result ≡ served }
     ensures refused { IfSome refused (λ why.
@@ -285,7 +286,7 @@ fn left_with(served: InstanceEnd, refused: Option<CloseFault>) -> InstanceEnd
     }
 }
 
-/// Returns the two ends of a channel for each worker.
+/// Creates a channel for each worker, and returns both ends of each.
 fn channels(
     alloc: Global,
 ) -> Result<(Vec<Sender<Vec<Packet>>>, Vec<Receiver<Vec<Packet>>>), AllocError>

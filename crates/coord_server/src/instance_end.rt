@@ -7,10 +7,10 @@ use crate::ServerFault;
 pub enum InstanceEnd {
     /// The instance is old; the server continues with the next one.
     Resting,
-    /// The instance is old, and there was no memory to begin the next one.
+    /// The instance is old, and memory for the next one ran out.
     Unfollowed,
     /// The first line was not printed, so nobody was served. The printer has the reason.
     Unprinted,
-    /// The server ends, by a close or by this fault.
+    /// The server ends: after a close, or with this fault.
     Ended(Option<ServerFault>),
 }

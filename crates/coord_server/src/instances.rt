@@ -1,4 +1,4 @@
-//! The instances of a server, one after the other.
+//! Runs the instances of a server, one after another.
 
 ghost use Rattle.std.specs.Prelude.{◌≡◌, ◌⊎◌, List, [], false, true, IfErr, IfOk, None, Some};
 ghost use Rattle.std.specs.Thread.{IsSend, IsSync};
@@ -30,26 +30,27 @@ use std::thread;
 use std::thread::{PromisedHandle, Scope, Threads};
 use std::time::Clock;
 
-/// Serves a store to the callers, one after the other, until a line closes it, and returns the
-/// parts of its last instance's engine.
+/// Serves a store to the callers, one after another, until a line closes it, and returns the parts of
+/// the last instance's engine.
 ///
-/// In each instance a flusher and the workers run. In the first one, once all threads run,
-/// `listening` and the address is printed. Then packets that a crash or the end of the previous
-/// instance may have lost are sent again, and the callers are served. A thread prints each released
-/// signal as a line, in order, from an unbounded channel: a slow output delays nothing else. If a
-/// line can't be printed, no more are, and the server continues: the epochs that it shows include
-/// signals that were not printed. An instance ends between two connections once its engine keeps
-/// `most` steps; a connection is ended after a reply once it keeps twice as many. At the end of
-/// each instance, after a close or a fault too, all accepted steps are settled, the flusher ends,
-/// and then the workers. At the last end the remaining signals are printed, however long the output
-/// takes.
+/// In each instance a flusher and the workers run. In the first instance, once all threads run,
+/// `listening` and the address are printed. Then the packets that a crash or the end of the previous
+/// instance may have lost are sent again, and the callers are served. A separate thread prints each
+/// released signal as a line, in order, from an unbounded channel, so a slow output delays nothing
+/// else. If a line can't be printed, no more lines are, and the server continues: the epochs that it
+/// shows include signals that were not printed.
 ///
-/// It prints the address and signals of the history that `O` names, which is new and which it
-/// writes. Its printer can't print anything else, also if the server never returns.
+/// An instance ends between two connections once its engine keeps `most` steps; a connection is cut
+/// after a reply once the engine keeps twice as many. At the end of each instance, also after a close
+/// or a fault, all accepted steps are settled, then the flusher ends, and then the workers. At the end
+/// of the server the remaining signals are printed, however long the output takes.
 ///
-/// The server's end says what ended it, also if there was no memory or no thread for an instance,
-/// or no thread that prints. Only if there is no memory to begin with, the store and the printer
-/// are returned as they were, and nobody was served.
+/// The server prints its address, and signals of the history that `O` names. This history is new, and
+/// the server writes it. The printer can't print anything else, even if the server never returns.
+///
+/// `ServerEnd` reports why the server ended, for example that memory or a thread for an instance or for
+/// printing was lacking. Only if memory runs out at the very beginning, the store and the printer are
+/// returned unchanged, and nobody was served.
 pub fn serve_instances<
     D: Disk + Send,
     C: Callers + Drop,
@@ -98,7 +99,7 @@ pub fn serve_instances<
     Ok(serve_and_print(&setting, start, writer, callers, opening, printing))
 }
 
-/// Runs the instances in a scope with the thread that prints the port's signals.
+/// Runs the instances in a scope, together with the thread that prints the port's signals.
 fn serve_and_print<
     D: Disk + Send,
     C: Callers + Drop,
@@ -143,8 +144,8 @@ fn serve_and_print<
     )
 }
 
-/// Starts the thread that prints signals. If the system has no thread left, nobody waits for the
-/// first line any more, and the printer is returned.
+/// Starts the thread that prints signals. If no thread can be started, the request for the first line
+/// is dropped, and the printer is returned.
 fn start_printing<
     's,
     'r: 's,
@@ -174,7 +175,7 @@ fn start_printing<
     }
 }
 
-/// Runs the instances while a thread prints, which ends after the last signal.
+/// Runs the instances while a thread prints. That thread ends after the last signal.
 fn print_and_live<
     D: Disk + Send,
     C: Callers + Drop,
@@ -202,8 +203,8 @@ fn print_and_live<
     end_of(setting.history, instance, printed)
 }
 
-/// Runs one instance after the other, each with the store and the callers that the one before left,
-/// and returns the last. The first one opens the output: if no thread prints, it ends by that.
+/// Runs one instance after another, each with the store and the callers that the previous one left, and
+/// returns the last. The first one opens the output; if no thread prints, it ends there.
 fn live<
     D: Disk + Send,
     C: Callers + Drop,
@@ -244,7 +245,7 @@ fn live<
     unreachable!()
 }
 
-/// Whether the next instance may begin: the store has not stopped, all that was accepted is
+/// Tests whether the next instance may begin: the store has not stopped, all accepted steps are
 /// settled, and the instance has kept `most` steps.
 fn goes_on<D: Disk>(most: usize, closed: &Closed<D>) -> bool
     ensures on { result ≡ true → MayGoOn most closed.now }
@@ -257,7 +258,7 @@ fn goes_on<D: Disk>(most: usize, closed: &Closed<D>) -> bool
     closed.settled - base == closed.trail.len() as u64
 }
 
-/// Starts the next instance over the parts of the last one, which are returned if memory runs out.
+/// Starts the next instance over the parts of the last one. If memory runs out, returns these parts.
 fn start_over<D: Disk, O: SignalSource, R: Wait>(
     setting: &Setting<'_, R, O>,
     closed: Closed<D>,
@@ -284,9 +285,9 @@ fn start_over<D: Disk, O: SignalSource, R: Wait>(
     }
 }
 
-/// Returns the start of the next instance, the authority of the history, and the callers; or the
-/// last instance: one that was ended, or that rests and can't continue, because its store has
-/// stopped or memory for the next one ran out.
+/// Returns the start of the next instance, the authority of the history, and the callers; or the last
+/// instance. An instance is the last if it has ended, or if it rests but can't continue, because its
+/// store has stopped or memory for the next one ran out.
 fn next_of<D: Disk, C, O: SignalSource, R: Wait>(
     setting: &Setting<'_, R, O>,
     instance: Instance<D, C>,
@@ -322,10 +323,9 @@ fn next_of<D: Disk, C, O: SignalSource, R: Wait>(
     }
 }
 
-/// Returns the end of a server, from its last instance. An instance that rests is the last only if
-/// it can't continue, for example because its store has stopped. If the first line was not printed,
-/// the printer has the reason. The steps of all printed signals are among those written by all
-/// instances.
+/// Returns the end of a server, from its last instance. A resting instance is the last only if it can't
+/// continue, for example because its store has stopped. If the first line was not printed, the printer
+/// has the reason. All instances together have written the steps of all printed signals.
 fn end_of<D: Disk, C, W: Write>(
     history: &MonotoneLog,
     instance: Instance<D, C>,

@@ -1,12 +1,12 @@
-//! The signal that was printed last.
+//! The last printed signal.
 
 ghost use Rattle.std.specs.Prelude.{◌≡◌};
 ghost use Rattle.coord_server.specs.Lines.{after_line, is_next, nothing_since};
 
 use coord_types::NodeId;
 
-/// The last printed signal: the number of its step, its node, and whether it was the second of that
-/// step. A step sends two signals at most: those of the two ends of a dropped link.
+/// The last printed signal: the number of its step, its node, and whether it was the second signal of
+/// that step. A step sends at most two signals: those of the two ends of a dropped link.
 #[derive(Clone, Copy, Debug, Drop)]
 pub struct LastLine {
     pub step: u64,
@@ -15,7 +15,7 @@ pub struct LastLine {
 }
 
 impl LastLine {
-    /// Returns the state before any signal; no signal of a step up to this one will be printed.
+    /// Returns the state in which nothing was printed, and no signal of a step up to this one will be.
     pub fn since(step: u64) -> Self
         ensures { result ≡ nothing_since step }
     {
@@ -26,14 +26,14 @@ impl LastLine {
         }
     }
 
-    /// Whether a signal of this step at this node comes after the last one.
+    /// Tests whether a signal of this step at this node may follow the last one.
     pub fn is_before(self, step: u64, node: NodeId) -> bool
         ensures { result ≡ is_next self step node }
     {
         self.step < step || (self.step == step && !self.is_second && self.node != node.number())
     }
 
-    /// Records this signal as the last one.
+    /// Records this signal as the last one printed.
     pub fn then(self, step: u64, node: NodeId) -> Self
         ensures { result ≡ after_line self step node }
     {

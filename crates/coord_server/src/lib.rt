@@ -1,15 +1,16 @@
-//! The server: a store after an engine with its threads, and the administration over it.
+//! The server: an engine with its threads over a store, and the administration over the engine.
 //!
 //! [`serve_store`] runs an engine with a flusher and eight workers over a store, and serves the
-//! connections of a listener to an [`EngineDesk`], one after the other, until a line closes it. To
+//! connections of a listener with an [`EngineDesk`], one after another, until a line closes it. To
 //! bound its memory, it does so in instances, each over an engine that is taken apart once it keeps
-//! many steps ([`serve_instances`]). `specs/EngineDesk.antt` states the answers of that desk, by
-//! the statements of the engine's calls, `specs/Printed.antt` the printed lines,
-//! `specs/Ending.antt` the remaining parts at the end of an instance: one history, and a store that
-//! has not stopped; and `specs/Instances.antt` how instances follow one another. The main theorem
-//! is `specs/ServerRun.antt`, which `serve_store` ensures, with the proved answers of an
-//! `EngineDesk` as a `Desk`. Nothing of this says that a thread runs, that a packet comes or that
-//! anyone is served.
+//! many steps ([`serve_instances`]).
+//!
+//! `specs/EngineDesk.antt` states the answers of that desk, in terms of the statements about the
+//! engine's calls; `specs/Printed.antt` states the printed lines; `specs/Ending.antt` the remaining
+//! parts of an instance: one history, and a store that has not stopped; and `specs/Instances.antt` how
+//! one instance follows another. The main theorem is `specs/ServerRun.antt`, which `serve_store`
+//! ensures, with the proved answers of an `EngineDesk` as a `Desk`. None of this states that a thread
+//! runs, that a packet arrives, or that anyone is served.
 #![tactic(auto)]
 
 mod desk;

@@ -12,21 +12,22 @@ use std::marker::Model;
 use std::sync::{Mutex, Wait};
 use std::{array, mem};
 
-/// The number of workers. A node belongs to the worker with the node's number modulo this.
+/// The number of workers. A node belongs to the worker whose number is the node's number modulo this.
 pub const WORKERS: u8 = 8;
 
-/// The channels to the workers and the gathered packets, both by the number of the worker.
+/// The channels to the workers, and the gathered packets for each worker, both indexed by the worker's
+/// number.
 #[derive(Drop)]
 struct Ways {
     channels: Vec<Sender<Vec<Packet>>>,
     gathered: [Vec<Packet>; 8],
 }
 
-/// Carries packets to the workers' channels, and signals to the channel of what prints them. It
-/// gathers packets, and hands on those for one worker as one message, so that each is woken once.
-/// It gets the resent packets and all signals: a flusher submits the packets of its flights itself
-/// (`SubmittingPort`). It waits for nobody: a packet without memory is lost. No clause can name the
-/// values under its locks, so contracts see nothing of it.
+/// Carries packets to the workers' channels, and signals to the channel of the thread that prints them.
+/// It gathers packets and hands on those for one worker as one message, so that each worker wakes once.
+/// It gets the resent packets and all signals; a flusher submits the packets of its flights itself
+/// (`SubmittingPort`). It never waits: a packet is lost if memory for it runs out. No clause can
+/// describe the values under its locks, so contracts see nothing of it.
 #[derive(Drop)]
 pub struct LocalPort<R: Wait, O: SignalSource> {
     rt: R,
@@ -42,7 +43,7 @@ impl<R: Wait, O: SignalSource> Model for LocalPort<R, O> {
 }
 
 impl<R: Wait, O: SignalSource> LocalPort<R, O> {
-    /// The channel of the worker i is the i-th.
+    /// Creates a port. Channel i leads to worker i.
     pub fn new(
         rt: R,
         alloc: Global,
@@ -60,23 +61,23 @@ impl<R: Wait, O: SignalSource> LocalPort<R, O> {
         }
     }
 
-    /// Carries packets to these channels from now on.
+    /// Connects the port to these channels for packets.
     pub fn connect(&self, channels: Vec<Sender<Vec<Packet>>>) {
         self.ways.lock(&self.rt).channels = channels;
     }
 
-    /// Closes the channels of packets. Their content is still received.
+    /// Closes the channels for packets. Packets already in them are still received.
     pub fn hang_up(&self) {
         self.ways.lock(&self.rt).channels.clear();
     }
 
-    /// Closes the channel of signals. Its content is still received.
+    /// Closes the channel for signals. Signals already in it are still received.
     pub fn fall_silent(&self) {
         *self.signals.lock(&self.rt) = None;
     }
 }
 
-/// Returns the worker of the node to which a packet goes.
+/// Returns the worker of the node to which a packet is carried.
 fn worker_of(packet: &Packet) -> usize
     ensures { result ≡ worker_of packet.now }
 {
@@ -87,7 +88,7 @@ fn worker_of(packet: &Packet) -> usize
     usize::from(node.number() % WORKERS)
 }
 
-/// Sends the packets gathered for a worker, if any. Returns the number of lost ones.
+/// Sends the packets gathered for a worker, if any, and returns the number of lost ones.
 fn send<R: Wait>(
     rt: &R,
     channels: &[Sender<Vec<Packet>>],
@@ -106,7 +107,7 @@ fn send<R: Wait>(
 }
 
 impl Ways {
-    /// Gathers a packet for the worker of the node that it names.
+    /// Adds a packet to the gathered ones of the node's worker. Returns false if memory runs out.
     fn gather(&mut self, packet: Packet) -> bool {
         match self.gathered.get_mut(worker_of(&packet)) {
             Some(packets) => packets.push(packet).is_ok(),

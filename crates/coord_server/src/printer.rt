@@ -19,19 +19,19 @@ use std::marker::{Model, PhantomData};
 use std::net::SocketAddr;
 
 /// An output that may be taken out of a `Printer`. Code that is generic over an output without this
-/// bound can write to it only through a `SignalPrinter`, whether it returns or not.
+/// bound can write to the output only through a `SignalPrinter`, even if the code never returns.
 pub trait TakableOutput {}
 
 impl TakableOutput for Vec<u8> {}
 
-/// An output to which lines were printed, with its state. It can't print: a `SignalPrinter` does.
-/// Contracts see `PrinterState` (`specs/Printed.antt`).
+/// An output to which lines were printed, with the state of the printing. It can't print: only a
+/// `SignalPrinter` can. Contracts see `PrinterState` (`specs/Printed.antt`).
 #[derive(Drop)]
 pub struct Printer<W: Write> {
     alloc: Global,
     output: W,
     is_broken: bool,
-    /// The number of signals that were not printed, because they did not come after the last one.
+    /// The number of signals that were not printed because they may not follow the last one.
     lost: u64,
     last: LastLine,
 }
@@ -45,21 +45,21 @@ impl<W: Write> Model for Printer<W> {
 }
 
 impl<W: Write> Printer<W> {
-    /// Whether a line could not be written.
+    /// Tests whether a line could not be written.
     pub fn is_broken(&self) -> bool
         ensures { result ≡ self.now.is_broken }
     {
         self.is_broken
     }
 
-    /// Whether the steps of all printed signals are among this many first ones.
+    /// Tests whether all printed signals belong to the first `steps` steps.
     pub fn is_within(&self, steps: u64) -> bool
         ensures { result ≡ nat_le self.now.last.step steps }
     {
         self.last.step <= steps
     }
 
-    /// Prints the line of a signal of this step, if it is next in order.
+    /// Prints the line of a signal of this step, if the signal may follow the last one.
     fn print_step(&mut self, step: u64, node: NodeId, epoch: u64) -> bool
         ensures written { result ≡ true →
             Appends (W.contents self.old.output) (W.contents self.new.output)
@@ -129,9 +129,9 @@ impl<W: Write + TakableOutput> Printer<W> {
 }
 
 /// Prints a server's lines: its address, and signals of the history that `O` names. It can't print
-/// anything else. Each line is written at once and flushed. If a write fails, a prefix of the line
-/// may have been written, and no more lines are printed. Signals are printed in the order of their
-/// steps, each once. Contracts see `PrinterState`, as of a `Printer`.
+/// anything else. Each line is written and flushed at once. If a write fails, a prefix of the line may
+/// have been written, and no more lines are printed. Signals are printed in the order of their steps,
+/// each once. Like for a `Printer`, contracts see `PrinterState`.
 #[derive(Drop)]
 pub struct SignalPrinter<W: Write, O: SignalSource> {
     printer: Printer<W>,
@@ -147,8 +147,8 @@ impl<W: Write, O: SignalSource> Model for SignalPrinter<W, O> {
 }
 
 impl<W: Write, O: SignalSource> SignalPrinter<W, O> {
-    /// Creates a printer for an output to which nothing was printed yet, for signals of steps after
-    /// this one.
+    /// Creates a printer for an output to which nothing was printed yet. It prints only signals of
+    /// steps after `since`.
     pub fn new(alloc: Global, output: W, since: u64) -> Self
         ensures { result ≡ new_printer output since }
     {
@@ -171,7 +171,7 @@ impl<W: Write, O: SignalSource> SignalPrinter<W, O> {
         self.printer
     }
 
-    /// Whether a line could not be written.
+    /// Tests whether a line could not be written.
     pub fn is_broken(&self) -> bool
         ensures { result ≡ self.now.is_broken }
     {
@@ -179,8 +179,8 @@ impl<W: Write, O: SignalSource> SignalPrinter<W, O> {
     }
 
     /// Prints `signal N EPOCH`: a step has ended a reset at node N. Returns whether the line was
-    /// written. If not, the output has failed, or the signal did not come after the last one: then
-    /// no part of its line was written, and the signal counts as lost.
+    /// written. If it was not, the output has failed, or the signal may not follow the last one: in
+    /// that case no part of its line was written, and it counts as lost.
     pub fn print_signal(&mut self, signal: &Signal<O>) -> bool
         ensures written { result ≡ true →
             Appends (W.contents self.old.output) (W.contents self.new.output)
@@ -202,8 +202,8 @@ impl<W: Write, O: SignalSource> SignalPrinter<W, O> {
             .print_step(signal.step(), signal.node(), signal.epoch())
     }
 
-    /// Prints the address at which the server listens, or returns the fault: the output failed, or
-    /// memory for the line ran out. In the second case nothing was written, and later lines are
+    /// Prints the address at which the server listens. Returns a fault if the output fails, or if
+    /// memory for the line runs out; in the second case nothing was written, and later lines can be
     /// printed.
     pub fn print_address(&mut self, address: SocketAddr) -> Result<(), ServerFault>
         ensures written { OnOk result (Appends (W.contents self.old.output)
@@ -240,7 +240,7 @@ fn write_line<W: Write>(output: &mut W, line: &str) -> Result<(), ServerFault>
     }
 }
 
-/// Returns the fault of a failed output: out of memory if the error says so, else Write.
+/// Returns the fault of a failed output: `OutOfMemory` if the error says so, otherwise `Write`.
 fn fault_of(error: io::Error) -> ServerFault
     ensures memory { error_kind error ≡ ErrorKind.OutOfMemory → result ≡ ServerFault.OutOfMemory }
     ensures other { error_kind error ≢ ErrorKind.OutOfMemory → result ≡ ServerFault.Write }

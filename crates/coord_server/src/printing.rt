@@ -18,17 +18,17 @@ use std::snapshot::Snapshot;
 use std::sync::Wait;
 use std::thread::Promise;
 
-/// The printer, with a token that has read the step of each printed signal.
+/// The printer after the thread has ended, with a token that has read the step of each printed signal.
 #[derive(Drop)]
 pub struct Printed<W: Write> {
     pub printer: Printer<W>,
     pub reader: LogPrefix,
-    /// The reason why the first line was not printed, if it should have been.
+    /// The reason why the first line was not printed, if it was requested and not printed.
     pub unprinted: Option<ServerFault>,
 }
 
 /// Prints the arriving signals in order, up to the last one or to a line that can't be written. A
-/// signal that does not come after the last one is lost.
+/// signal that may not follow the last one is lost.
 #[tactic(auto, using(crate::proofs::Starts::returned_none))]
 pub fn print_signals<W: Write, O: SignalSource, I: Iterator<Item = Signal<O>>>(
     history: &MonotoneLog,
@@ -66,7 +66,7 @@ pub fn print_signals<W: Write, O: SignalSource, I: Iterator<Item = Signal<O>>>(
     }
 }
 
-/// Asks the thread that prints for the first line, and waits until that is printed.
+/// Asks the thread that prints for the first line, and waits until it is printed.
 #[derive(Drop)]
 pub struct Opening {
     to: Option<Sender<SocketAddr>>,
@@ -74,15 +74,17 @@ pub struct Opening {
 }
 
 impl Opening {
-    /// Gives up the request for the first line: the thread that waits for it continues without.
+    /// Drops the request for the first line. The thread that waits for the request continues without
+    /// it.
     pub fn give_up(&mut self)
         ensures { self.new.to ≡ None }
     {
         self.to = None;
     }
 
-    /// Makes the other thread print the address at which the server listens, and then signals; or
-    /// returns the end of the instance if that line was not printed, also if no thread prints.
+    /// Makes the other thread print the address at which the server listens, and after that signals.
+    /// Returns the end of the instance if the address was not printed, for example because no thread
+    /// prints.
     pub fn open<C: Callers, R: Wait>(self, rt: &R, callers: &C) -> Result<(), InstanceEnd>
         ensures unopened { IfErr result (EndsUnopened C.failed callers.now) }
         ensures given_up { self.to ≡ None → IsErr result }
@@ -118,7 +120,7 @@ fn print_listening<W: Write, O: SignalSource>(
     printer.print_address(address)
 }
 
-/// The printer with the receiving ends of its thread: the address for the first line, and signals.
+/// The printer, with the receiving ends of its thread's channels: for the address, and for signals.
 #[derive(Drop)]
 pub struct Printing<W: Write + Drop, O: SignalSource> {
     pub printer: SignalPrinter<W, O>,
@@ -133,8 +135,8 @@ pub struct Printing<W: Write + Drop, O: SignalSource> {
 
 #[tactic(auto, using(crate::proofs::Starts::printed_none))]
 impl<W: Write + Drop, O: SignalSource> Printing<W, O> {
-    /// Prints the received address, and then the received signals, and returns the printer. No
-    /// clause can state the content of a channel except the invariant of a signal's type.
+    /// Prints the received address, and then the received signals, and returns the printer. Of the
+    /// content of a channel, a clause can state only the invariant of a signal's type.
     pub fn print<R: Wait>(self, rt: &R) -> Printed<W>
         ensures printed { IsPrinted W.contents (O.gives result.reader.steps)
             self.printer result.printer }
@@ -171,15 +173,15 @@ impl<W: Write + Drop, O: SignalSource> Printing<W, O> {
     }
 }
 
-/// The printer has printed, from its first state, the address, and signals of steps that its token
-/// has read.
+/// Records that the printer has printed, since its first state, the address, and signals of steps that
+/// its token has read.
 #[derive(Drop)]
 pub struct PrintsFrom<W: Write + Drop, O: SignalSource> {
     pub first: Snapshot<SignalPrinter<W, O>>,
 }
 
 impl<W: Write + Drop, O: SignalSource> PrintsFrom<W, O> {
-    /// Remembers the printer's state before the thread starts.
+    /// Records the printer's state before the thread starts.
     pub fn new(printer: &SignalPrinter<W, O>) -> Self
         ensures { result.first.value ≡ printer.now }
     {
@@ -198,8 +200,8 @@ impl<W: Write + Drop, O: SignalSource> Promise<Printed<W>> for PrintsFrom<W, O> 
         IsUnprintedFor r.printer r.unprinted };
 }
 
-/// The channels between the two sides of an output: for the address of the first line, for the
-/// confirmation that it was printed, and for signals.
+/// The channels between the two sides of an output: for the address, for the confirmation that its line
+/// was printed, and for signals.
 #[derive(Drop)]
 pub struct Channels<O: SignalSource> {
     addresses: (Sender<SocketAddr>, Receiver<SocketAddr>),
@@ -208,7 +210,8 @@ pub struct Channels<O: SignalSource> {
 }
 
 impl<O: SignalSource> Channels<O> {
-    /// Creates the channels, if there is memory for them. That of signals is unbounded.
+    /// Creates the channels, or returns an error if memory runs out. The channel for signals is
+    /// unbounded.
     pub fn new(alloc: Global) -> Result<Self, AllocError> {
         Ok(Channels {
             addresses: crossbeam_channel::bounded(alloc, 1)?,
@@ -218,7 +221,8 @@ impl<O: SignalSource> Channels<O> {
     }
 }
 
-/// The two sides of an output: the port for signals with the opening, and the side of its thread.
+/// The two sides of an output: the port for signals with the request for the first line, and the side
+/// of the printing thread.
 #[derive(Drop)]
 pub struct Outlet<R: Wait, W: Write + Drop, O: SignalSource> {
     pub port: LocalPort<R, O>,
@@ -227,8 +231,8 @@ pub struct Outlet<R: Wait, W: Write + Drop, O: SignalSource> {
 }
 
 impl<R: Wait + Drop, W: Write + Drop, O: SignalSource> Outlet<R, W, O> {
-    /// Creates both sides for a printer and the history of its signals. No clause can say that the
-    /// two sides of a channel belong together.
+    /// Creates both sides for a printer and the history of its signals. No clause can state that the
+    /// two ends of a channel belong together.
     pub fn new(
         rt: R,
         alloc: Global,

@@ -11,21 +11,21 @@ use coord_disk::Disk;
 use coord_engine::Closed;
 use std::io::Write;
 
-/// The parts of a server's last engine, the callers, and how the server ended.
+/// The parts of a server's last engine, the callers, and the reason why the server ended.
 #[derive(Drop)]
 pub struct ServerEnd<D: Disk, C, W: Write> {
     pub closed: Closed<D>,
     pub callers: C,
-    /// The fault that ended the serving, if not a close.
+    /// The fault that ended the serving, or None after a close.
     pub served: Option<ServerFault>,
-    /// The printer, once it has printed everything.
+    /// The printer, after it has printed everything.
     pub printer: Printer<W>,
 }
 
 impl<D: Disk, C, W: Write> ServerEnd<D, C, W> {
-    /// Returns the one fault to report: a stopped store first, then what ended the serving, then an
-    /// output that failed, or that has the signal of a step that is not settled: no signal comes to
-    /// it before that. None if the server was closed and nothing failed.
+    /// Returns the one fault to report: first a stopped store; then the fault that ended the serving;
+    /// then an output that failed, or that has a signal of a step that is not settled (no call of the
+    /// server leads there). None if the server was closed and nothing failed.
     pub fn fault(&self) -> Option<ServerFault>
         ensures { result ≡ fault_at_end
             (has_stopped self.now.closed.store) self.now.served
@@ -41,8 +41,8 @@ impl<D: Disk, C, W: Write> ServerEnd<D, C, W> {
         }
     }
 
-    /// Tests whether a line could not be written, or a signal was printed of a step that is not
-    /// settled.
+    /// Tests whether a line could not be written, or a signal of a step that is not settled was
+    /// printed.
     fn is_amiss(&self) -> bool
         ensures { result ≡ is_amiss self.now.printer self.now.closed.settled }
     {
@@ -51,7 +51,7 @@ impl<D: Disk, C, W: Write> ServerEnd<D, C, W> {
 }
 
 impl<D: Disk, C: Callers + Drop, W: Write + Drop> ServerEnd<D, C, W> {
-    /// Returns the parts of the last engine, beside the fault to report if there is one; and the
+    /// Returns the parts of the last engine, together with the fault to report if there is one, and the
     /// printer. There is no fault only if a line closed the server and its store has not stopped.
     pub fn into_closed(self) -> (Result<Closed<D>, (ServerFault, Closed<D>)>, Printer<W>)
         ensures closed { IfOk result.0 (λ closed. (closed ≡ self.closed) ×

@@ -1,4 +1,4 @@
-//! A store that is served until a line closes it.
+//! Serves a store until a line closes it.
 
 ghost use Rattle.std.specs.Prelude.{◌≡◌, List, [], false, IfErr, IfOk};
 ghost use Rattle.coord_admin.specs.Times.{IsUsual};
@@ -22,20 +22,20 @@ use std::sync::Wait;
 use std::thread::Threads;
 use std::time::Clock;
 
-/// The number of steps after which an instance of the server ends. With 100 to 150 bytes for each
-/// step, an engine then keeps some 40 MB, or twice that if a connection stays; an instance with
-/// fewer would spend more of its time with its end, which takes some tenths of a second.
+/// The number of steps after which an instance of the server ends. At 100 to 150 bytes per step an
+/// engine then keeps about 40 MB, or twice that if a connection stays open. Shorter instances would
+/// spend a greater part of their time on their end, which takes some tenths of a second.
 pub const INSTANCE_STEPS: usize = 262_144;
 
-/// Serves a store to the connections of a listener, one after the other, until a line closes it,
-/// and returns the parts of its last instance's engine. It is `serve_callers` over these
-/// connections, with the usual timeouts. The history is new, and `O` names it. If memory to begin
-/// runs out, the store and the printer are returned unchanged.
+/// Serves a store to the connections of a listener, one after another, until a line closes it, and
+/// returns the parts of the last instance's engine. It is `serve_callers` over these connections, with
+/// the usual timeouts. The history is new, and `O` names it. If memory runs out at the beginning, the
+/// store and the printer are returned unchanged.
 ///
 /// A server that never returns has no postcondition. But whatever it does and wherever it stops, it
-/// writes the disk only by commits of its store, and the output only by its printer's calls: its
-/// type says so, since it takes any disk and any output, and these need not be `Takable` and
-/// `TakableOutput`.
+/// writes the disk only by commits of its store, and the output only by its printer's calls. Its type
+/// ensures this: it is generic over the disk and the output, and does not require them to be `Takable`
+/// and `TakableOutput`.
 pub fn serve_store<
     'a,
     D: Disk + Send,
@@ -99,9 +99,9 @@ fn serve_accepted<
     serve_callers(rt, alloc, store, callers, printer, written)
 }
 
-/// Serves a store to the callers, one after the other, until a line closes it, and returns the
-/// parts of its last instance's engine. It is `serve_instances` with `INSTANCE_STEPS`. If memory to
-/// begin runs out, the store and the printer are returned unchanged.
+/// Serves a store to the callers, one after another, until a line closes it, and returns the parts of
+/// the last instance's engine. It is `serve_instances` with `INSTANCE_STEPS`. If memory runs out at the
+/// beginning, the store and the printer are returned unchanged.
 pub fn serve_callers<
     D: Disk + Send,
     C: Callers + Drop,

@@ -7,7 +7,7 @@ use coord_engine::MonotoneLog;
 use std::alloc::Global;
 use std::sync::Wait;
 
-/// The runtime, the memory, the port and the history of a server, and the number of steps of an
+/// The runtime, the allocator, the port and the history of a server, and the number of steps of an
 /// instance.
 #[derive(Drop)]
 pub struct Setting<'r, R: Wait, O: SignalSource> {

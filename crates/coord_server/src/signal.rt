@@ -7,22 +7,24 @@ use coord_engine::LogPrefix;
 use coord_types::NodeId;
 use std::marker::{Brand, Model, PhantomData};
 
-/// Names a server by its history: it prints only signals that the settled steps there send.
+/// Names a server by its history: the server prints only signals that the settled steps of that history
+/// send.
 ///
-/// A port and an output are made in code that is generic over this name and called with `Brand`,
-/// which picks the server's history and the signals of its steps.
+/// The code that creates a port and an output is generic over this name, and is called with `Brand`.
+/// That picks the server's history, and the signals of its steps.
 pub trait SignalSource {
     ghost use Rattle.std.specs.Prelude.{ℕ, List, ◌++◌};
     ghost use Rattle.atomic_table.specs.Seated.{TableId};
     ghost use Rattle.coord_types.specs.declared.steps.Step.{Step};
 
-    /// The history that its instances write.
+    /// The history that the server's instances write.
     ghost history: { TableId };
 
-    /// The signals that some steps send: by the number of the sending step, the node and the epoch.
+    /// The signals that a list of steps sends, by the number of the sending step, the node and the
+    /// epoch.
     ghost gives: { List Step → ℕ → ℕ → ℕ → Type 0 };
 
-    /// More steps send it too.
+    /// A longer list of steps sends the same signals, and maybe more.
     ghost lasts: { (first more : List Step) (step node epoch : ℕ) → gives first step node epoch →
         gives (first ++ more) step node epoch };
 }
@@ -38,10 +40,9 @@ impl SignalSource for Brand {
     ghost lasts = { λ _ _ _ _ _ is. is };
 }
 
-/// A signal: the step with this number has ended a reset at this node, and this epoch has begun.
-/// The type guarantees that the server which `O` names may print it, since the step is among the
-/// settled ones that the reader has read. So this is known of each signal that comes over a
-/// channel.
+/// A signal: the step with this number has ended a reset at this node, and this epoch has begun. The
+/// type guarantees that the server that `O` names may print it, because its step is among the settled
+/// steps that the reader has read. So this is known of each signal that arrives over a channel.
 #[derive(Drop)]
 pub struct Signal<O: SignalSource> {
     reader: LogPrefix,
@@ -76,28 +77,28 @@ impl<O: SignalSource> Signal<O> {
         }
     }
 
-    /// Returns the number of its step.
+    /// Returns the number of the signal's step.
     pub fn step(&self) -> u64
         ensures { result ≡ self.now.step }
     {
         self.step
     }
 
-    /// Returns its node.
+    /// Returns the signal's node.
     pub fn node(&self) -> NodeId
         ensures { result ≡ self.now.node }
     {
         self.node
     }
 
-    /// Returns the epoch that has begun there.
+    /// Returns the epoch that has begun at the node.
     pub fn epoch(&self) -> u64
         ensures { result ≡ self.now.epoch }
     {
         self.epoch
     }
 
-    /// Returns the token that has read its step.
+    /// Returns the token that has read the signal's step.
     pub fn into_reader(self) -> LogPrefix
         ensures { MaySignal O.history O.gives result self.step self.node self.epoch }
     {

@@ -7,10 +7,10 @@ use arrayvec::ArrayString;
 use coord_types::NodeId;
 use itoa::Buffer;
 
-/// The longest line has a node of three digits and an epoch of twenty.
+/// Enough for the longest line, which has a node of three digits and an epoch of twenty digits.
 const SIGNAL_LINE_BYTES: usize = 32;
 
-/// Returns `signal N EPOCH` and a line feed. It allocates nothing.
+/// Returns `signal N EPOCH` with a line feed. Allocates nothing.
 pub fn signal_line(node: NodeId, epoch: u64) -> ArrayString<SIGNAL_LINE_BYTES>
     ensures { result.bytes ≡ signal_line node epoch }
 {

@@ -1,4 +1,4 @@
-//! The threads of one instance of a server, while connections are served.
+//! The threads of one instance of a server, which run while it serves connections.
 
 ghost use Rattle.std.specs.Prelude.{◌≡◌, ◌⊎◌, ◌+◌, ◌≤◌, [], ◌∷◌, List, ℕ, IfErr, IfOk, IfSome, IsErr, None, Some, length, vec_capacity, vec_len};
 ghost use Rattle.std.specs.Thread.{IsSend, IsSync};
@@ -27,16 +27,16 @@ use std::thread;
 use std::thread::{JoinHandle, Scope, Threads};
 use std::time::Clock;
 
-/// The start of an instance's threads.
+/// The parts that an instance's threads start with.
 #[derive(Drop)]
 pub struct Begun<L: Origin> {
     /// The desk's share.
     pub own: Share<L>,
-    /// The desk's reader, which has read the steps of earlier instances.
+    /// The desk's token, which has read the steps of earlier instances.
     pub reader: LogPrefix,
     /// The flusher's share.
     pub flusher_share: PacketShare<L>,
-    /// Room for all shares: none of them may be lost for lack of memory.
+    /// Room for all shares, so that none is lost if memory runs out.
     pub room: Vec<Share<L>>,
     /// The receiving ends of the workers' channels.
     pub packets: Vec<Receiver<Vec<Packet>>>,
@@ -46,8 +46,8 @@ pub struct Begun<L: Origin> {
     pub ghost eight: { length packets.items ≡ 8 },
 }
 
-/// The results of all threads: all shares, the desk's first, the desk's seen count, and the token
-/// that has read the steps by which it has answered.
+/// The results of all threads: all shares, the desk's first, the desk's seen count, and the token that
+/// has read the steps from which the desk's answers follow.
 #[derive(Drop)]
 pub struct JoinedThreads<L: Count, C> {
     pub shares: Vec<Share<L>>,
@@ -57,8 +57,8 @@ pub struct JoinedThreads<L: Count, C> {
     pub left: InstanceEnd,
 }
 
-/// The threads of an instance: its flusher, and a worker for each of the eight channels. Serving
-/// takes one, so nobody is served before all of them were started.
+/// The threads of an instance: its flusher, and a worker for each of the eight channels. Serving takes
+/// a crew as its argument, so nobody is served before all threads were started.
 #[derive(Drop)]
 struct Crew<L: Count> {
     flushing: JoinHandle<PacketShare<L>>,
@@ -66,10 +66,10 @@ struct Crew<L: Count> {
     ghost eight: { vec_len workers ≡ 8 },
 }
 
-/// Starts a flusher, and a worker on each channel. Once all of them run, it opens the output, sends
-/// again the packets that may have been lost, and serves the callers until the instance is old. An
-/// error says that a thread could not be started: then nothing was printed and nobody was served,
-/// so callers and opening are returned unchanged.
+/// Starts a flusher, and a worker on each channel. Once all of them run, opens the output, sends the
+/// packets again that may have been lost, and serves the callers until the instance is old. Returns an
+/// error if a thread could not be started: then nothing was printed and nobody was served, and the
+/// callers and the opening are returned unchanged.
 pub fn run<
     D: Disk + Send,
     L: Origin + Send + Sync,
@@ -105,8 +105,8 @@ pub fn run<
     )
 }
 
-/// Serves while the threads of a scope run, and then ends them in order: the flusher first, so that
-/// all that was accepted is settled and handed out; then the workers.
+/// Serves while the threads of a scope run, and then ends them in order: first the flusher, after all
+/// accepted steps are settled and their releases passed on; then the workers.
 fn run_in<
     's,
     'r: 's,
@@ -193,8 +193,8 @@ fn start<
     Some(Crew { flushing, workers })
 }
 
-/// Starts a flusher that submits the packets of its flights itself, with this share, unless there
-/// is no thread.
+/// Starts a flusher, with this share, that submits the packets of its flights itself. Returns None if
+/// no thread can be started.
 fn start_flusher<
     's,
     'r: 's,
@@ -226,8 +226,8 @@ fn start_flusher<
         .ok()
 }
 
-/// Starts a worker on each channel. Returns None if one of them can't be started: the others then
-/// end with the scope.
+/// Starts a worker on each channel. Returns None if one of them can't be started; the others then end
+/// with the scope.
 fn start_workers<
     's,
     'r: 's,
@@ -255,7 +255,7 @@ fn start_workers<
     Some(running)
 }
 
-/// Starts a worker with its own share, unless there is no thread or no share.
+/// Starts a worker with its own share. Returns None if no thread can be started or no share is left.
 fn start_worker<
     's,
     'r: 's,
@@ -278,7 +278,7 @@ fn start_worker<
         .ok()
 }
 
-/// Opens the output, and serves the callers by a desk with this share, while a crew is at work.
+/// Opens the output, and serves the callers by a desk with this share while the crew's threads run.
 /// Returns the share, the desk's seen count, its token, and the end of the serving.
 fn serve_over<D: Disk, L: Origin, C: Callers, O: SignalSource, R: Wait>(
     setting: &Setting<'_, R, O>,
@@ -304,8 +304,8 @@ fn serve_over<D: Disk, L: Origin, C: Callers, O: SignalSource, R: Wait>(
     (own, seen, reader, left)
 }
 
-/// Opens the output, unless that was done before; returns the end of the instance if it can't be
-/// opened.
+/// Opens the output, unless an earlier instance did. Returns the end of the instance if the output
+/// can't be opened.
 fn open<C: Callers, R: Wait>(
     rt: &R,
     callers: &C,
@@ -320,8 +320,8 @@ fn open<C: Callers, R: Wait>(
     }
 }
 
-/// Once the output is open, sends again the packets that may have been lost, and serves the callers
-/// until the instance is old. Returns the reason of the end, also if the output could not be
+/// Once the output is open, sends the packets again that may have been lost, and serves the callers
+/// until the instance is old. Returns the reason of the end; for example, that the output could not be
 /// opened.
 fn serve_clients<D: Disk, L: Origin, C: Callers, P: Port, O: SignalSource, R: Wait>(
     setting: &Setting<'_, R, O>,
@@ -350,8 +350,8 @@ fn serve_clients<D: Disk, L: Origin, C: Callers, P: Port, O: SignalSource, R: Wa
     serve_until_old(setting, callers, desk)
 }
 
-/// Serves the callers by a desk without notes, until a line closes it or the instance is old.
-/// Returns the reason of the end.
+/// Serves the callers by a desk without notes, until a line closes it or the instance is old. Returns
+/// the reason of the end.
 fn serve_until_old<D: Disk, L: Origin, C: Callers, P: Port, O: SignalSource, R: Wait>(
     setting: &Setting<'_, R, O>,
     callers: &mut C,
@@ -374,7 +374,8 @@ fn serve_until_old<D: Disk, L: Origin, C: Callers, P: Port, O: SignalSource, R: 
     }
 }
 
-/// Waits for the flusher and all workers, and returns the desk's share, the flusher's and theirs.
+/// Waits for the flusher and all workers, and returns all shares: the desk's, the flusher's and the
+/// workers'.
 fn all_joined<L: Count, R: Threads + Wait>(
     rt: &R,
     room: Vec<Share<L>>,

@@ -1,4 +1,4 @@
--- The outputs of a history's turns, and the world after them.
+-- The replies and outputs of a history's turns, and the world after them.
 use Rattle.std.specs.Prelude.{◌≡◌, ◌⊎◌, ℕ, ◌+◌, List, [], ◌∷◌, ◌++◌, length, Some, map}
 use Rattle.std.specs.List.{AllByRecursion}
 use Rattle.coord_types.specs.Table.{get}
@@ -22,13 +22,13 @@ steps_of [] = []
 steps_of (Takes s ∷ turns) = s ∷ steps_of turns
 steps_of (Raises ∷ turns) = steps_of turns
 
--- the replies and outputs of each of these steps
+-- the reply and the outputs of each of these steps
 abbrev pub outcomes : World → List Turn → List StepOutcome
 outcomes w [] = []
 outcomes w (Takes s ∷ turns) = record { reply = reply w s; outputs = outputs w s } ∷ outcomes (next w s) turns
 outcomes w (Raises ∷ turns) = outcomes (raised w) turns
 
--- The reply is that of the step with its number, if this many steps came before these.
+-- The reply is that of the step with its number among these; `count` steps came before them.
 pub record IsReplyTo (count : ℕ) (given : List StepOutcome) (r : Reply) : Type 0 where
   pub before : List StepOutcome
   pub outcome : StepOutcome
@@ -37,7 +37,7 @@ pub record IsReplyTo (count : ℕ) (given : List StepOutcome) (r : Reply) : Type
   pub same : outcome.reply ≡ r
   pub number : r.step ≡ count + length before + 1
 
--- the session after client c's last order among these turns: its number, its command and its reply
+-- the last order of client c among these turns, with its number, its command and its reply
 pub record IsLastKeptOrder (w : World) (turns : List Turn) (c : ℕ) (o : Session) : Type 0 where
   pub before : List Turn
   pub rest : List Turn
@@ -45,8 +45,8 @@ pub record IsLastKeptOrder (w : World) (turns : List Turn) (c : ℕ) (o : Sessio
   pub last : AllByRecursion (IsNotBy c) (steps_of rest)
   pub replied : o.reply ≡ reply (led w before) (Order c o.number o.command)
 
--- The world after the turns keeps for a client the result of its last order, or the reply kept before if there is no
--- order of the client.
+-- After the turns, the world keeps for a client the reply to its last order among them, or the reply that it kept
+-- before if they have no order of the client.
 abbrev pub KeepsLast : World → List Turn → ℕ → Type 0
 KeepsLast w turns c =
     ((o : Session) × ((get (led w turns).sessions c ≡ Some o) × IsLastKeptOrder w turns c o))

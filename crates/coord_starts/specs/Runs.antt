@@ -1,4 +1,4 @@
--- Starts of a store, one after another, as they are run.
+-- The starts of a store, one after another, as `run_starts` runs them.
 use Rattle.std.specs.Prelude.{◌≡◌, ◌⊎◌, ℕ, List, [], ◌∷◌}
 use Rattle.coord_store.specs.Facade.{RefusesMigration, Recovered}
 use Rattle.coord_store.specs.declared.faults.StoreFault.{StoreFault}
@@ -17,17 +17,17 @@ use Rattle.coord_starts.specs.declared.starts.Outcome.TheVariants.{Served, Raise
 use Rattle.coord_starts.specs.declared.starts.Task.{Task}
 use Rattle.coord_starts.specs.declared.starts.Task.TheVariants.{Serve, Migrate}
 
--- why a run of events ended early, as a store reports it
+-- the fault of a run of events that ended early, as a fault of the store
 abbrev pub reported_as : RunFaultKind → StoreFault
 reported_as kind.OutOfMemory = OutOfMemory
 reported_as (kind.Store fault) = fault
 
--- nothing is asked, and nothing is kept
+-- a start without events, of which no step is kept
 abbrev pub idle_start : Start
 idle_start = Serves [] [] 0
 
--- The start that a task was, by its result. Migrating a store of version 2 does nothing. After a failure of the
--- device it is migrated or not.
+-- The start that a task became, by its outcome. Migrating a store of version 2 changes nothing. After a failure of the
+-- device, the store is either migrated or not.
 abbrev pub IsOf : World → Task → Outcome → Start → Type 0
 IsOf w (Serve events) (Served trace) start =
     (n : ℕ) × (start ≡ Serves events.items trace.answers.items n) × (trace.released.items ≡ (at_end w events.items trace.answers.items).released)
@@ -35,34 +35,35 @@ IsOf w Migrate Raised start = (start ≡ Raises) ⊎ ((start ≡ idle_start) × 
 IsOf w Migrate (Refused fault) start = RefusesMigration w fault × ((start ≡ idle_start) ⊎ ((start ≡ Raises) × (fault ≡ Device)))
 IsOf w task outcome start = ⊥
 
--- a start that serves these events, with these answers and releases, and leaves these bytes when the power is cut after it
+-- a start that serves these events with these answers and releases, after which the power is cut; the disk then has
+-- these bytes
 pub record ServesOnce (w : World) (events : List Event) (given : List Answer) (released : List Release) (bytes : List ℕ) : Type 0 where
   pub kept : ℕ
   pub may : MayServe w events given kept
   pub all : released ≡ (at_end w events given).released
   pub left : Recovered bytes (led w (turns_in w (Serves events given kept)))
 
--- any start from a world, which leaves these bytes when the power is cut after it
+-- a start from world w, after which the power is cut; the disk then has these bytes
 pub record StartsOnce (w : World) (task : Task) (outcome : Outcome) (bytes : List ℕ) : Type 0 where
   pub start : Start
   pub is_of : IsOf w task outcome start
   pub may : IsStart w start
   pub left : Recovered bytes (led w (turns_in w start))
 
--- each task was such a start, from the world that the one before it left
+-- each task became the start at its place in the list, from the world that the previous start left
 abbrev pub AreOf : World → List Task → List Outcome → List Start → Type 0
 AreOf w [] [] [] = Unit {0}
 AreOf w (task ∷ tasks) (outcome ∷ outcomes) (start ∷ starts) = IsOf w task outcome start × AreOf (led w (turns_in w start)) tasks outcomes starts
 AreOf w tasks outcomes starts = ⊥
 
--- the tasks were starts of a store that was just created, and left these bytes
+-- the tasks were the starts of a newly created store, and left these bytes
 pub record HasRun (version : ℕ) (tasks : List Task) (outcomes : List Outcome) (bytes : List ℕ) : Type 0 where
   pub starts : List Start
   pub are_of : AreOf (no_world version) tasks outcomes starts
   pub may : AreStarts (no_world version) starts
   pub left : Recovered bytes (left_by (no_world version) starts)
 
--- the tasks were starts of a store that was just created, and all of them are one history
+-- the tasks were the starts of a newly created store, and all of them form one history
 pub record IsOneRun (version : ℕ) (tasks : List Task) (outcomes : List Outcome) (bytes : List ℕ) : Type 0 where
   pub run : HasRun version tasks outcomes bytes
   pub one : IsHistoryOfStarts (no_world version) run.starts

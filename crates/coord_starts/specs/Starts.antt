@@ -1,9 +1,10 @@
--- What a store goes through in all its starts.
+-- The starts of a store: what happens between one opening of the store and the next.
 --
--- In a start the store is opened, and a ledger over it is asked, or the store is raised to version 2. The start ends
--- when its process does, or the power is cut. The next one opens what the disk gives then: the world after as many
--- steps as a crash may keep. A start that is cut off within a commit is one whose commit was answered by a failure of
--- the device: both leave the steps of that commit, or none of them.
+-- In a start, the store is opened, and then either a ledger over it receives events, or the store is migrated to
+-- version
+-- 2. The start ends when its process ends or the power is cut. The next start opens what the disk has then: the world
+-- after as many steps as a crash may keep. A start that is cut off during a commit is modelled as one whose commit was
+-- answered by a failure of the device: both keep all steps of that commit, or none of them.
 use Rattle.std.specs.Prelude.{◌≡◌, ℕ, List, [], ◌∷◌, ◌++◌, map, take}
 use Rattle.std.specs.List.{AllByRecursion}
 use Rattle.coord_types.specs.declared.steps.Reply.{Reply}
@@ -19,37 +20,37 @@ use Rattle.coord_following.specs.Histories.{Turn, Takes, IsTurn, Raises as raisi
 use Rattle.coord_starts.specs.Returned.{led}
 
 pub data Start : Type 0 where
-  -- a ledger receives these events and gives these answers, and then this many steps of its trail are kept
+  -- a ledger receives these events and gives these answers; then the first n steps of its trail are kept
   Serves : List Event → List Answer → ℕ → Start
   -- the store is migrated to version 2
   Raises : Start
 
--- the ledger's machine at the end of such a start
+-- the ledger's machine at the end of a start that serves
 abbrev pub at_end : World → List Event → List Answer → Machine
 at_end w events given = run (adopted w) events given
 
--- each event has a possible answer, and a crash may then keep this many steps
+-- each event has a possible answer, and a crash at the end may keep the first n steps
 pub record MayServe (w : World) (events : List Event) (given : List Answer) (n : ℕ) : Type 0 where
   pub named : AllByRecursion EventInRange events
   pub answered : Answered (adopted w) events given
   pub kept : IsOneOf n (kept (at_end w events given))
 
--- the possible starts from this world
+-- the starts that are possible from this world
 abbrev pub IsStart : World → Start → Type 0
 IsStart w (Serves events given n) = MayServe w events given n
 IsStart w Raises = IsTurn w raising
 
--- the turns that it adds to the store's history: the steps that are kept
+-- the turns that a start adds to the store's history: the kept steps, or the migration
 abbrev pub turns_in : World → Start → List Turn
 turns_in w (Serves events given n) = map Takes (take n (at_end w events given).log.trail)
 turns_in w Raises = raising ∷ []
 
--- each start begins with the world that the one before it left
+-- each start begins with the world that the previous one left
 abbrev pub AreStarts : World → List Start → Type 0
 AreStarts w [] = Unit {0}
 AreStarts w (s ∷ starts) = IsStart w s × AreStarts (led w (turns_in w s)) starts
 
--- the whole history of the store
+-- the whole history of the store: the turns of all starts
 abbrev pub turns_of : World → List Start → List Turn
 turns_of w [] = []
 turns_of w (s ∷ starts) = turns_in w s ++ turns_of (led w (turns_in w s)) starts

@@ -1,16 +1,16 @@
-//! The law of the starts of a store, and a worked instance: functions that do nothing, whose
-//! contracts are the statements.
+//! The law of the starts of a store, and a worked example: functions without a body whose contracts
+//! state the law and the example.
 
 ghost use Rattle.coord_starts.specs.OneHistory.{StartsAreOne};
 ghost use Rattle.coord_starts.specs.Worked.{WorkedLife};
 
-/// Whatever the starts of a store are, from its creation on: the steps kept in them are one
-/// history, and everything returned or released in them is true of it.
+/// Whatever the starts of a store are, from its creation on: the kept steps form one history, and
+/// every reply or output that was returned or released in any start belongs to it.
 pub fn starts_are_one()
     ensures { StartsAreOne }
 {}
 
-/// A worked instance of a small store: three starts that serve, and one in which it is migrated.
+/// A worked example of a small store: three starts that serve, and one that migrates the store.
 #[tactic(auto, using(crate::proofs::Worked::worked_life))]
 pub fn worked_life()
     ensures { WorkedLife }

@@ -1,11 +1,11 @@
-//! The invariants of the types of events.
+//! The invariants of the types of events, as lemmas.
 
 ghost use Rattle.std.specs.List.{AllByRecursion};
 ghost use Rattle.coord_ledger.specs.machine.Consistent.{EventInRange};
 
 use coord_ledger::Event;
 
-/// Does nothing: its contract is the invariant of an event's type.
+/// Does nothing. Its contract states that the numbers in an event are in range.
 fn lemma_named(event: &Event)
     ensures { EventInRange event.now }
 {
@@ -14,7 +14,7 @@ fn lemma_named(event: &Event)
     }
 }
 
-/// Does nothing: its contract is the invariant of the types of events.
+/// Does nothing. Its contract states that the numbers in each of these events are in range.
 pub fn lemma_all_named(events: &[Event])
     ensures { AllByRecursion EventInRange events.now }
 {

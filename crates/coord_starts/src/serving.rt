@@ -12,7 +12,7 @@ use coord_ledger::{Event, Ledger, RunFaultKind, Trace, run_events};
 use coord_store::{Store, StoreFault};
 use std::alloc::Global;
 
-/// Why a run of events ended early, as the store reports it.
+/// Returns the fault of a run of events that ended early, as a fault of the store.
 fn fault_of(kind: RunFaultKind) -> StoreFault
     ensures { result ≡ reported_as kind }
 {
@@ -22,7 +22,7 @@ fn fault_of(kind: RunFaultKind) -> StoreFault
     }
 }
 
-/// Cuts the power of a ledger's disk.
+/// Cuts the power of a ledger's disk, and returns the disk.
 fn cut<D: CrashDisk>(ledger: Ledger<D>) -> D
     requires home { ledger.out ≡ None }
     ensures cut { (before : D) → ledger.disk ≡ Some before → Crashes D.model before result }
@@ -34,7 +34,7 @@ fn cut<D: CrashDisk>(ledger: Ledger<D>) -> D
     }
 }
 
-/// Gives a ledger over a store these events, and cuts the power after them.
+/// Gives these events to a ledger over the store, and then cuts the power.
 pub fn serve<D: CrashDisk>(
     alloc: Global,
     store: Store<D>,

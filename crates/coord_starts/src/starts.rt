@@ -15,10 +15,10 @@ use coord_ledger::{Event, Trace};
 use coord_store::{Store, StoreFault};
 use std::alloc::Global;
 
-/// The purpose for which a store is opened.
+/// What a start does with the store.
 #[derive(Drop)]
 pub enum Task {
-    /// A ledger over it receives these events.
+    /// A ledger over the store receives these events.
     Serve(Vec<Event>),
     /// The store is migrated to version 2.
     Migrate,
@@ -29,9 +29,10 @@ pub enum Task {
 pub enum Outcome {
     /// The answers to the events, and all releases.
     Served(Trace),
-    /// The store has version 2.
+    /// The store was migrated, or already had version 2.
     Raised,
-    /// The store was not migrated; after a failure of the device it may have been.
+    /// The store was not migrated. After a failure of the device it may have been migrated
+    /// nevertheless.
     Refused(StoreFault),
 }
 
@@ -52,7 +53,7 @@ fn migrate<D: CrashDisk>(mut store: Store<D>) -> (Outcome, D)
     (outcome, store.into_disk().crash())
 }
 
-/// Starts the store on a disk once, and then cuts the power.
+/// Opens the store on a disk, carries out a task, and then cuts the power.
 fn start<D: CrashDisk>(alloc: Global, disk: D, task: &Task) -> Result<(Outcome, D), (StoreFault, D)>
     ensures once { (w : Numbered) → D.model.keeps_model disk ≡ true →
         Recovered (D.model.present disk).read w → IfOk result (λ r.
@@ -76,8 +77,8 @@ fn start<D: CrashDisk>(alloc: Global, disk: D, task: &Task) -> Result<(Outcome, 
     }
 }
 
-/// Makes a store on an empty disk, and starts it for each task, one start after the other. After
-/// each start the power is cut: the next one opens what the crash has left.
+/// Makes a store on an empty disk, and runs one start for each task. After each start the power is
+/// cut: the next start opens what the crash has left.
 ///
 /// The main theorem: all starts together are one history (`IsHistoryOfStarts`), and the disk holds
 /// the world after it. A fault ends the starts: the store was not made, memory ran out, or the

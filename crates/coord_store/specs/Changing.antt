@@ -12,8 +12,8 @@ use Rattle.coord_store.specs.Recovered.{IsBody}
 use Rattle.coord_store.specs.declared.faults.CommitFault.{CommitFault}
 use Rattle.coord_store.specs.declared.faults.CommitFault.TheVariants.{OutOfMemory, Device, Stopped}
 
--- A new world replaces a store's. `device` is the fault that reports a failure of the
--- device: after it either world may be on disk.
+-- The promises of a call that replaces a store's world by `next`. `device` is the fault that reports a
+-- failure of the device; after it either world may be on disk.
 pub record Changes {D T E : Type 0} (m : DiskModel D) (next : World) (device : E) (old new : Kept D) (result : Result T E) : Type 0 where
   -- A crash at any moment of the call, even inside a checkpoint, leaves bytes that give the old or the new world.
   pub any_moment : m.keeps_model old.disk ≡ true → old.torn ≡ None → LeavesOnly m old.disk new.disk (GivesEither old.world next)
@@ -33,14 +33,14 @@ pub record FitsIn {D : Type 0} (m : DiskModel D) (half : ℕ) (steps : List Step
   pub spells : IsBody store.world body steps
   pub place : HasPlaceIn half (length body) (m.present store.disk).read
 
--- These steps are committed.
+-- The promises of a commit of these steps.
 pub record Commits {D T : Type 0} (m : DiskModel D) (steps : List Step) (old new : Kept D) (result : Result T CommitFault) : Type 0 where
   pub changes : Changes m (fold old.world steps) Device old new result
   pub runs : Runs m old.disk new.disk 8 (failures_in result)
   -- If the body of the batch fits, no checkpoint is made.
   pub calls_where_it_fits : (half : ℕ) → FitsIn m half steps old → m.clock new.disk ≤ m.clock old.disk + 4
   pub half_where_it_fits : (half : ℕ) → FitsIn m half steps old → OnOk result (IsTextIn half (m.present new.disk).read)
-  -- when it is refused, and the store afterwards
+  -- the reasons for a refusal, and the store after one
   pub stopped : IsErrOf result Stopped ↔ (has_stopped old ≡ true)
   pub fault : IfErr result (λ fault. (fault ≡ Stopped) ⊎ ((fault ≡ OutOfMemory) ⊎ (fault ≡ Device)))
   pub unchanged : IfErr result (λ fault. fault ≢ Device → new.torn ≡ old.torn)

@@ -1,4 +1,5 @@
--- What the steps of a batch need from the settled world, the one before the batch.
+-- The packets that the settled world (the world before a batch) has sent, among those that the steps of the
+-- batch name.
 use Rattle.std.specs.Prelude.{ℕ, zero, suc, Bool, true, List, [], ◌∷◌, if◌then◌else◌}
 use Rattle.coord_types.specs.declared.steps.Step.{Step}
 use Rattle.coord_types.specs.declared.steps.Step.TheVariants.{Order, Take, Clear}
@@ -10,7 +11,7 @@ has_given_out settled (Order c n x) = true
 has_given_out settled (Take p) = has_sent (lane settled p.from p.to p.inc) p.number
 has_given_out settled (Clear p) = has_receipted (lane settled p.from p.to p.inc) p.number
 
--- the number of steps before the first one whose packet was not sent
+-- the number of steps before the first one that names a packet the settled world has not sent
 abbrev pub how_many_out : World → List Step → ℕ
 how_many_out settled [] = zero
 how_many_out settled (s ∷ steps) = if has_given_out settled s then suc (how_many_out settled steps) else zero

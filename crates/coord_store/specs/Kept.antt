@@ -1,4 +1,4 @@
--- A store, and the worlds that its disk's images give.
+-- A store as contracts see it, and the worlds that the images of its disk give.
 use Rattle.std.specs.Prelude.{◌≡◌, ◌⊎◌, ℕ, Bool, true, List, Option, Some, None, is_some}
 use Rattle.coord_codec.specs.Worlds.{world}
 use Rattle.coord_disk.specs.Model.DiskModel.{DiskModel}
@@ -8,27 +8,28 @@ use Rattle.coord_journal.specs.declared.journal.Journal.{Journal}
 use Rattle.coord_world.specs.Facade.{Legal, World, no_world, rows_of}
 use Rattle.coord_store.specs.Recovered.{Gives, Recovered}
 
--- Its disk, its world, and the world that a torn commit was meant to make. After a fault inside a
--- checkpoint `torn` holds that world too, although only the old world can then be on disk.
+-- A store: its disk, its world, and the world that a torn commit was meant to make, if there was one. After a
+-- fault inside a checkpoint `torn` holds that world too, although only the old world can then be on disk.
 pub record Kept (D : Type 0) : Type 0 where
   pub disk : D
   pub world : World
   pub torn : Option World
 
--- whether a commit was torn; then each later one is refused
+-- whether a commit was torn; if so, each later commit is refused
 abbrev pub has_stopped : {D : Type 0} → Kept D → Bool
 has_stopped kept = is_some kept.torn
 
--- these bytes give one of two worlds
+-- these bytes give one of these two worlds
 abbrev pub GivesEither : World → World → List ℕ → Type 0
 GivesEither v w bytes = Recovered bytes v ⊎ Recovered bytes w
 
--- These bytes give the store's world; after a torn commit possibly the one that the commit was meant to
--- make.
+-- These bytes give the store's world or, after a torn commit, possibly the world that this commit was meant
+-- to make.
 abbrev pub GivesKept : {D : Type 0} → Kept D → List ℕ → Type 0
 GivesKept kept bytes = Recovered bytes kept.world ⊎ ((w : World) × (kept.torn ≡ Some w) × Recovered bytes w)
 
--- each image of a store's disk gives its world; after a torn commit possibly the one that the commit was meant to make
+-- each crash image of a store's disk gives its world or, after a torn commit, possibly the world that this
+-- commit was meant to make
 abbrev pub ImagesGive : {D : Type 0} → DiskModel D → Kept D → Type 0
 ImagesGive m kept = (image : List ℕ) → IsImage (m.present kept.disk) image → GivesKept kept image
 
@@ -53,7 +54,7 @@ IsOnlyWorld w bytes = Recovered bytes w
 abbrev pub made : ℕ → ℕ → Present
 made half_size version = whole (formatted half_size version ((world version).text (rows_of (no_world version))))
 
--- a store of this version was just created on this disk, with halves of this size: it has no step
+-- A store of this version was just created on this disk, with halves of this size. Its world has no step.
 pub record IsJustMade (half_size version : ℕ) (disk : Present) : Type 0 where
   pub bytes : disk ≡ made half_size version
   pub half : IsHalfSize half_size

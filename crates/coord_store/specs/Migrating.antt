@@ -8,11 +8,11 @@ use Rattle.coord_store.specs.Refused.{failed_in}
 use Rattle.coord_store.specs.declared.faults.StoreFault.{StoreFault}
 use Rattle.coord_store.specs.declared.faults.StoreFault.TheVariants.{OutOfMemory, Device, NotQuiet, Stopped}
 
--- the world of version 2 that corresponds to a world
+-- this world, raised to version 2 if its version is 1
 abbrev pub risen : World → World
 risen w = if w.version == 1 then raised w else w
 
--- this node is in a reset, and no lower one is
+-- node u is in a reset, and every node with a lower number is Ready
 pub record IsFirstBusy (w : World) (u : ℕ) : Type 0 where
   pub busy : is_ready (state w u).mode ≡ false
   pub least : (v : ℕ) → v < u → (state w v).mode ≡ Ready
@@ -22,8 +22,8 @@ pub record IsQuiet (w : World) : Type 0 where
   pub first : w.version ≡ 1
   pub ready : AllReady w
 
--- Why a store of this world is not migrated to version 2. Only if the world is quiet can memory or
--- the device be the reason.
+-- The reasons to refuse the migration of a store with this world to version 2. `OutOfMemory` and `Device` are
+-- possible only if the world is quiet.
 abbrev pub RefusesMigration : World → StoreFault → Type 0
 RefusesMigration w OutOfMemory = IsQuiet w
 RefusesMigration w Device = IsQuiet w

@@ -6,8 +6,7 @@ use Rattle.coord_codec.specs.Worlds.{world}
 use Rattle.coord_journal.specs.Text.{Content, IsText}
 use Rattle.coord_world.specs.Facade.{InRange, IsFresh, Legal, World, fold, next, rows_of}
 
--- Each step is fresh over the world after the steps before it; the same world counts as settled for
--- all of them.
+-- Each step is fresh over the world after the steps before it. The settled world is the same for all of them.
 abbrev pub AllFresh : World → World → List Step → Type 0
 AllFresh settled w [] = Unit {0}
 AllFresh settled w (s ∷ steps) = IsFresh w settled s × AllFresh settled (next w s) steps
@@ -17,7 +16,7 @@ pub record IsBody (w : World) (body : List ℕ) (steps : List Step) : Type 0 whe
   pub numbered : IsBatch w.version (w.count + 1) steps
   pub spelled : body ≡ (batch w.version).text (pair (w.count + 1) steps)
 
--- The world takes the steps that the body encodes, and is the settled world for all of them.
+-- The body encodes steps that the world takes as fresh. This world is also the settled one for all of them.
 pub record Takes (w : World) (body : List ℕ) (steps : List Step) : Type 0 where
   pub spells : IsBody w body steps
   pub fresh : AllFresh w w steps

@@ -1,4 +1,4 @@
--- Why the bytes of a device give no world, and which refusal is returned first.
+-- The reasons why the bytes of a device give no world, and which refusal is returned first.
 use Rattle.std.specs.Prelude.{◌≡◌, ◌⊎◌, ℕ, ◌<◌, List, ◌∷◌, ◌++◌, length, Some}
 use Rattle.coord_types.specs.declared.steps.Step.{Step}
 use Rattle.coord_check.specs.Faults.{faults, first}
@@ -21,8 +21,8 @@ pub record StopsAt (w : World) (steps : List Step) (index : ℕ) : Type 0 where
   pub fresh : AllFresh w w front
   pub stops : ¬ IsFresh (fold w front) w refused
 
--- Why the world refuses the batch with this number: its body does not encode the world's next steps, or
--- the world stops at one of them.
+-- The reasons why the world refuses the batch with this number: its body does not encode the world's next
+-- steps, or the world refuses one of them.
 abbrev pub RefusesBatch : World → ℕ → List ℕ → StoreFault → Type 0
 RefusesBatch w n body fault =
     ((fault ≡ BadBatch) × ((steps : List Step) → IsBody w body steps → ⊥))
@@ -36,7 +36,7 @@ pub record Reaches (start : World) (bodies : List (List ℕ)) (n : ℕ) (body : 
   pub number : length front ≡ n
   pub replays : Replays start front w
 
--- the first batch that is refused, counted from 0, and why
+-- the number of the first batch that is refused, counted from 0, and the reason
 pub record RefusesReplay (start : World) (bodies : List (List ℕ)) (fault : StoreFault) : Type 0 where
   pub number : ℕ
   pub body : List ℕ
@@ -82,7 +82,7 @@ RefusesCreate bytes half_size NotEmpty = 0 < length bytes
 RefusesCreate bytes half_size HalfSize = (length bytes ≡ 0) × ¬ IsHalfSize half_size
 RefusesCreate bytes half_size fault = ⊥
 
--- the faults that an opening may return, whatever the device does
+-- the faults that opening a store may return, whatever the device does
 abbrev pub IsOpenFault : StoreFault → Type 0
 IsOpenFault NotEmpty = ⊥
 IsOpenFault HalfSize = ⊥
@@ -90,8 +90,8 @@ IsOpenFault (NotQuiet node) = ⊥
 IsOpenFault Stopped = ⊥
 IsOpenFault fault = Unit {0}
 
--- The faults that a creation may return. The last two occur only if the device returns other bytes
--- than those written.
+-- The faults that creating a store may return. The last two are possible only if the device reads back other
+-- bytes than were written.
 abbrev pub IsCreateFault : StoreFault → Type 0
 IsCreateFault OutOfMemory = Unit {0}
 IsCreateFault Device = Unit {0}

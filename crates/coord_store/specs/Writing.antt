@@ -1,4 +1,4 @@
--- The promises of a commit's parts, about the journal that holds its world and about the store.
+-- The promises of the parts of a commit: about the journal that holds the store's world, and about the store.
 use Rattle.std.specs.Prelude.{◌≡◌, ◌≢◌, ◌⊎◌, true, false, ℕ, Option, Some, Result, Ok, Err, IfErr, IsErrOf, OnOk}
 use Rattle.coord_disk.specs.Model.DiskModel.{DiskModel}
 use Rattle.coord_disk.specs.Model.Moments.{LeavesOnly, Runs}
@@ -10,18 +10,19 @@ use Rattle.coord_store.specs.Kept.{GivesEither, Holds, IsOnlyWorld}
 use Rattle.coord_store.specs.declared.faults.CommitFault.{CommitFault}
 use Rattle.coord_store.specs.declared.faults.CommitFault.TheVariants.{OutOfMemory, Device}
 
--- The journal holds one world, and a new one is written.
+-- The promises of writing `next` to a journal that holds the world `w`.
 pub record Follows {D T : Type 0} (m : DiskModel D) (w next : World) (old new : Journal D) (result : Result T CommitFault) : Type 0 where
   pub any_moment : LeavesOnly m (disk_of old) (disk_of new) (GivesEither w next)
   pub done : OnOk result (Holds m new next)
 
--- If that is refused and the device did not fail, the journal holds the old world, and no
--- crash leaves any other.
+-- The promises of such a write if it is refused and the device did not fail: the journal holds the old world,
+-- and a crash leaves no other.
 pub record Stays {D T : Type 0} (m : DiskModel D) (w : World) (old new : Journal D) (result : Result T CommitFault) : Type 0 where
   pub any_moment : IfErr result (λ fault. fault ≢ Device → LeavesOnly m (disk_of old) (disk_of new) (IsOnlyWorld w))
   pub held : IfErr result (λ fault. fault ≢ Device → Holds m new w)
 
--- Whatever the journal holds: the number of device calls and failures, and the journal afterwards.
+-- The promises of such a write whatever the journal holds: the number of device calls and failures, and the
+-- journal afterwards.
 pub record Ends {D T : Type 0} (m : DiskModel D) (most : ℕ) (old new : Journal D) (result : Result T CommitFault) : Type 0 where
   pub runs : Runs m (disk_of old) (disk_of new) most (failures_in result)
   pub half_size : half_size_of new ≡ half_size_of old
@@ -30,8 +31,8 @@ pub record Ends {D T : Type 0} (m : DiskModel D) (most : ℕ) (old new : Journal
   pub still : IfErr result (λ fault. fault ≢ Device → has_stopped new ≡ false)
   pub device : IsErrOf result Device → has_stopped new ≡ true
 
--- The store after an attempt to replace its world: its world from then on, and the world
--- that a torn commit was meant to make.
+-- The store after an attempt to replace its world by `next`: the new value of its world, and the world that a
+-- torn commit was meant to make.
 pub record Concludes {T : Type 0} (next w v : World) (was now : Option World) (written : Result T CommitFault) : Type 0 where
   pub world : OnOk written (v ≡ next)
   pub same_world : IfErr written (λ fault. v ≡ w)

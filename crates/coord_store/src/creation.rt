@@ -39,13 +39,13 @@ fn first_snapshot(alloc: Global, version: Version) -> Result<Vec<u8>, AllocError
 }
 
 impl<D: Disk> Store<D> {
-    /// Creates a store on an empty device, with at most six calls of it: formats the device and opens
-    /// it. The store's world is the one before any step.
+    /// Creates a store on an empty device: formats the device and opens it, with at most six device
+    /// calls. The store's world has no step.
     ///
-    /// A half has `half_size` bytes, from 32,768 to 16,777,216. The version of the world is 1 or 2.
-    /// A refusal returns the disk. After `Device` nothing is promised about its bytes;
-    /// after `OutOfMemory` the store may have been created. A device that returns other bytes than those
-    /// written may be refused as `NoMagic` or `BadRecord`.
+    /// `half_size` is from 32,768 to 16,777,216 bytes, and `version` is the version of the world. A
+    /// refusal returns the disk. After `Device` nothing is promised about its bytes; after
+    /// `OutOfMemory` the store may have been created. `NoMagic` or `BadRecord` are returned only for a
+    /// device that reads back other bytes than were written.
     pub fn create(
         alloc: Global,
         mut disk: D,
@@ -64,7 +64,7 @@ impl<D: Disk> Store<D> {
             IfErr result (λ refused. RefusesCreate (D.model.present disk).read half_size refused.0) }
         ensures named { IfErr result (λ refused. IsCreateFault refused.0) }
 
-        // The device after a refusal, if the device itself did not fail.
+        // The device is unchanged if it was refused as it is.
         ensures unchanged { D.model.keeps_model disk ≡ true →
             IfErr result (λ refused. (refused.0 ≡ NotEmpty) ⊎ (refused.0 ≡ HalfSize) →
             IsUntouched D.model disk refused.1) }

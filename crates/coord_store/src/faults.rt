@@ -11,7 +11,7 @@ use std::alloc::AllocError;
 use std::error::Error;
 use std::fmt;
 
-/// The reason for which a store was not created or opened.
+/// The reason why a store was not created, opened or migrated.
 #[derive(Clone, Copy, Debug, PartialEq, Eq)]
 pub enum StoreFault {
     /// Memory ran out.
@@ -30,14 +30,14 @@ pub enum StoreFault {
     BadSnapshot,
     /// A batch encodes no steps, or its first number is not the next one.
     BadBatch,
-    /// The world does not take this step of this batch as fresh. Both are counted from 0.
+    /// The world does not take this step of this batch as fresh. Both numbers are counted from 0.
     BadStep { batch: usize, index: usize },
     /// The world of the snapshot is not legal.
     Violated(Violation),
-    /// This node, the lowest one in a reset, keeps the store from being migrated to
-    /// version 2. Only `migrate` returns this fault and `Stopped`.
+    /// This node, the one with the lowest number in a reset, prevents the migration to version 2. Only
+    /// `migrate` returns this fault and `Stopped`.
     NotQuiet(NodeId),
-    /// The device has failed before.
+    /// The device failed in an earlier call.
     Stopped,
 }
 
@@ -94,18 +94,18 @@ impl From<AllocError> for StoreFault {
     }
 }
 
-/// The reason for which steps were not committed.
+/// The reason why steps were not committed.
 #[derive(Clone, Copy, Debug, PartialEq, Eq)]
 pub enum CommitFault {
     /// Memory ran out.
     OutOfMemory,
     /// The device failed during the call.
     Device,
-    /// Never returned, because a store makes room by a checkpoint. The number is reserved.
+    /// Never returned, because a store makes room by a checkpoint; the number is reserved.
     Full,
-    /// The device has failed before.
+    /// The device failed in an earlier call.
     Stopped,
-    /// The steps were committed before. Only a flight of a ledger returns this, never a store.
+    /// The steps were already committed. Only a flight of a ledger returns this fault, never a store.
     Again,
 }
 

@@ -1,4 +1,4 @@
-//! Laws of the world that bytes give: functions without a body whose contracts state the laws.
+//! Laws of the world that bytes give, each stated by the contract of an empty function.
 
 ghost use Rattle.std.specs.Prelude.{◌≡◌};
 ghost use Rattle.coord_journal.specs.declared.layout.TheConstants.{MAX_BODY, MAX_SNAPSHOT};
@@ -15,8 +15,8 @@ pub fn recovered_is_opened()
     ensures { RecoveredIsOpened }
 {}
 
-/// A journal has room for what a store writes: its longest body is the longest batch, and its longest
-/// snapshot the longest world.
+/// A journal has room for everything that a store writes: its limit for a body is the length of the
+/// longest batch, and its limit for a snapshot the length of the longest world.
 pub fn limits_are_the_same()
     ensures body { MAX_BODY ≡ MAX_BATCH_BYTES }
     ensures snapshot { MAX_SNAPSHOT ≡ MAX_SNAPSHOT_BYTES }

@@ -1,10 +1,10 @@
 //! A world that outlives the program: it is stored on a device as a journal, and each commit of steps
 //! appends a batch to it, or first makes room by a checkpoint.
 //!
-//! `specs/Recovered.antt` defines the world that the bytes of a device give, and
-//! `specs/Refused.antt` the first refusal of bytes that give none; `laws` states that there is at most one
-//! world, and that bytes that give one are refused only if memory or the device fails.
-//! `specs/Kept.antt` is the view that contracts have of a store: its disk, its world, and the world that a torn
+//! `specs/Recovered.antt` defines the world that the bytes of a device give. If they give none,
+//! `specs/Refused.antt` defines which refusal is returned first. `laws` states that bytes give at most
+//! one world, and that bytes that give one are refused only if memory runs out or the device fails.
+//! `specs/Kept.antt` defines how contracts see a store: its disk, its world, and the world that a torn
 //! commit was meant to make.
 //!
 //! Why a commit is atomic, in five lines:
@@ -13,14 +13,16 @@
 //! 3. Once it is open they give that world with all the steps taken.
 //! 4. If a batch has no room, the world is first written as a snapshot into the other half; one
 //!    byte selects it, and both halves give the same world.
-//! 5. Apart from these single bytes, nothing is written where a reader of the device looks.
+//! 5. Apart from these single bytes, nothing is written in a place that a reader of the device looks
+//! at.
 //!
-//! `Store::create` creates a store, `Store::open` returns exactly the world that the bytes of the device give,
-//! and `Store::commit` takes steps; `Store::commit_to` does the same with the world after them if its
-//! caller has already computed it. The main theorem rests on these: at each moment of a commit, even
-//! inside its checkpoint, whatever a crash may leave gives the world before it or after
-//! it, and after it has returned Ok the world after it. The type `Store` guarantees this for its
-//! images, so that the layers above speak only of its world (`Store::lemma_images_give_world`).
+//! `Store::create` creates a store. `Store::open` returns exactly the world that the bytes of the
+//! device give. `Store::commit` commits steps, and `Store::commit_to` does the same for a caller that
+//! has already computed the world after them. The main theorem follows from their contracts: a crash at
+//! any moment of a commit, even inside its checkpoint, leaves bytes that give the world before the
+//! commit or the world after it; once the commit has returned Ok, they give the world after it. The
+//! type `Store` guarantees this for the images of its disk, so the layers above need to speak only of
+//! its world (`Store::lemma_images_give_world`).
 #![tactic(auto)]
 
 mod creation;

@@ -51,14 +51,15 @@ fn read_contents(alloc: Global, contents: &Contents<'_>) -> Result<World, StoreF
 }
 
 impl<D: Disk> Store<D> {
-    /// Opens the store on a device: its world is the one that the bytes of the device give. It
-    /// syncs, reads, and writes nothing.
+    /// Opens the store on a device, with the world that the bytes of the device give. The call syncs
+    /// and reads, and writes nothing.
     ///
-    /// A refusal returns the disk. Bytes that give no world are refused with the first of `NoMagic`,
-    /// `BadRecord`, `BadSnapshot`, `Violated` (of the snapshot's world), and then batch by batch
-    /// `BadBatch` and `BadStep`.
+    /// A refusal returns the disk. Bytes that give no world are refused with the first of these faults
+    /// that applies: `NoMagic`, `BadRecord`, `BadSnapshot`, `Violated` (by the snapshot's world); then,
+    /// batch by batch, `BadBatch` and `BadStep`.
     pub fn open(alloc: Global, disk: D) -> Result<Self, (StoreFault, D)>
-        // If the bytes of the device give a world, it is opened with that world, unless memory runs out or the device fails.
+        // Bytes that give a world are opened with that world, unless memory runs out or the device
+        // fails.
         ensures world { D.model.keeps_model disk ≡ true →
             IfOk result (λ store. Recovered (D.model.present disk).read store.world) }
         ensures only { (w : Numbered) → D.model.keeps_model disk ≡ true →
@@ -76,7 +77,7 @@ impl<D: Disk> Store<D> {
             IfErr result (λ refused. refused.0 ≢ Device →
             D.model.present refused.1 ≡ whole (D.model.present disk).read) }
 
-        // A crash at any moment leaves no bytes that it could not have left before.
+        // A crash at any moment of the call leaves no bytes that a crash before it could not have left.
         ensures any_moment { MatchResult result (λ store. AddsNothing D.model disk store.disk)
             (λ refused. AddsNothing D.model disk refused.1) }
         ensures runs { MatchResult result (λ store. Runs D.model disk store.disk 3 0)

@@ -1,4 +1,4 @@
-//! Follows the batches of a journal, from the world of its snapshot.
+//! Replays the batches of a journal over the world of its snapshot.
 
 ghost use Rattle.std.specs.Prelude.{◌≡◌, ◌⊎◌, List, OnOk, IfOk, IfErr};
 ghost use Rattle.coord_journal.specs.Contents.{bodies};
@@ -15,7 +15,7 @@ use coord_batch::{Batch, FaultKind, read_batch};
 use coord_world::World;
 use std::alloc::Global;
 
-/// The batch that a body encodes, if it is the world's next one.
+/// Returns the batch that a body encodes, if its first step is the world's next one.
 fn read_next(alloc: Global, world: &World, body: &[u8]) -> Result<Batch, StoreFault>
     ensures spelled { IfOk result (λ batch. IsBody world.now body.now batch.steps.items) }
     ensures refused { IfErr result (λ fault. (fault ≡ OutOfMemory) ⊎
@@ -32,7 +32,7 @@ fn read_next(alloc: Global, world: &World, body: &[u8]) -> Result<Batch, StoreFa
     Ok(batch)
 }
 
-/// Takes the steps of the batch with this number, none of which the world has settled.
+/// Has the world take the steps of the batch with this number; none of them is settled yet.
 fn replay_batch(
     alloc: Global,
     world: &mut World,
@@ -51,7 +51,7 @@ fn replay_batch(
     Ok(())
 }
 
-/// Returns the world after these batches, from a legal world.
+/// Returns the world that these batches lead to from a legal world.
 pub fn replay(alloc: Global, start: World, batches: &[&[u8]]) -> Result<World, StoreFault>
     requires { Legal start }
     ensures led { IfOk result (Replays start (bodies batches.now)) }

@@ -1,4 +1,4 @@
-//! The world that a snapshot encodes.
+//! Reads the world that a snapshot encodes.
 
 ghost use Rattle.std.specs.Prelude.{◌≡◌, ◌⊎◌, IfOk, IfErr};
 ghost use Rattle.coord_journal.specs.Contents.{content_of};

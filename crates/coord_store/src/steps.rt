@@ -18,9 +18,8 @@ use coord_types::{NodeId, Step};
 use coord_world::{Verdict, World};
 use std::alloc::AllocError;
 
-/// Takes fresh steps; the world before all of them is the settled one. It is
-/// public because a ledger computes the world after a flight this way if it cannot use its front
-/// world.
+/// Has the world take fresh steps; the world before all of them is the settled one. Public because a
+/// ledger computes the world after a flight this way if it cannot use its front world.
 pub fn take_all(world: &mut World, steps: &[Step]) -> Result<(), AllocError>
     requires legal { Legal world.old }
     requires fresh { AllFresh world.old world.old steps.now }
@@ -42,8 +41,8 @@ pub(crate) fn lemma_in_ranges(steps: &[Step])
     }
 }
 
-/// Returns the world after these fresh steps: the one that the caller computed before, or else a copy
-/// that takes them now.
+/// Returns the world after these fresh steps: the world that the caller has already computed, if it
+/// passes one, else a copy that takes the steps now.
 pub(crate) fn led_to(
     world: &World,
     steps: &[Step],
@@ -109,7 +108,7 @@ fn how_many_out(settled: &World, steps: &[Step]) -> usize
     steps.len()
 }
 
-/// Tests whether a step is among the first ones whose packets were sent, and the world takes it.
+/// Tests whether the world takes a step, and the packets of this step and of all before it were sent.
 fn is_fresh(world: &World, out: usize, index: usize, step: &Step) -> bool
     ensures { IsTrue result ↔ ((index < out) × IsFresh world.now world.now step.now) }
 {
@@ -123,9 +122,9 @@ fn is_fresh(world: &World, out: usize, index: usize, step: &Step) -> bool
     }
 }
 
-/// Takes the steps of the batch with this number. The world before all of them is the settled one:
-/// before it changes, the function asks it which of their packets were sent, and nothing else about
-/// the settled world matters to a step.
+/// Has the world take the steps of the batch with this number. The world before all of them is the
+/// settled one. Before it changes, the function counts the leading steps whose packets it has sent; a
+/// step needs nothing else of the settled world.
 pub fn judge_all(world: &mut World, batch: usize, steps: &[Step]) -> Result<(), StoreFault>
     requires legal { Legal world.old }
     ensures world { OnOk result (world.new ≡ fold world.old steps.now) }

@@ -17,9 +17,9 @@ use std::alloc::Global;
 use std::marker::Model;
 use std::mem::replace;
 
-/// A world that outlives the program. Contracts see its disk, its world, and after a commit that
-/// the device tore, the world that it was meant to make (`specs/Kept.antt`). Its type guarantees
-/// that each image of the disk gives the world or, after a torn commit, either of the two.
+/// A world that outlives the program. Contracts see its disk, its world and, once the device has torn a
+/// commit, the world that this commit was meant to make (`specs/Kept.antt`). The type guarantees that
+/// each image of the disk gives the world or, after a torn commit, one of the two.
 #[derive(Drop)]
 pub struct Store<D: Disk> {
     alloc: Global,
@@ -41,7 +41,7 @@ impl<D: Disk> Model for Store<D> {
 
 impl<D: Disk> Store<D> {
     ghost use Rattle.coord_store.specs.Kept.{Holds, ImagesGive, IsOnlyWorld, has_stopped};
-    // Makes a store of a journal whose content gives this world.
+    // Makes a store over a journal whose content gives this world.
     pub(crate) fn over(alloc: Global, journal: Journal<D>, world: World) -> Self
         requires legal { Legal world }
         requires going { journal_has_stopped journal ≡ false }
@@ -65,15 +65,15 @@ impl<D: Disk> Store<D> {
         &self.world
     }
 
-    /// Tests whether the device has failed in a commit. Then every later commit is refused.
+    /// Tests whether the device has failed in a commit. If it has, every later commit is refused.
     pub fn stopped(&self) -> bool
         ensures { result ≡ has_stopped self.now }
     {
         self.torn.is_some()
     }
 
-    /// Does nothing: its contract states the invariant of every store. While no call changes it, a
-    /// crash leaves bytes that give its world.
+    /// Does nothing: its contract states the invariant of every store. A crash outside every call
+    /// leaves bytes that give the store's world.
     pub fn lemma_images_give_world(&self)
         ensures legal { Legal self.now.world }
         ensures images { D.model.keeps_model self.now.disk ≡ true → ImagesGive D.model self.now }
@@ -87,7 +87,7 @@ impl<D: Disk> Store<D> {
 impl<D: Disk + Takable> Store<D> {
     ghost use Rattle.coord_store.specs.Recovered.{Recovered};
 
-    /// Returns the disk. If no commit was torn, opening the disk gives the world again.
+    /// Returns the disk. If no commit was torn, opening the disk gives the same world.
     pub fn into_disk(self) -> D
         ensures disk { result ≡ self.disk }
         ensures reopens { D.model.keeps_model self.disk ≡ true → self.torn ≡ None →
@@ -97,8 +97,9 @@ impl<D: Disk + Takable> Store<D> {
     }
 }
 
-/// Records the result of writing `next` in place of a store's world: it is the world from then on, or,
-/// if the device failed, the one that a torn commit was meant to make. Returns the old world.
+/// Records the result of writing `next` in place of a store's world. On success `next` becomes the
+/// world; if the device failed, it becomes the world that a torn commit was meant to make. Returns the
+/// old world.
 fn conclude(
     world: &mut World,
     torn: &mut Option<World>,

@@ -1,5 +1,5 @@
-//! How a commit writes: it appends the batch. If the body of the batch does not fit, it first
-//! replaces the journal's content by the old world.
+//! Writes a commit: appends the batch. If the body of the batch does not fit, first replaces the
+//! journal's content by a snapshot of the old world.
 
 ghost use Rattle.std.specs.Prelude.{◌≡◌, ◌≢◌, ◌+◌, ◌≤◌, true, false, List, length, OnOk, IfErr};
 ghost use Rattle.coord_journal.specs.Faults.{IsWriteFault};
@@ -35,7 +35,7 @@ fn fault_of(fault: JournalFault) -> CommitFault
     }
 }
 
-/// Replaces a journal's content by another world.
+/// Replaces a journal's content by a snapshot of another world.
 pub fn put_in_place<D: Disk>(
     alloc: Global,
     journal: &mut Journal<D>,
@@ -107,7 +107,7 @@ pub fn write<D: Disk>(
     if journal.fits(body.len()) {
         return append(journal, body);
     }
-    // A checkpoint: the same world, without a batch after its snapshot.
+    // A checkpoint: a snapshot of the same world, with no batch after it.
     match put_in_place(alloc, journal, world) {
         Ok(()) => append(journal, body),
         Err(fault) => Err(fault),

@@ -1,4 +1,5 @@
--- Links in one table, each under its two ends, the lesser first, with the lanes in both directions.
+-- A table of links. The key of a link is its two ends, the lesser first; its value is the two lanes, one for each
+-- direction.
 use Rattle.std.specs.Prelude.{◌≡◌, ℕ, ◌<◌, ◌^◌, ◌==◌, ◌&&◌, nat_lt, Bool, true, List, [], ◌∷◌, map, length, slice_index, Option, if◌then◌else◌}
 use Rattle.std.proofs.Common.{refl}
 use Rattle.std.specs.Coded.{Coded, code_by, coded×, coded_ℕ}
@@ -23,30 +24,30 @@ Links = Table pair_cmp_total Lanes
 abbrev pub ends : ℕ → ℕ → ℕ × ℕ
 ends x y = if nat_lt x y then (x, y) else (y, x)
 
--- the place recorded for the link of x and y
+-- the index that `places` records for the link of x and y
 abbrev pub link_place : List ℕ → ℕ → ℕ → Option ℕ
 link_place places x y = noted_place (slice_index places (pair_place (ends x y).0 (ends x y).1))
 
--- the lane from x to y among the two lanes of a link
+-- the lane from x to y, of the two lanes of their link
 abbrev pub toward : ℕ → ℕ → Lanes → Lane
 toward x y l = if nat_lt x y then l.forth else l.back
 
--- the lane from x to y
+-- the lane from x to y, or None if they are not linked
 unfoldable pub lane_at : Links → ℕ → ℕ → Option Lane
 lane_at t x y = option_map (toward x y) (get t (ends x y))
 
--- each link has its lesser end first
+-- the key of each link has its lesser end first
 abbrev pub Turned : Links → Type 0
 Turned t = (a b : ℕ) → has t (a, b) ≡ true → a < b
 
--- applies a function of the ends and the lane to each lane
+-- replaces each lane by a function of its ends and the lane
 abbrev pub change_lanes : (ℕ × ℕ → Lane → Lane) → Links → Links
 change_lanes f t = change (λ k l. record { forth = f k l.forth; back = f (k.1, k.0) l.back }) t
 
 abbrev pub is_lane : ℕ × ℕ → ℕ → ℕ → Bool
 is_lane k x y = (k.0 == x) && (k.1 == y)
 
--- changes the lane from x to y
+-- applies a function to the lane from x to y
 abbrev pub change_lane : Links → ℕ → ℕ → (Lane → Lane) → Links
 change_lane t x y f = change_lanes (λ k l. if is_lane k x y then f l else l) t
 
@@ -58,23 +59,23 @@ joined t x y l = insert t (ends x y) (record { forth = l; back = l })
 abbrev pub parted : Links → ℕ → ℕ → Links
 parted t x y = remove t (ends x y)
 
--- these lanes, and the two lanes of each link
+-- adds the two lanes of each link to a table of lanes
 abbrev pub with_lanes : Table pair_cmp_total Lane → List ((ℕ × ℕ) × Lanes) → Table pair_cmp_total Lane
 with_lanes lanes [] = lanes
 with_lanes lanes (e ∷ es) = with_lanes (insert (insert lanes e.0 e.1.forth) (e.0.1, e.0.0) e.1.back) es
 
--- all lanes in ascending order of their senders, and then of their receivers
+-- all lanes, in ascending order of their senders and then of their receivers
 abbrev pub lanes_in_order : Links → List ((ℕ × ℕ) × Lane)
 lanes_in_order t = entries (with_lanes empty (entries t))
 
--- a link as a row, and back
+-- the row of a link; `link_entry` converts it back
 abbrev pub link_row : (ℕ × ℕ) × Lanes → LinkRow
 link_row e = record { a = e.0.0; b = e.0.1; forth = e.1.forth; back = e.1.back }
 
 abbrev pub link_entry : LinkRow → (ℕ × ℕ) × Lanes
 link_entry r = ((r.a, r.b), record { forth = r.forth; back = r.back })
 
--- a row with this lane from x to y
+-- the row with this lane from x to y
 abbrev pub row_with : LinkRow → ℕ → ℕ → Lane → LinkRow
 row_with r x y m = if nat_lt x y then record r { forth = m } else record r { back = m }
 
@@ -82,11 +83,11 @@ row_with r x y m = if nat_lt x y then record r { forth = m } else record r { bac
 abbrev pub link_rows : Links → List LinkRow
 link_rows t = map link_row (entries t)
 
--- the table of rows in ascending order
+-- the table with these rows, which must be in ascending order
 abbrev pub links_of : List LinkRow → Links
 links_of rows = from_sorted (map link_entry rows)
 
--- rows in ascending order, each with its lesser end first
+-- the rows are in ascending order, each with its lesser end first
 pub record LinksRise (rows : List LinkRow) : Type 0 where
   pub turned : AllByRecursion (λ r. r.a < r.b) rows
   pub rise : is_sorted pair_cmp (map link_entry rows) ≡ true
@@ -98,7 +99,7 @@ lanes_code = code_by (Lane × Lane) (coded× lane_code lane_code) (λ l. (l.fort
 abbrev pub links_code : Coded Links
 links_code = code (coded× coded_ℕ coded_ℕ) lanes_code
 
--- the table of rows in ascending order, with a table of their places
+-- the rows are in ascending order, at most 255, and `places` is their index
 pub record AreIndexed (rows : List LinkRow) (places : List ℕ) : Type 0 where
   pub rise : LinksRise rows
   pub few : length rows < 2 ^ 8

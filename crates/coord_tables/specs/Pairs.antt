@@ -1,10 +1,10 @@
--- Pairs of nodes, as ends of a lane: the sender and the receiver.
+-- Ordered pairs of nodes: the sender and the receiver of a lane.
 use Rattle.std.specs.Prelude.{ℕ}
 use Rattle.std.specs.Ordering.{nat_cmp, ordering_then}
 use Rattle.std.specs.declared.cmp.Ordering.{Ordering}
 use Rattle.std.specs.Cmp.{IsTotalOrder, nat_cmp_total, on_total, then_total}
 
--- by the sender, and then by the receiver
+-- the order of pairs: by the sender, and then by the receiver
 abbrev pub pair_cmp : ℕ × ℕ → ℕ × ℕ → Ordering
 pair_cmp p q = ordering_then (nat_cmp p.0 q.0) (nat_cmp p.1 q.1)
 

@@ -7,7 +7,7 @@ use coord_link::Lane;
 use coord_node::Node;
 use coord_types::{Msg, Session};
 
-/// Values with an exact comparison: it returns true exactly if contracts see equal values.
+/// Values with an exact comparison: it returns true if and only if contracts see equal values.
 pub trait Same {
     fn is_same(&self, other: &Self) -> bool
         ensures { IsTrue result ↔ (self.now ≡ other.now) };
@@ -74,7 +74,7 @@ impl Same for LinkRow {
     }
 }
 
-/// Tests whether two lists are equal.
+/// Tests whether two lists have equal values in the same order.
 pub fn is_same_list<T: Same>(a: &[T], b: &[T]) -> bool
     ensures { IsTrue result ↔ (a.now ≡ b.now) }
 {

@@ -3,13 +3,13 @@
 use coord_link::Lane;
 use coord_types::NodeId;
 
-/// A link's row: its ends, where `a` is below `b`, and the lane in each direction.
+/// A link's row: its ends, with `a` below `b`, and the lane in each direction.
 #[derive(Clone, Copy, Debug)]
 pub struct LinkRow {
     pub a: NodeId,
     pub b: NodeId,
-    /// From `a` to `b`.
+    /// The lane from `a` to `b`.
     pub forth: Lane,
-    /// From `b` to `a`.
+    /// The lane from `b` to `a`.
     pub back: Lane,
 }

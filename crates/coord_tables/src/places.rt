@@ -1,4 +1,4 @@
-//! The index of each link in the list of links, by its ends.
+//! The index of the list of links: the place of each link, by its ends.
 
 ghost use Rattle.std.specs.Prelude.{◌≡◌, ◌≤◌, ◌<◌, ◌^◌, ℕ, None, map, length, slice_index, OnOk, OnErr};
 ghost use Rattle.std.specs.FinMap.Entries.{find};
@@ -16,14 +16,14 @@ use std::cmp::Ordering;
 /// The number of ordered pairs of nodes.
 pub const PAIRS: usize = NODES * NODES;
 
-/// Two nodes, the lesser first.
+/// Returns the two nodes, the lesser first.
 pub fn ends(x: NodeId, y: NodeId) -> (NodeId, NodeId)
     ensures { result ≡ ends x y }
 {
     if x < y { (x, y) } else { (y, x) }
 }
 
-/// The cell of a pair.
+/// Returns the cell of a pair, below `PAIRS`.
 fn pair_place(a: NodeId, b: NodeId) -> usize
     ensures value { result ≡ pair_place a b }
     ensures within { result < PAIRS }
@@ -33,7 +33,7 @@ fn pair_place(a: NodeId, b: NodeId) -> usize
     (a.number() as usize - 1) * NODES + (b.number() as usize - 1)
 }
 
-/// Returns the index of the link of two nodes.
+/// Returns the place of the link of two nodes, or None if they are not linked.
 pub fn place_of(places: &[u8], x: NodeId, y: NodeId) -> Option<usize>
     ensures value { result ≡ link_place places.now x y }
     ensures first { IsNode (ends x y).0 }
@@ -52,7 +52,7 @@ pub fn place_of(places: &[u8], x: NodeId, y: NodeId) -> Option<usize>
     }
 }
 
-/// Allocates the cells of all pairs, if there are none yet. Recorded indexes stay.
+/// Allocates the cells of all pairs if there are none yet. Recorded places are kept.
 pub fn grow(places: &mut Vec<u8>) -> Result<(), AllocError>
     requires { length places.old.items ≤ PAIRS }
     ensures ok { OnOk result (length places.new.items ≡ PAIRS) }
@@ -63,7 +63,7 @@ pub fn grow(places: &mut Vec<u8>) -> Result<(), AllocError>
     places.resize(PAIRS, 0)
 }
 
-/// Records the index of each of these links.
+/// Records the place of each of these links.
 pub fn index_all(places: &mut Vec<u8>, links: &[LinkRow])
     requires whole { length places.old.items ≡ PAIRS }
     requires few { length links.now < 2 ^ 8 }
@@ -76,7 +76,7 @@ pub fn index_all(places: &mut Vec<u8>, links: &[LinkRow])
     }
 }
 
-/// Returns the index of a new link whose lesser end is `a`: after the links with lesser ends.
+/// Returns the place at which to insert a new link from `a` to `b`, in ascending order.
 pub fn place_for(links: &[LinkRow], a: NodeId, b: NodeId) -> usize
     requires { find pair_cmp record { 0 = a; 1 = b } (map link_entry links.now) ≡ None }
     ensures { IsGapFor pair_cmp (map link_entry links.now) record { 0 = a; 1 = b } result }

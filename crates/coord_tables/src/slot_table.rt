@@ -1,4 +1,4 @@
-//! Tables by the numbers of identifiers: the nodes of a world, and its clients' last orders.
+//! Tables whose keys are identifiers: the nodes of a world, and its clients' last orders.
 
 ghost use Rattle.std.specs.Prelude.{◌≡◌, true, IsSome, IfOk, OnOk, OnErr, IsTrue, ◌↔◌};
 ghost use Rattle.std.specs.Option.{option_copied};
@@ -13,7 +13,7 @@ use coord_types::{Identifier, MAX_CLIENTS, MAX_NODES, Session};
 use std::alloc::{AllocError, Global};
 use std::marker::Model;
 
-/// Values in slots: the value of key k is in slot k - 1. Contracts see a table.
+/// Values in slots: the value of key k is in slot k - 1. Contracts see a finite table.
 #[derive(Drop, Debug)]
 pub struct SlotTable<const MOST: u8, V> {
     slots: Vec<Option<V>>,
@@ -51,7 +51,7 @@ impl<const MOST: u8, V: Copy> SlotTable<MOST, V> {
         }
     }
 
-    /// Returns the table of entries in ascending order.
+    /// Returns the table with these entries, which must be in ascending order.
     pub fn from_sorted(alloc: Global, entries: &[(Identifier<MOST>, V)]) -> Result<Self, AllocError>
         requires { is_sorted nat_cmp entries.now ≡ true }
         ensures { IfOk result (λ made. made ≡ table.from_sorted entries.now) }
@@ -77,7 +77,7 @@ impl<const MOST: u8, V: Copy> SlotTable<MOST, V> {
         slots::count(&self.slots)
     }
 
-    /// Returns the value at a key.
+    /// Returns the value at a key, or None if there is none.
     pub fn get(&self, key: Identifier<MOST>) -> Option<&V>
         ensures { option_copied result ≡ table.get self.now key.entry }
     {
@@ -92,7 +92,7 @@ impl<const MOST: u8, V: Copy> SlotTable<MOST, V> {
         slots::put(&mut self.slots, key.number(), value)
     }
 
-    /// Replaces the value at a key.
+    /// Replaces the value at a key, which must exist. It allocates nothing.
     pub fn replace(&mut self, key: Identifier<MOST>, value: V)
         requires { IsSome (table.get self.old key) }
         ensures { self.new ≡ table.insert self.old key.entry value }
@@ -100,14 +100,14 @@ impl<const MOST: u8, V: Copy> SlotTable<MOST, V> {
         slots::replace(&mut self.slots, key.number(), value);
     }
 
-    /// Removes the value at a key and returns it, if there is one.
+    /// Removes the value at a key, if there is one.
     pub fn remove(&mut self, key: Identifier<MOST>)
         ensures { self.new ≡ table.remove self.old key.entry }
     {
         slots::take_out(&mut self.slots, key.number());
     }
 
-    /// Tests whether both hold the same values at the same keys.
+    /// Tests whether both tables hold the same values at the same keys.
     pub fn is_same(&self, other: &Self) -> bool
     where
         V: Same,

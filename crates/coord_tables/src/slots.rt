@@ -8,7 +8,7 @@ use crate::equality::Same;
 use coord_types::Identifier;
 use std::alloc::{AllocError, Global};
 
-/// Returns the content of a slot.
+/// Returns the content of a slot; a slot beyond the end of the list is empty.
 pub fn value_at<V>(slots: &[Option<V>], at: usize) -> Option<&V>
     ensures { option_copied result ≡ slot_at slots.now at }
 {
@@ -33,7 +33,7 @@ pub fn put<V: Copy>(slots: &mut Vec<Option<V>>, key: u8, value: V) -> Result<(),
     Ok(())
 }
 
-/// Replaces the value at a key.
+/// Replaces the value at a key, which must exist.
 pub fn replace<V: Copy>(slots: &mut Vec<Option<V>>, key: u8, value: V)
     requires key { 1 ≤ key }
     requires there { IsSome (slot_at slots.old.items (key - 1)) }
@@ -43,7 +43,7 @@ pub fn replace<V: Copy>(slots: &mut Vec<Option<V>>, key: u8, value: V)
     slots[key as usize - 1] = Some(value);
 }
 
-/// Removes the value at a key and returns it.
+/// Removes the value at a key, if there is one.
 pub fn take_out<V: Copy>(slots: &mut Vec<Option<V>>, key: u8)
     requires { 1 ≤ key }
     ensures set { IsSetAt key None slots.new.items slots.old.items }
@@ -87,7 +87,7 @@ pub fn entries<const MOST: u8, V: Copy>(
     Ok(entries)
 }
 
-/// Tests whether all slots are equal.
+/// Tests whether both lists have the same content in each slot.
 pub fn is_same_slots<V: Same>(a: &[Option<V>], b: &[Option<V>]) -> bool
     ensures { IsTrue result ↔ ((i : ℕ) → slot_at a.now i ≡ slot_at b.now i) }
 {

@@ -3,7 +3,7 @@ use Rattle.std.specs.Prelude.{◌==◌, ◌&&◌, Bool, false}
 use Rattle.coord_types.specs.declared.steps.Command.{Command}
 use Rattle.coord_types.specs.declared.steps.Command.TheVariants.{Add, Remove, Join, Drop, Reset, Confirm}
 
--- both commands have the same form and the same values
+-- whether both commands have the same form and the same arguments
 abbrev pub same_command : Command → Command → Bool
 same_command (Add u g) (Add v h) = (u == v) && (g == h)
 same_command (Remove u) (Remove v) = u == v

@@ -11,7 +11,7 @@ same_msg msg.Ack msg.Ack = true
 same_msg msg.Ready msg.Ready = true
 same_msg m n = false
 
--- the distance that a message carries
+-- the distance that an Abort carries; 0 for the other messages
 abbrev pub carried : Msg → ℕ
 carried (msg.Abort k) = k
 carried msg.Ack = 0
@@ -30,7 +30,7 @@ abbrev pub behind_front : List Msg → List Msg
 behind_front [] = []
 behind_front (m ∷ ms) = ms
 
--- a message as a number, and back
+-- the number by which a message is stored; `msg_from` converts it back
 abbrev pub msg_number : Msg → ℕ
 msg_number msg.Ack = 0
 msg_number msg.Ready = 1

@@ -76,6 +76,6 @@ refusal_name PendingFull = codes "PendingFull"
 refusal_name (Behind settled) = codes "Behind"
 refusal_name Stranger = codes "Stranger"
 
--- for example "16 Old"
+-- the refusal's number and name, for example "16 Old"
 abbrev pub refusal_text : Refusal → List ℕ
 refusal_text refusal = decimal (refusal_number refusal) ++ codes " " ++ refusal_name refusal

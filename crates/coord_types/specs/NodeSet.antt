@@ -32,7 +32,7 @@ unfoldable pub len : NodeSet → ℕ
 unfolding table.len
 len s = table.len s
 
--- in ascending order
+-- the members, in ascending order
 unfoldable pub items : NodeSet → List ℕ
 unfolding table.keys
 items s = table.keys s
@@ -46,7 +46,7 @@ abbrev pub first_of : List ℕ → Option ℕ
 first_of [] = None
 first_of (k ∷ ks) = Some k
 
--- the smallest member
+-- the smallest member, or None if the set is empty
 abbrev pub first : NodeSet → Option ℕ
 first s = first_of (items s)
 

@@ -1,4 +1,4 @@
--- A node's state, as the reset rules see it.
+-- The state of a node as the reset rules see it.
 use Rattle.std.specs.Prelude.{◌≡◌, ℕ, zero, suc, Option, None}
 use Rattle.std.proofs.Common.{refl}
 use Rattle.coord_types.specs.NodeSet.{NodeSet, nodes_code, empty}
@@ -6,12 +6,12 @@ use Rattle.std.specs.Coded.{Coded, code_by, coded×, coded_ℕ, coded_option}
 use Rattle.coord_types.specs.declared.messages.Mode.{Mode}
 use Rattle.coord_types.specs.declared.messages.Mode.TheVariants.{Ready, Abort, Converge}
 
--- `distance` is the number of links between the node and the one that began its reset; it is 0 for a Ready node, and always
--- in a world of version 1.
--- `pend` is the set of neighbours whose acknowledgement it awaits, and `parent` the neighbour to which it owes its own.
--- `neighbours` is part of the state, so that a reset rule is a function of one state; the type `World` guarantees that
--- they are exactly the nodes that it has lanes to (`linked` in coord_world's Ranges).
--- `epoch` counts its signals; the service is known to have acted on those up to `confirmed`
+-- `pend` is the set of neighbours from which the node awaits an acknowledgement, and `parent` the neighbour to which it
+-- owes its own acknowledgement. `distance` is the number of links between the node and the node that began its reset;
+-- it is 0 for a Ready node, and for every node in a world of version 1. `neighbours` is part of the state so that a
+-- reset rule is a function of one state; the type `World` guarantees that they are exactly the nodes to which it has
+-- lanes (`linked` in coord_world's Ranges). `epoch` counts the node's signals; `confirmed` is the last epoch that its
+-- service is known to have acted on
 pub record NodeState : Type 0 where
   pub group : ℕ
   pub mode : Mode
@@ -30,7 +30,7 @@ new_node g = record { group = g; mode = Ready; parent = None; pend = empty; neig
 abbrev pub no_node : NodeState
 no_node = new_node 0
 
--- a mode as a number, and back
+-- the number by which a mode is stored; `mode_from` converts it back
 abbrev pub mode_number : Mode → ℕ
 mode_number Ready = 0
 mode_number Abort = 1

@@ -1,4 +1,4 @@
--- The ranges of the numbers in a step. The types of these numbers guarantee them.
+-- The ranges of the numbers in a step. The types of these numbers guarantee the ranges.
 use Rattle.std.specs.Prelude.{ℕ, ◌^◌, ◌≤◌, ◌<◌}
 use Rattle.coord_types.specs.declared.limits.TheConstants.{MAX_CLIENTS, MAX_GROUPS, MAX_NODES}
 use Rattle.coord_types.specs.declared.steps.Command.{Command}
@@ -6,7 +6,7 @@ use Rattle.coord_types.specs.declared.steps.Command.TheVariants.{Add, Remove, Jo
 use Rattle.coord_types.specs.declared.steps.Step.{Step}
 use Rattle.coord_types.specs.declared.steps.Step.TheVariants.{Order, Take, Clear}
 
--- a node's number is at least 1
+-- a node's number is from 1 to 64
 abbrev pub IsNode : ℕ → Type 0
 IsNode u = (1 ≤ u) × (u ≤ MAX_NODES)
 
@@ -19,7 +19,7 @@ CommandInRange (Drop a b) = IsNode a × IsNode b
 CommandInRange (Reset u) = IsNode u
 CommandInRange (Confirm u e) = IsNode u × (e < 2 ^ 64)
 
--- the client and the command of an order are in range; a packet may hold any numbers
+-- the client and the command of an order are in range; the numbers in a packet are unrestricted
 abbrev pub StepInRange : Step → Type 0
 StepInRange (Order c n x) = (1 ≤ c) × (c ≤ MAX_CLIENTS) × CommandInRange x
 StepInRange (Take p) = Unit {0}

@@ -1,12 +1,11 @@
-//! The numbers of nodes, groups and clients, each kept within its range by its type.
+//! The numbers of nodes, groups and clients. The type of each number guarantees its range.
 
 ghost use Rattle.std.specs.Prelude.{◌≡◌, ◌≤◌, ◌↔◌, IsSome, IfSome};
 
 use crate::limits::{MAX_CLIENTS, MAX_GROUPS, MAX_NODES, MAX_VERSIONS};
 use std::marker::Model;
 
-/// The number of a node, a group or a client, from 1 to `MOST`. Contracts see it as
-/// that number.
+/// The number of a node, a group or a client, from 1 to `MOST`. Contracts see a plain number.
 #[derive(Clone, Copy, Debug, PartialEq, Eq, PartialOrd, Ord)]
 pub struct Identifier<const MOST: u8> {
     number: u8,
@@ -21,8 +20,8 @@ pub type Group = Identifier<MAX_GROUPS>;
 /// A client's number, from 1 to 16. Each client numbers its own orders from 1.
 pub type Client = Identifier<MAX_CLIENTS>;
 
-/// A version of worlds and of their grammar, 1 or 2: in version 2 an Abort and a node in a reset have
-/// a distance.
+/// The version of a world and of its grammar, 1 or 2. In version 2, an Abort and a node in a reset
+/// carry a distance.
 pub type Version = Identifier<MAX_VERSIONS>;
 
 impl<const MOST: u8> Model for Identifier<MOST> {
@@ -38,7 +37,7 @@ impl<const MOST: u8> Model for Identifier<MOST> {
 }
 
 impl<const MOST: u8> Identifier<MOST> {
-    /// Returns the identifier with this number, or None outside 1 to `MOST`.
+    /// Returns the identifier with this number, or None if the number is not from 1 to `MOST`.
     pub fn new(number: u8) -> Option<Self>
         ensures within { IsSome result ↔ ((1 ≤ number) × (number ≤ MOST)) }
         ensures value { IfSome result (λ id. id ≡ number) }

@@ -6,7 +6,8 @@
 //! (`Table`), the set of nodes (`NodeSet`), a node's state (`NodeState`), the ideal world
 //! (`IdealWorld`), over which the laws of the protocol are stated, and all printed words and
 //! numbers (`Names`). The main theorem is the contracts of `NodeSet`: a mask of 64 bits
-//! (`NodeMask`) answers as the set of numbers does, its members in ascending order.
+//! (`NodeMask`) behaves like the set of numbers that it represents, and lists its members in
+//! ascending order.
 #![tactic(auto)]
 
 mod identifiers;

@@ -1,7 +1,8 @@
-//! The limits of the protocol and of its files, each defined once: definitions cite them by these names, as
-//! bodies do. coord_journal, which stands apart, names two of them again; a law of coord_store shows
-//! that these are equal. A number that is part of a format's text, such as a byte's value, stays bare, and equal
-//! numbers with different meanings have different names.
+//! The limits of the protocol and of its files. Each is defined here once, and both definitions and
+//! bodies cite it by name. Only coord_journal, which does not use this crate, defines two of them
+//! again; a law of coord_store shows that they are equal. A number that is part of a format, such
+//! as the value of a byte, has no name, and equal numbers with different meanings have different
+//! names.
 
 /// The maximum number of nodes, and the greatest node number.
 pub const MAX_NODES: u8 = 64;
@@ -9,7 +10,7 @@ pub const MAX_NODES: u8 = 64;
 /// The length of a list with one entry for each node.
 pub const NODES: usize = MAX_NODES as usize;
 
-/// One more than the greatest node number: the end of a loop over nodes.
+/// One more than the greatest node number: the exclusive end of a loop over nodes.
 pub const END_OF_NODES: u8 = MAX_NODES + 1;
 
 /// The maximum number of groups, and the greatest group number.
@@ -30,7 +31,7 @@ pub const MAX_LINKS: usize = 128;
 /// The maximum number of steps of a world.
 pub const MAX_STEPS: u64 = 1 << 40;
 
-/// The maximum number of steps of a batch.
+/// The maximum number of steps in a batch.
 pub const MAX_BATCH_STEPS: usize = 256;
 
 /// The maximum length of an encoded batch, in bytes.
@@ -42,5 +43,5 @@ pub const MAX_SNAPSHOT_BYTES: usize = 16_384;
 /// The maximum length of a line of text, in bytes.
 pub const MAX_LINE_BYTES: usize = 512;
 
-/// The maximum number of pending steps, that is, steps that are accepted and not settled.
+/// The maximum number of pending steps: steps that are accepted but not yet settled.
 pub const MAX_PENDING: usize = 1_024;

@@ -1,4 +1,4 @@
-//! The modes of nodes, and the messages that nodes send each other.
+//! The modes of nodes, and the messages that nodes send to each other.
 
 ghost use Rattle.std.specs.Prelude.{◌≡◌, Some};
 ghost use Rattle.coord_types.specs.Names.{mode_name, msg_name};
@@ -10,14 +10,14 @@ use std::fmt;
 pub enum Mode {
     /// The node is not in a reset.
     Ready,
-    /// The node passed the abort wave on and awaits acknowledgements.
+    /// The node has passed the abort wave on and awaits acknowledgements.
     Abort,
     /// The node has received all acknowledgements, and waits for its parent's Ready.
     Converge,
 }
 
 impl Mode {
-    /// Returns the mode's name in printed rows.
+    /// Returns the mode's printed name.
     pub fn name(self) -> &'static str
         ensures { result.now ≡ mode_name self }
     {
@@ -40,17 +40,19 @@ impl fmt::Display for Mode {
 /// A message between neighbours.
 #[derive(Clone, Copy, Debug, PartialEq, Eq)]
 pub enum Msg {
-    /// A reset spreads. In version 2 it carries the distance that its receiver takes: the number of
-    /// links between the receiver and the node that began the reset. In version 1 that is 0.
+    /// A reset spreads. In version 2 the message carries the distance that its receiver takes: the
+    /// number of links between the receiver and the node that began the reset. In version 1 it
+    /// carries 0.
     Abort(u64),
-    /// The reset has reached the sender and all nodes below it.
+    /// The sender acknowledges an Abort. If the receiver is its parent, every node to which the
+    /// sender passed the reset has acknowledged it too.
     Ack,
     /// The reset is over.
     Ready,
 }
 
 impl Msg {
-    /// Returns the message's name in printed packets.
+    /// Returns the message's printed name.
     pub fn name(self) -> &'static str
         ensures { result.now ≡ msg_name self }
     {

@@ -41,7 +41,7 @@ impl NodeSet {
         NodeSet { bits: 0 }
     }
 
-    /// Returns the set of a mask: node k is a member if bit k - 1 is set.
+    /// Returns the set that a mask represents: node k is a member if bit k - 1 is set.
     pub fn from_bits(bits: u64) -> Self
         ensures { result ≡ nodes_of bits }
     {
@@ -84,8 +84,8 @@ impl NodeSet {
         self.bits & !other.bits == 0
     }
 
-    /// Returns the smallest member. Together with `without`, a loop visits all members in ascending
-    /// order.
+    /// Returns the smallest member, or None if the set is empty. A loop that calls `first` and then
+    /// `without` visits all members in ascending order.
     pub fn first(self) -> Option<NodeId>
         ensures { result ≡ set.first self }
     {

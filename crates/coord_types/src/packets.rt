@@ -15,7 +15,7 @@ pub struct DataPacket {
     pub msg: Msg,
 }
 
-/// Says that `to` has taken the message with this number.
+/// A receipt: `to` has taken the message with this number.
 #[derive(Clone, Copy, Debug, PartialEq, Eq)]
 pub struct ReceiptPacket {
     pub from: NodeId,
@@ -24,7 +24,7 @@ pub struct ReceiptPacket {
     pub number: u64,
 }
 
-/// A packet on a link. Data travels to its `to`, a receipt back to its `from`.
+/// A packet on a link. A data packet travels to `to`; a receipt travels back to `from`.
 #[derive(Clone, Copy, Debug, PartialEq, Eq)]
 pub enum Packet {
     Carried(DataPacket),

@@ -5,7 +5,7 @@ ghost use Rattle.coord_types.specs.Names.{refusal_name, refusal_number, refusal_
 
 use std::fmt;
 
-/// The reason for which a step or a call is refused (`docs/PROTOCOL.md`, "Acceptance and refusals").
+/// A reason for which a step or a call is refused (`docs/PROTOCOL.md`, "Acceptance and refusals").
 #[derive(Clone, Copy, Debug, PartialEq, Eq)]
 pub enum Refusal {
     Stopped,

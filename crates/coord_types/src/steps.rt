@@ -26,8 +26,8 @@ pub enum Command {
 }
 
 impl Command {
-    /// States the ranges of a command's numbers, and computes nothing: a contract sees
-    /// a `NodeId` or a `Group` as a plain number, and knows its range only after reading it.
+    /// States the ranges of a command's numbers, and computes nothing. A contract sees a `NodeId`
+    /// or a `Group` as a plain number; calling this lemma brings its range into the caller's proof.
     pub fn lemma_in_range(&self)
         ensures { CommandInRange self.now }
     {
@@ -53,11 +53,11 @@ impl Command {
 /// One step of a world.
 #[derive(Clone, Copy, Debug, PartialEq, Eq)]
 pub enum Step {
-    /// A client's order, with the client's own number for it.
+    /// A client's order, with the number that the client gave it.
     Order(Client, u64, Command),
     /// A node takes the data packet that arrived.
     Take(DataPacket),
-    /// A sender clears the message that this receipt names.
+    /// The sender of a message clears it, because this receipt arrived.
     Clear(ReceiptPacket),
 }
 
@@ -91,7 +91,7 @@ pub enum Kind {
 }
 
 impl Kind {
-    /// Returns the kind's name in printed replies.
+    /// Returns the kind's printed name.
     pub fn name(self) -> &'static str
         ensures { result.now ≡ kind_name self }
     {
@@ -121,7 +121,8 @@ pub struct Reply {
     pub kind: Kind,
 }
 
-/// A client's last order and its reply, kept so that a repeat is answered instead of carried out again.
+/// A client's last order and its reply. They are kept so that a repeated order is answered again
+/// instead of being carried out again.
 #[derive(Clone, Copy, Debug, PartialEq, Eq)]
 pub struct Session {
     pub number: u64,

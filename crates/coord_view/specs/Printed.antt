@@ -1,4 +1,4 @@
--- The lines of a view, each with a line feed at its end.
+-- The lines of a view, each of which ends with a line feed.
 use Rattle.std.specs.Prelude.{ℕ, List, ◌++◌, codes, decimal}
 use Rattle.std.specs.List.{flat_map}
 use Rattle.std.specs.Option.{option_map_or}
@@ -7,7 +7,7 @@ use Rattle.coord_view.specs.Shown.{Shown}
 use Rattle.coord_view.specs.declared.view.LinkView.{LinkView}
 use Rattle.coord_view.specs.declared.view.NodeView.{NodeView}
 
--- 0 means no parent
+-- the line of a node; a parent 0 means that it has none
 abbrev pub node_line : NodeView → List ℕ
 node_line v =
     codes "node " ++ (decimal v.node ++ (codes " " ++ (decimal v.group ++ (codes " " ++ (mode_name v.mode ++ (codes " "

@@ -18,6 +18,6 @@ node_view r = record { node = r.id; group = r.group; mode = r.mode; parent = r.p
 abbrev pub link_view : LinkRow → LinkView
 link_view r = record { a = r.a; b = r.b; inc = r.forth.inc }
 
--- the view if w is the settled world and this is the count of accepted steps
+-- the view of the settled world w, with this number of accepted steps
 abbrev pub shown : ℕ → World → Shown
 shown accepted w = record { accepted = accepted; settled = w.count; nodes = map node_view (rows_of w).nodes; links = map link_view (rows_of w).links }

@@ -1,11 +1,10 @@
-//! The view of a world: the numbers of accepted and settled steps, and its nodes and
-//! links in ascending order. It is a crate of its own because three callers show a world: the ledger its settled
-//! one, the drill in lines, the administration in JSON.
+//! The view of a world: the numbers of accepted and settled steps, and its nodes and links in
+//! ascending order. It is a separate crate because three callers show a world: the ledger its
+//! settled world, the drill in lines, and the administration in JSON.
 //!
-//! `specs/Shown.antt` defines the view of a world, and `specs/Printed.antt` its lines. A
-//! `View` holds it, for callers with a format of their own. The main contracts are those of
-//! [`view_of`], which makes the view of a world, and of [`print_view`], which appends its lines to a
-//! text.
+//! `specs/Shown.antt` defines the view of a world, and `specs/Printed.antt` its lines. A `View`
+//! holds the data, for callers with their own format. The main contracts are those of [`view_of`],
+//! which makes the view of a world, and of [`print_view`], which appends its lines to a text.
 #![tactic(auto)]
 
 mod making;

@@ -3,7 +3,7 @@
 use coord_types::{Group, Mode, NodeId};
 use std::marker::Model;
 
-/// the number of a parent; 0 means none
+/// A node's row in a view. A parent 0 means that the node has none.
 #[derive(Clone, Copy, Debug, PartialEq, Eq)]
 pub struct NodeView {
     pub node: NodeId,
@@ -11,11 +11,11 @@ pub struct NodeView {
     pub mode: Mode,
     pub parent: Option<NodeId>,
     pub epoch: u64,
-    /// The last epoch whose signal was acted on.
+    /// The last epoch whose signal the service is known to have acted on.
     pub confirmed: u64,
 }
 
-/// A link's row in a view, lesser end first.
+/// A link's row in a view: its ends, the lesser first.
 #[derive(Clone, Copy, Debug, PartialEq, Eq)]
 pub struct LinkView {
     pub a: NodeId,
@@ -24,8 +24,8 @@ pub struct LinkView {
     pub inc: u64,
 }
 
-/// The numbers of accepted and settled steps, and the nodes and links of the settled
-/// world in ascending order. Contracts see it as these four.
+/// The numbers of accepted and settled steps, and the nodes and links of the settled world in
+/// ascending order. Contracts see these four fields.
 #[derive(Debug, Drop)]
 pub struct View {
     pub accepted: u64,

@@ -1,4 +1,4 @@
--- What an answer line says about its order (docs/FORMATS.md, "Administration lines").
+-- The answer in a line from the server (docs/FORMATS.md, "Administration lines").
 use Rattle.std.specs.Prelude.{ℕ, List, [], ◌∷◌, codes, Option, Some, None, option_and_then, Result, Ok, Err, if◌then◌else◌}
 use Rattle.std.specs.Str.{bytes_eq}
 use Rattle.serde_json.specs.Data.{Data}
@@ -17,7 +17,7 @@ use Rattle.coord_wire.specs.declared.answer_line.ReadFault.TheVariants.{NoAnswer
 abbrev pub Name : Type 0
 Name = List ℕ
 
--- the meaning of a name in a table of names
+-- the value beside a name in a table of names, or None
 abbrev pub named : {X : Type 0} → List (Name × X) → Name → Option X
 named [] name = None
 named (row ∷ rows) name = if bytes_eq name row.0 then Some row.1 else named rows name
@@ -59,7 +59,7 @@ answer_with (Some reply) refusal = Some (Replied reply)
 answer_with None (Some refusal) = Some (Refused refusal)
 answer_with None None = None
 
--- a reply by its kind and step, or else a refusal by its name
+-- the answer in an object: a reply, by its kind and step, or else a refusal, by its name
 abbrev pub answer_of : Data → Option Answer
 answer_of d = answer_with (reply_of d) (refusal_of d)
 
@@ -67,6 +67,6 @@ abbrev pub or_no_answer : Option Answer → Result Answer ReadFault
 or_no_answer None = Err NoAnswer
 or_no_answer (Some a) = Ok a
 
--- the answer that a text gives, read as JSON
+-- the answer in a text, which is parsed as JSON
 unfoldable pub answer_in : List ℕ → Result Answer ReadFault
 answer_in text = or_no_answer (option_and_then answer_of (read text))

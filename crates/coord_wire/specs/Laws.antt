@@ -1,4 +1,4 @@
--- Each name that the server prints is read as what it names.
+-- The law of names: each name that the server prints is read as the value that it was printed for.
 use Rattle.std.specs.Prelude.{◌≡◌, Some}
 use Rattle.std.specs.List.{AllByRecursion}
 use Rattle.coord_types.specs.Names.{kind_name, refusal_name}

@@ -1,14 +1,14 @@
--- The line of an order, ended by a line feed (docs/FORMATS.md, "Administration lines").
+-- The line of an order, which ends with a line feed (docs/FORMATS.md, "Administration lines").
 use Rattle.std.specs.Prelude.{ℕ, List, ◌++◌, codes, decimal}
 use Rattle.coord_types.specs.declared.steps.Command.{Command}
 use Rattle.coord_types.specs.declared.steps.Command.TheVariants.{Add, Remove, Join, Drop, Reset, Confirm}
 use Rattle.coord_orders.specs.declared.book.Line.{Line}
 
--- a member that is a number
+-- a JSON member whose value is a number, after a comma
 unfoldable pub number_member : List ℕ → ℕ → List ℕ
 number_member name n = codes ",\"" ++ (name ++ (codes "\":" ++ decimal n))
 
--- the members that each order has
+-- the members that the line of every order begins with
 unfoldable pub head : List ℕ → ℕ → ℕ → List ℕ
 head op c n = codes "{\"op\":\"" ++ (op ++ (codes "\",\"client\":" ++ (decimal c ++ (codes ",\"number\":" ++ decimal n))))
 
@@ -21,11 +21,11 @@ add_line c n u g = head (codes "add") c n ++ (number_member (codes "node") u ++ 
 unfoldable pub confirm_line : ℕ → ℕ → ℕ → ℕ → List ℕ
 confirm_line c n u e = head (codes "confirm") c n ++ (number_member (codes "node") u ++ (number_member (codes "epoch") e ++ end))
 
--- of an order that names a node
+-- the line of an order that names one node
 unfoldable pub node_line : List ℕ → ℕ → ℕ → ℕ → List ℕ
 node_line op c n u = head op c n ++ (number_member (codes "node") u ++ end)
 
--- of one that names two
+-- the line of an order that names two nodes
 unfoldable pub link_line : List ℕ → ℕ → ℕ → ℕ → ℕ → List ℕ
 link_line op c n a b = head op c n ++ (number_member (codes "a") a ++ (number_member (codes "b") b ++ end))
 

@@ -1,4 +1,4 @@
--- The content of a line that answers `show` (docs/FORMATS.md, "Administration lines").
+-- The view in a line that answers `show` (docs/FORMATS.md, "Administration lines").
 use Rattle.std.specs.Prelude.{ℕ, ◌==◌, ◌&&◌, nat_le, List, [], ◌∷◌, codes, Option, Some, None, option_and_then, Result, Ok, Err, if◌then◌else◌}
 use Rattle.serde_json.specs.Data.{Data, Items, no_items, item}
 use Rattle.serde_json.specs.Read.{read}
@@ -30,7 +30,7 @@ from_1_to most n = if nat_le 1 n && nat_le n most then Some n else None
 abbrev pub id_at : ℕ → ℕ → Data → Option ℕ
 id_at place most d = option_and_then (from_1_to most) (number_at place d)
 
--- a parent's number; 0 means none
+-- the number, if it is at most `most`
 abbrev pub up_to : ℕ → ℕ → Option ℕ
 up_to most n = if nat_le n most then Some n else None
 
@@ -50,7 +50,7 @@ row_with (Some node) (Some group) (Some mode) (Some parent) (Some epoch) None = 
 row_with (Some node) (Some group) (Some mode) (Some parent) (Some epoch) (Some confirmed) =
     Some (record { node = node; group = group; mode = mode; parent = parent; epoch = epoch; confirmed = confirmed })
 
--- the number, the group, the mode, the parent, the epoch and the confirmed epoch
+-- a node's row: its number, group, mode, parent, epoch and confirmed epoch
 abbrev pub row_in : Data → Option NodeRow
 row_in d = row_with (id_at 0 MAX_NODES d) (id_at 1 MAX_GROUPS d) (mode_at 2 d) (option_and_then (up_to MAX_NODES) (number_at 3 d)) (number_at 4 d) (number_at 5 d)
 
@@ -63,7 +63,7 @@ link_with (Some a) None inc = None
 link_with (Some a) (Some b) None = None
 link_with (Some a) (Some b) (Some inc) = Some (record { a = a; b = b; inc = inc })
 
--- both ends and the incarnation
+-- a link's row: its ends and its incarnation
 abbrev pub link_in : Data → Option LinkView
 link_in d = link_with (id_at 0 MAX_NODES d) (id_at 1 MAX_NODES d) (number_at 2 d)
 
@@ -75,7 +75,7 @@ abbrev pub from_each : {X : Type 0} → Option X → Option (List X) → Option 
 from_each None rest = None
 from_each (Some x) rest = in_front x rest
 
--- the values of these; None if one has none
+-- the values of all items, or None if some item has no value
 abbrev pub each : {X : Type 0} → (Data → Option X) → Items → Option (List X)
 each read no_items = Some []
 each read (item d ds) = from_each (read d) (each read ds)
@@ -106,6 +106,6 @@ abbrev pub or_no_view : Option Shown → Result Shown ReadFault
 or_no_view None = Err NoAnswer
 or_no_view (Some shown) = Ok shown
 
--- the view in a text, parsed as JSON
+-- the view in a text, which is parsed as JSON
 unfoldable pub shown_in : List ℕ → Result Shown ReadFault
 shown_in text = or_no_view (option_and_then shown_of (read text))

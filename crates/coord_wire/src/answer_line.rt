@@ -1,4 +1,4 @@
-//! The line of an answer.
+//! Reads the line of an answer.
 
 ghost use Rattle.std.specs.Prelude.{◌≡◌, ◌≢◌, Err};
 ghost use Rattle.serde_json.specs.View.{view};
@@ -11,17 +11,17 @@ use coord_types::{Refusal, Reply};
 use serde_json::Value;
 use std::alloc::Global;
 
-/// Why a line is not an answer.
+/// The reason for which a line was not read.
 #[derive(Clone, Copy, Debug, PartialEq, Eq)]
 pub enum ReadFault {
-    /// Memory ran out while it was read.
+    /// Memory ran out.
     OutOfMemory,
-    /// The line is neither a reply to an order nor a refusal of one: a fault, or not a line of the
+    /// The line is not a reply to an order or a refusal of one: it is a fault, or not a line of the
     /// server.
     NoAnswer,
 }
 
-/// The answer in a line. Only the required members of an object count.
+/// Returns the answer in a line. Other members of the JSON object are ignored.
 #[tactic(auto, unfolding(crate::specs::AnswerLine::answer_in))]
 pub fn read_answer(alloc: Global, text: &str) -> Result<Answer, ReadFault>
     ensures { result ≢ Err OutOfMemory → result ≡ answer_in text.now }

@@ -1,11 +1,11 @@
 //! The port's lines as a client writes and reads them: the line of an order, the line of its
 //! answer, and the line that answers `show`.
 //!
-//! `specs/OrderLine.antt`, `specs/AnswerLine.antt` and `specs/ShowLine.antt` say them by
-//! docs/FORMATS.md, "Administration lines". [`print_order`] adds just that line to a text,
-//! [`read_answer`] returns the reply or the refusal of a line, and [`read_show`] the view. The main
-//! theorem is the contract of [`laws::names_are_read`]: each name that the server prints for a refusal of
-//! an order, or for what became of one, is read as that.
+//! `specs/OrderLine.antt`, `specs/AnswerLine.antt` and `specs/ShowLine.antt` define them, following
+//! docs/FORMATS.md, "Administration lines". [`print_order`] appends the line of an order to a text,
+//! [`read_answer`] returns the reply or the refusal in a line, and [`read_show`] the view. The main
+//! theorem is the contract of [`laws::names_are_read`]: each name that the server prints for the
+//! result or the refusal of an order is read as that result or refusal.
 #![tactic(auto)]
 
 mod answer_line;

@@ -1,11 +1,11 @@
-//! The meanings of the names in an answer's line.
+//! The names in an answer's line, and their meanings.
 
 ghost use Rattle.std.specs.Prelude.{◌≡◌};
 ghost use Rattle.coord_wire.specs.AnswerLine.{kind_named, refusal_named};
 
 use coord_types::{Kind, Refusal};
 
-/// The result of an order, by its name.
+/// Returns the kind of reply to an order that has this name, or None.
 pub(crate) fn kind_named(name: &str) -> Option<Kind>
     ensures { result ≡ kind_named name.now }
 {
@@ -18,7 +18,7 @@ pub(crate) fn kind_named(name: &str) -> Option<Kind>
     }
 }
 
-/// A refusal that an order may get, by its name.
+/// Returns the refusal of an order that has this name, or None.
 pub(crate) fn refusal_named(name: &str) -> Option<Refusal>
     ensures { result ≡ refusal_named name.now }
 {

@@ -1,4 +1,4 @@
-//! The line of an order.
+//! Prints the line of an order.
 
 ghost use Rattle.std.specs.Prelude.{◌≡◌, ◌++◌, OnOk, string_bytes};
 ghost use Rattle.coord_wire.specs.OrderLine.{add_line, confirm_line, head, link_line, node_line, number_member, order_line};
@@ -22,7 +22,7 @@ pub fn print_order(text: &mut String, client: Client, line: &Line) -> Result<(),
     }
 }
 
-/// Appends the members that each order has.
+/// Appends the members that the line of every order begins with.
 #[tactic(auto, unfolding(crate::specs::OrderLine::head))]
 fn print_head(text: &mut String, op: &str, client: Client, number: u64) -> Result<(), AllocError>
     ensures { OnOk result (string_bytes text.new ≡ string_bytes text.old ++ head op.now client number) }
@@ -34,7 +34,7 @@ fn print_head(text: &mut String, op: &str, client: Client, number: u64) -> Resul
     )
 }
 
-/// Appends a member with a number.
+/// Appends a comma and a JSON member whose value is a number.
 #[tactic(auto, unfolding(crate::specs::OrderLine::number_member))]
 fn print_member(text: &mut String, name: &str, number: u64) -> Result<(), AllocError>
     ensures { OnOk result (string_bytes text.new ≡ string_bytes text.old ++ number_member name.now number) }

@@ -1,4 +1,4 @@
-//! The line of the answer to `show`.
+//! Reads the line that answers `show`.
 
 ghost use Rattle.std.specs.Prelude.{◌≡◌, ◌≢◌, [], ◌∷◌, ◌++◌, Err, IfOk, OnOk, option_and_then};
 ghost use Rattle.std.specs.Option.{option_map};
@@ -12,7 +12,7 @@ use coord_view::{LinkView, NodeView, View};
 use serde_json::Value;
 use std::alloc::{AllocError, Global};
 
-/// The mode of a name.
+/// Returns the mode with this name, or None.
 fn mode_named(name: &str) -> Option<Mode>
     ensures { result ≡ mode_named name.now }
 {
@@ -24,7 +24,7 @@ fn mode_named(name: &str) -> Option<Mode>
     }
 }
 
-/// The whole number at a place of a row, which is any u64.
+/// Returns the number at a place of a row, or None if there is no whole number from 0 to 2^64 - 1.
 fn number_at(row: &Value, place: usize) -> Option<u64>
     ensures { result ≡ number_at place (view row.now) }
 {
@@ -38,7 +38,8 @@ fn id_at<const MOST: u8>(row: &Value, place: usize) -> Option<Identifier<MOST>>
     Identifier::new(u8::try_from(number).ok()?)
 }
 
-/// A parent's number; 0 means none.
+/// Returns the number of a parent at a place of a row; 0 means that there is no parent. None if it
+/// is not a number from 0 to 64.
 fn parent_at(row: &Value, place: usize) -> Option<u8>
     ensures { result ≡ option_and_then (up_to MAX_NODES) (number_at place (view row.now)) }
 {
@@ -56,7 +57,7 @@ fn mode_at(row: &Value, place: usize) -> Option<Mode>
     mode_named(row.get(place).and_then(Value::as_str)?)
 }
 
-/// A node's row, with the number of its parent.
+/// A node's row, with its parent as a number; 0 means that it has none.
 #[derive(Clone, Copy, Debug, PartialEq, Eq)]
 pub struct NodeRow {
     node: NodeId,
@@ -90,7 +91,7 @@ fn link_of(row: &Value) -> Option<LinkView>
     })
 }
 
-/// Adds a node as it is shown.
+/// Appends a node's row to the view.
 fn push_node(nodes: &mut Vec<NodeView>, row: &NodeRow) -> Result<(), AllocError>
     ensures { OnOk result (nodes.new.items ≡ nodes.old.items ++ (node_view row.now ∷ [])) }
 {
@@ -131,7 +132,7 @@ fn links_of(alloc: Global, rows: &[Value]) -> Result<Option<Vec<LinkView>>, Allo
     Ok(Some(links))
 }
 
-/// The rows at a name; None if there is no array.
+/// Returns the rows at a name, or None if there is no array.
 fn rows_at<'a>(value: &'a Value, name: &str) -> Option<&'a [Value]>
     ensures { option_map (λ rows. items_view rows.now) result ≡ rows_at name.now (view value.now) }
 {
@@ -165,7 +166,7 @@ fn count_at(value: &Value, name: &str) -> Option<u64>
     value.get(name).and_then(Value::as_u64)
 }
 
-/// The view that a line's value shows; None if it is not an answer to `show`.
+/// Returns the view that a line's value shows, or None if it is not an answer to `show`.
 fn shown_of(alloc: Global, value: &Value) -> Result<Option<View>, AllocError>
     ensures { IfOk result (λ shown. shown ≡ shown_of (view value.now)) }
 {
@@ -191,7 +192,7 @@ fn shown_of(alloc: Global, value: &Value) -> Result<Option<View>, AllocError>
     }
 }
 
-/// The view in a line that answers `show`.
+/// Returns the view in a line that answers `show`.
 #[tactic(auto, unfolding(crate::specs::ShowLine::shown_in))]
 pub fn read_show(alloc: Global, text: &str) -> Result<View, ReadFault>
     ensures { result ≢ Err OutOfMemory → result ≡ shown_in text.now }

@@ -1,4 +1,4 @@
--- The definitions in which the proofs and the crates above speak of this crate.
+-- The definitions of this crate that its proofs and the crates above it use.
 pub use Rattle.coord_world.specs.protocol.NumberedWorld.{Links, World, is_lane, is_linked, lane_at, lanes_in_order, no_world, pair_cmp, pair_cmp_total, state, state_or_none, transit_or_none, view}
 pub use Rattle.coord_world.specs.protocol.Acceptance.{IsFresh, accepts, against, against_command, against_data, against_receipt, has_receipted, has_sent, is_exhausted, is_full, is_unknown, judged, lane, last_number, of_incarnation, or_repeat}
 pub use Rattle.coord_world.specs.protocol.InTurn.{InTurn}

@@ -1,4 +1,4 @@
--- Definitions that only the bodies of this crate need; nothing above cites them.
+-- Definitions that only the bodies of this crate use; no crate above cites them.
 pub mod NodeTransitions
 pub mod Fronts
 pub mod Sends

@@ -1,4 +1,4 @@
--- The laws of the protocol, each the contract of a function of `laws`, and runs with known results.
+-- The laws of the protocol, each of which is the contract of a function of `laws`, and worked runs.
 pub mod Laws
 pub mod Waves
 pub mod Overlaps

@@ -1,4 +1,5 @@
-//! Laws of the protocol, over the definitions alone: functions that do nothing, whose contracts are the laws.
+//! Laws of the protocol, over the definitions alone: functions without a body whose contracts state
+//! the laws.
 
 ghost use Rattle.coord_world.specs.laws.Laws.{FreshOverItself, LanesAreShort, NextKeepsLegal, NextKeepsRanges, RowsGiveWorld, RowsHaveFewAborts, RowsOfWorldFit, ViewOfNext};
 ghost use Rattle.coord_world.specs.laws.Cycles.{NoParentCycle};
@@ -12,7 +13,7 @@ ghost use Rattle.coord_world.specs.laws.Between.{BoundBetween, BoundWithDrops};
 ghost use Rattle.coord_world.specs.laws.Drops.{NoMoreWithDrops};
 ghost use Rattle.coord_world.specs.laws.Overlaps.{AllOrNone, AloneAsFinished, AskedIsSignalled, AskedReachesAll, EpochsCountSignals, EpochsRiseTogether, NoMoreThanStarted, OnceIfOneStarted, OnceOrMore};
 
-/// A world that takes a step over some settled world also takes it over itself.
+/// If a world accepts a step over some settled world, it also accepts the step over itself.
 #[tactic(auto, using(crate::proofs::Acceptance::itself))]
 pub fn fresh_over_itself()
     ensures { FreshOverItself }
@@ -29,38 +30,39 @@ pub fn next_keeps_legal()
     ensures { NextKeepsLegal }
 {}
 
-/// What a step makes of the view is the ideal step.
+/// A step changes the view as the ideal step does.
 #[tactic(auto, using(crate::proofs::View::view_next))]
 pub fn view_of_next()
     ensures { ViewOfNext }
 {}
 
-/// In a legal world at most 3 messages are on the way on a lane, and its queue has at most 4.
+/// In a legal world, a lane has at most 3 messages in transit, and its queue has at most 4
+/// messages.
 pub fn lanes_are_short()
     ensures { LanesAreShort }
 {}
 
-/// In a legal world of version 2 no chain of parents comes back, of nodes in a reset without a Ready
-/// on the way from one to the next.
+/// In a legal world of version 2, chains of parents have no cycle. A chain has only nodes in a
+/// reset, and no Ready is in transit from a parent to its child.
 #[tactic(auto, using(crate::proofs::legal::NoCycle::no_parent_cycle))]
 pub fn no_parent_cycle()
     ensures { NoParentCycle }
 {}
 
-/// In a world of version 1 within its ranges the predicates demand nothing of distances: H holds
-/// for each link, and N for each node for which the rest of N does.
+/// In a world of version 1 in its ranges, the predicates demand nothing of distances: H holds for
+/// each link, and N holds for a node if N without the condition on the distance does.
 #[tactic(auto, using(crate::proofs::legal::Versions::version_1_asks_no_distance))]
 pub fn version_1_asks_no_distance()
     ensures { Version1AsksNoDistance }
 {}
 
-/// A legal world of version 1 in which every node is Ready is a legal one of version 2 with every
-/// distance 0.
+/// A legal world of version 1 in which every node is Ready is a legal world of version 2 once its
+/// version is changed: its distances are 0.
 pub fn raised_is_legal()
     ensures { RaisedIsLegal }
 {}
 
-/// The rows of a world in its ranges fit together.
+/// The rows of a world in its ranges satisfy the conditions of `RowsFit`.
 pub fn rows_of_world_fit()
     ensures { RowsOfWorldFit }
 {}
@@ -76,127 +78,133 @@ pub fn rows_give_world()
     ensures { RowsGiveWorld }
 {}
 
-/// In a list of steps in turn that begins and ends where every node is Ready, keeps all nodes and
-/// links, and starts just one reset, each node that a path of links connects with its initiator is
-/// signalled exactly once, and any other signal comes with the reply Finished.
+/// A list of steps in turn begins and ends with every node Ready, adds or removes no node and no
+/// link, and starts exactly one reset. Then each node that links connect with its initiator is
+/// signalled exactly once, and any other signal is of a step that is answered Finished.
 pub fn once_per_wave()
     ensures { OncePerWave }
 {}
 
-/// If a reset of a node is accepted, whatever the reply, and the node is Ready at the end of the steps,
-/// then it was signalled by that step or a later one. Nodes and links may come and go.
+/// If a reset of a node is accepted, whatever the reply, and the node is Ready at the end of the
+/// steps, then it is signalled by that step or a later one. The steps may add and remove nodes and
+/// links.
 pub fn asked_is_signalled()
     ensures { AskedIsSignalled }
 {}
 
 /// Take a part of the nodes that no link leaves, and steps that begin and end with every node of it
-/// Ready, and add or remove no node and no link. Each node that links connect with one of the part where
-/// a reset was started is signalled at least once, however many were started.
+/// Ready and add or remove no node and no link. Each node that links connect with the node of a
+/// started reset is signalled at least once, however many resets were started.
 pub fn once_or_more()
     ensures { OnceOrMore }
 {}
 
-/// In the same steps, and at any time before their end too, no node of the part that has a link is
-/// signalled more often than resets were started in the part.
+/// Every node of a part that no link leaves is Ready at first, and the steps add or remove no node
+/// and no link. Then, at any time, a node of the part that has a link was signalled at most as
+/// often as resets were started in the part.
 pub fn no_more_than_started()
     ensures { NoMoreThanStarted }
 {}
 
-/// While nodes and links come and go, but no link joins the part with the rest: no node of it is signalled
-/// more often than resets were started in the part, links of it were dropped, and its own resets were
-/// answered Finished.
+/// Every node of a part that no link leaves is Ready at first. The steps may add and remove nodes
+/// and links, but never link a node of the part with a node outside it. Then a node of the part is
+/// signalled at most as often as resets were started in the part, links of it were dropped, and
+/// resets of the node were answered Finished, in total.
 pub fn no_more_with_drops()
     ensures { NoMoreWithDrops }
 {}
 
-/// In the same steps a node of the part without a link is signalled exactly as often as its resets are
-/// answered Finished.
+/// Under the conditions of `no_more_than_started`, a node of the part without a link is signalled
+/// exactly as often as its resets are answered Finished.
 pub fn alone_as_finished()
     ensures { AloneAsFinished }
 {}
 
-/// If exactly one reset was started in the part, each node that links connect with its initiator is
-/// signalled exactly once.
+/// Under the conditions of `once_or_more`, if exactly one reset was started in the part, each node
+/// that links connect with its initiator is signalled exactly once.
 pub fn once_if_one_started()
     ensures { OnceIfOneStarted }
 {}
 
-/// If every node of the part is Ready again at the end, then of the nodes that links connect with each
-/// other all are signalled or none is.
+/// Under the conditions of `once_or_more`, either all or none of the nodes that links connect with
+/// each other are signalled.
 pub fn all_or_none()
     ensures { AllOrNone }
 {}
 
-/// So each node that links connect with one of the part whose reset was accepted, whatever the reply, is
-/// signalled at least once.
+/// Under the conditions of `once_or_more`, each node that links connect with a node of the part
+/// whose reset was accepted, whatever the reply, is signalled at least once.
 pub fn asked_reaches_all()
     ensures { AskedReachesAll }
 {}
 
-/// While no node or link is added or removed, a node's epoch rises by one with each of its signals.
+/// As long as no node or link is added or removed, a node's epoch rises by one with each of its
+/// signals.
 pub fn epochs_count_signals()
     ensures { EpochsCountSignals }
 {}
 
-/// If every node of a part that no link leaves is Ready before and after such steps, then of the nodes
-/// that links connect with each other all have entered a new epoch or none has.
+/// Under the conditions of `once_or_more`, either all or none of the nodes that links connect with
+/// each other enter a new epoch.
 pub fn epochs_rise_together()
     ensures { EpochsRiseTogether }
 {}
 
-/// Both bounds hold for the steps of a history between two moments at which every node of a part that no
-/// link leaves is Ready.
+/// The bounds of `asked_reaches_all` and `no_more_than_started` hold for the steps of a history
+/// between two moments at which every node of a part that no link leaves is Ready, if these steps
+/// add or remove no node and no link.
 pub fn bound_between()
     ensures { BoundBetween }
 {}
 
-/// The bound with dropped links holds for the steps of a history after a moment at which every node of a
-/// part is Ready.
+/// The bound of `no_more_with_drops` holds for the steps of a history after a moment at which every
+/// node of a part is Ready.
 pub fn bound_with_drops()
     ensures { BoundWithDrops }
 {}
 
-/// After any number of its steps, a trail has come to a legal world within its ranges.
+/// The world after the first n steps of a trail is legal and in its ranges.
 pub fn trail_keeps_worlds()
     ensures { TrailKeepsWorlds }
 {}
 
-/// The first steps of a trail are a trail, and so are the others from the world after them.
+/// The first steps of a trail are a trail, and the remaining steps are a trail from the world after
+/// them.
 pub fn trail_is_cut()
     ensures { TrailIsCut }
 {}
 
-/// A trail goes on with a step that is fresh over its world, with the world of some of its first
-/// steps as settled.
+/// A trail followed by a step is a trail, if the step is fresh over the trail's world and the
+/// settled world is the world after some of the trail's first steps.
 pub fn trail_goes_on()
     ensures { TrailGoesOn }
 {}
 
-/// Each step counts once.
+/// Each step adds one to the count.
 #[tactic(auto, using(crate::proofs::release::Trails::fold_counts))]
 pub fn fold_counts()
     ensures { FoldCounts }
 {}
 
-/// The release law: a packet that nothing else refuses is not refused as not released exactly if a
-/// settled step sent it or the base sends it again.
+/// The release law: a packet that the front world would take is accepted if and only if a settled
+/// step sent it or it is in the base's resend list.
 pub fn release_law()
     ensures { ReleaseLaw }
 {}
 
-/// A step that the front world accepts over itself is accepted over the settled one exactly if the
-/// packet that the step names is released.
+/// A step that the front world accepts over itself is accepted over the settled world if and only
+/// if the packet that the step names is released.
 pub fn fresh_where_released()
     ensures { FreshWhereReleased }
 {}
 
-/// A release stays: a packet that is not refused as not released is judged the same once more steps
-/// are settled.
+/// A release stays: a step that is not refused as `NotReleased` gets the same verdict after more
+/// steps are settled.
 pub fn release_stays()
     ensures { ReleaseStays }
 {}
 
-/// The resend law: what the settled world sends again is released.
+/// The resend law: every packet in the resend list of the settled world is released.
 pub fn resend_law()
     ensures { ResendLaw }
 {}
@@ -211,8 +219,8 @@ pub fn released_from_base()
     ensures { ReleasedFromBase }
 {}
 
-/// The kept-reply law: the reply that is kept for a client is the one that its last order was
-/// given, or the base's.
+/// The kept-reply law: the reply that is kept for a client is the reply to its last order, or the
+/// reply that the base keeps if there is no order of the client.
 #[tactic(auto, using(crate::proofs::release::KeptReplies::kept_reply_law))]
 pub fn kept_reply_law()
     ensures { KeptReplyLaw }

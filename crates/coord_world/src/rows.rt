@@ -1,4 +1,4 @@
-//! A world as lists of rows, which are stored and put together again.
+//! Converts a world to lists of rows, in which it is stored, and back.
 
 mod assembly;
 mod listing;

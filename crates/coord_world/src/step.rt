@@ -1,4 +1,4 @@
-//! A step: its verdict, the world after it, and its outputs.
+//! Steps: the verdict on a step, the world after it, and its outputs.
 
 mod apply;
 mod execute;

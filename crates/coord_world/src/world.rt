@@ -33,8 +33,8 @@ pub struct StepOutcome {
     pub outputs: Vec<Output>,
 }
 
-/// A world. Contracts see the numbered world of `specs/protocol/NumberedWorld.antt`; its type keeps the
-/// ranges of `specs/protocol/Ranges.antt`.
+/// A world. Contracts see the numbered world of `specs/protocol/NumberedWorld.antt`; the type
+/// guarantees the ranges of `specs/protocol/Ranges.antt`.
 #[derive(Drop, Debug)]
 pub struct World {
     alloc: Global,
@@ -54,7 +54,7 @@ impl Model for World {
     ghost invariant = { λ a. InRange a.tables };
 }
 
-/// Equal worlds have the same count, nodes, links and last orders.
+/// Two worlds are equal if they have the same version, count, nodes, links and last orders.
 impl PartialEq for World {
     ghost use Rattle.std.specs.Cmp.{decided, partial_equiv_from_equiv};
     ghost use Rattle.coord_world.specs.code.SameWorlds.{same_world, same_world_decides};
@@ -79,7 +79,7 @@ impl Eq for World {
 }
 
 impl World {
-    /// The world of this version before any step.
+    /// Returns the world of this version before any step.
     pub fn empty(alloc: Global, version: Version) -> Self
         ensures value { result ≡ no_world version }
         ensures legal { Legal result }
@@ -91,7 +91,7 @@ impl World {
         }
     }
 
-    /// The world that has these rows.
+    /// Returns the world with these rows.
     pub fn assemble(alloc: Global, parts: Parts) -> Result<Self, AllocError>
         requires { RowsFit (listed parts) }
         ensures rows { IfOk result (λ world. rows_of world ≡ listed parts) }
@@ -101,7 +101,7 @@ impl World {
         Ok(World { alloc, tables })
     }
 
-    /// The rows of the world, each list in ascending order.
+    /// Returns the rows of the world, each list in ascending order.
     pub fn parts(&self) -> Result<Parts, AllocError>
         ensures rows { IfOk result (λ parts. listed parts ≡ rows_of self.now) }
         ensures fit { IfOk result (λ parts. RowsFit (listed parts)) }
@@ -109,28 +109,28 @@ impl World {
         self.tables.list(self.alloc)
     }
 
-    /// The world's version, which no step changes.
+    /// Returns the world's version, which no step changes.
     pub fn version(&self) -> Version
         ensures { result ≡ self.now.version }
     {
         self.tables.version
     }
 
-    /// How many steps were taken, at most 2^40.
+    /// Returns the number of steps that the world has taken, at most 2^40.
     pub fn count(&self) -> u64
         ensures { result ≡ self.now.count }
     {
         self.tables.count
     }
 
-    /// Does nothing: its contract is what the type keeps of every world, legal or not.
+    /// Does nothing. Its contract states the ranges of every world, legal or not.
     pub fn lemma_in_range(&self)
         ensures { InRange self.now }
     {
         let _ = &self.tables;
     }
 
-    /// A world equal to this one.
+    /// Returns a copy of this world.
     pub fn copy(&self) -> Result<World, AllocError>
         ensures { IfOk result (λ copy. copy ≡ self.now) }
     {
@@ -147,47 +147,49 @@ impl World {
         self.tables.node(id)
     }
 
-    /// The lane from one node to another.
+    /// Returns the lane from one node to another, or None if they are not linked.
     pub fn lane(&self, from: NodeId, to: NodeId) -> Option<&Lane>
         ensures { option_copied result ≡ lane_at self.now.links from to }
     {
         self.tables.links.lane(from, to)
     }
 
-    /// The links as rows, in ascending order of their ends.
+    /// Returns the links as rows, in ascending order of their ends.
     pub fn links(&self) -> &[LinkRow]
         ensures { result.now ≡ link_rows self.now.links }
     {
         self.tables.links.rows()
     }
 
-    /// The nodes by their numbers.
+    /// Returns the nodes by their numbers.
     pub fn nodes(&self) -> &NodeTable
         ensures { result.now ≡ self.now.nodes }
     {
         &self.tables.nodes
     }
 
-    /// The clients' last orders by the clients' numbers.
+    /// Returns the clients' last orders by the clients' numbers.
     pub fn sessions(&self) -> &SessionTable
         ensures { result.now ≡ self.now.sessions }
     {
         &self.tables.sessions
     }
 
-    /// A client's last order.
+    /// Returns a client's last order, if it has one.
     pub fn last(&self, client: Client) -> Option<Session>
         ensures { result ≡ table.get self.now.sessions client }
     {
         self.tables.sessions.get(client).copied()
     }
 
-    /// Whether this world, whose settled world is `settled`, accepts a step; the kept reply if the
-    /// step is a client's last order, sent again; or else the first refusal that applies.
+    /// Returns whether this world accepts a step, given the settled world. The verdict is Repeat
+    /// with the kept reply if the step is a client's last order, sent again; an error is the first
+    /// refusal that applies.
     pub fn judge(&self, settled: &World, step: &Step) -> Result<Verdict, Refusal>
         ensures value { result ≡ accepts self.now settled.now step.now }
 
-        // A verdict of Fresh has the kind of the reply, and the world takes the step over itself too.
+        // If the verdict is Fresh, it has the kind of the reply, and this world accepts the step
+        // over itself too.
         ensures fresh { (k : Kind) → result ≡ Ok (Verdict.Fresh k) →
             IsFresh self.now settled.now step.now }
         ensures itself { (k : Kind) → result ≡ Ok (Verdict.Fresh k) →
@@ -198,7 +200,7 @@ impl World {
         self.tables.judge(&settled.tables, step)
     }
 
-    /// Takes a step that was judged fresh. Its outputs are to be released once it is settled.
+    /// Carries out a step that was judged fresh. Its outputs may be released once it is settled.
     pub fn apply(&mut self, step: &Step) -> Result<StepOutcome, AllocError>
         requires legal { Legal self.old }
         requires fresh { IsFresh self.old self.old step.now }
@@ -214,8 +216,9 @@ impl World {
         Ok(outcome)
     }
 
-    /// Returns the packets that may have been lost and are sent again: for each lane in ascending
-    /// order the data packet of its front, and then its receipt if the front was taken.
+    /// Returns the packets that may have been lost and are sent again: for each lane, in ascending
+    /// order, the data packet of its front, and then the receipt of the front if the other end has
+    /// taken it.
     pub fn resend(&self) -> Result<Vec<Output>, AllocError>
         ensures { IfOk result (λ outputs. outputs.items ≡ again self.now) }
     {

@@ -1,4 +1,4 @@
--- Who may send what: the rules of the proxy's core.
+-- Which principals may send which requests: the rules for the proxy's core.
 use Rattle.std.specs.Prelude.{◌≡◌, ℕ, ◌-◌, ◌==◌, ◌&&◌, Bool, true, false, is_some, if◌then◌else◌, List, [], map, slice_get, Option, Some, None, option_and_then, Result, Ok, Err, string_bytes}
 use Rattle.coord_types.specs.declared.steps.Command.{Command}
 use Rattle.coord_types.specs.declared.steps.Command.TheVariants as command
@@ -22,21 +22,23 @@ access_principals a = map string_bytes a.principals.items
 
 -- ---- roles
 
--- the first principal has role 1; role 0 is that of the proxy's own connection
+-- The principal of a role: role 1 is the first principal. Role 0 belongs to the proxy's own connection.
 abbrev pub principal_of : List (List ℕ) → ℕ → Option (List ℕ)
 principal_of names role = if role == 0 then None else slice_get names (role - 1)
 
--- a principal that has a role gets one that it has, and the table stays
+-- A principal that already has a role gets a role that it has, and the table does not change.
 abbrev pub KeepsItsRole : {E : Type 0} → List (List ℕ) → List (List ℕ) → List ℕ → Result (Option ℕ) E → Type 0
 KeepsItsRole before after name result = (has : ℕ) → principal_of before has ≡ Some name
     → (role : ℕ) × (principal_of before role ≡ Some name) × (result ≡ Ok (Some role)) × (after ≡ before)
 
--- an order of the proxy's client that the server always refuses: the refusal depends on its number
+-- whether a command is a probe: an order of the proxy's client that the server always refuses, with a refusal
+-- that depends on the order's number
 abbrev pub is_probe : Command → Bool
 is_probe (command.Confirm u e) = e == 0
 is_probe x = false
 
--- the proxy asks only for the settled world and for the last number of its client
+-- whether the proxy itself sends a request: only for the settled world, and to find the last number of its
+-- client
 abbrev pub is_own : Request → Bool
 is_own (Order c n x) = c == PROXY_CLIENT && is_probe x
 is_own Show = true
@@ -59,11 +61,12 @@ abbrev pub request_or_none : Result Request LineFault → Option Request
 request_or_none (Ok r) = Some r
 request_or_none (Err fault) = None
 
--- the request of a line without a fault
+-- the request of a line, or None if the line has a fault
 unfoldable pub request_from : List ℕ → Option Request
 request_from line = request_or_none (asked_by (Some line))
 
--- the server has no `watch`: the proxy answers it
+-- whether a request is sent to the server; the proxy answers `watch` itself, because the server has no such
+-- request
 abbrev pub is_for_server : Request → Bool
 is_for_server Watch = false
 is_for_server r = true

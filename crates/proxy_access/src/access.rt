@@ -25,8 +25,8 @@ impl Access {
         }
     }
 
-    /// Returns the role of a principal, which it keeps; None if `MOST_PRINCIPALS` others have one. Errors: out of
-    /// memory.
+    /// Returns the role of a principal, which stays the same from then on. Returns None if
+    /// `MOST_PRINCIPALS` others already have one, and an error if memory runs out.
     #[tactic(auto, using(crate::proofs::Roles::kept, crate::proofs::Roles::kept_all, crate::proofs::Roles::role_of_last))]
     pub fn role_of(&mut self, alloc: Global, principal: &str) -> Result<Option<u32>, AllocError>
         ensures role { IfOk result (λ found. MatchOption found (length (access_principals self.old) ≡ MOST_PRINCIPALS) (λ role. principal_of (access_principals self.new) role ≡ Some principal.now)) }
@@ -47,7 +47,8 @@ impl Access {
         Ok(Some(self.principals.len() as u32))
     }
 
-    /// Returns the principal of a role; None for the proxy's own role, and for one that no principal has.
+    /// Returns the principal of a role, or None for the proxy's own role and for a role that no
+    /// principal has.
     #[tactic(auto, using(crate::proofs::Roles::name_of_role))]
     pub fn principal(&self, role: u32) -> Option<&str>
         ensures { option_copied result ≡ principal_of (access_principals self.now) role }
@@ -59,7 +60,7 @@ impl Access {
         Some(name.as_str())
     }
 
-    /// Takes the rules of another policy. The principals keep their roles.
+    /// Replaces the rules by those of another policy. The principals keep their roles.
     pub fn replace(&mut self, policy: Policy)
         ensures rules { access_rules self.new ≡ policy.rules.items }
         ensures principals { access_principals self.new ≡ access_principals self.old }
@@ -67,7 +68,7 @@ impl Access {
         self.policy = policy;
     }
 
-    /// Returns whether connections in a role may do more than show and watch.
+    /// Tests whether connections with this role may do more than show and watch.
     pub fn may_order(&self, role: u32) -> bool
         ensures { result ≡ may_order_if (access_rules self.now) (principal_of (access_principals self.now) role) }
     {
@@ -77,7 +78,7 @@ impl Access {
         self.policy.may_order(name)
     }
 
-    /// Returns whether connections in a role may send this request.
+    /// Tests whether connections with this role may send this request.
     pub fn may(&self, role: u32, request: &Request) -> bool
         ensures { result ≡ may (access_rules self.now) (access_principals self.now) role request.now }
     {
@@ -91,7 +92,7 @@ impl Access {
     }
 }
 
-/// Returns the role of a principal that has one.
+/// Returns the role of a principal, or None if it has none yet.
 #[tactic(auto, using(crate::proofs::Roles::role_of_item))]
 fn role_among(principals: &[String], principal: &str) -> Option<u32>
     requires { length principals.now ≤ MOST_PRINCIPALS }

@@ -1,4 +1,4 @@
-//! The core's policy.
+//! Implements the policy that the proxy's core requires.
 
 ghost use Rattle.std.specs.Prelude.{◌≡◌, IfOk};
 ghost use Rattle.proxy_access.specs.Access.{core_rules, is_for_server, is_own, is_probe, access_principals, request_from, access_rules};
@@ -59,7 +59,7 @@ impl Policy for Access {
     }
 }
 
-/// Returns the request of a line; None for a line with a fault. Errors: out of memory.
+/// Returns the request of a line, or None if the line has a fault. Returns an error if memory runs out.
 #[tactic(auto, unfolding(crate::specs::Access::request_from))]
 fn read(alloc: Global, line: &[u8]) -> Result<Option<Request>, AllocError>
     ensures { IfOk result (λ request. request ≡ request_from line.now) }
@@ -71,14 +71,14 @@ fn read(alloc: Global, line: &[u8]) -> Result<Option<Request>, AllocError>
     }
 }
 
-/// Returns whether the server has such a request.
+/// Tests whether a request is one of the server's.
 fn is_for_server(request: &Request) -> bool
     ensures { result ≡ is_for_server request.now }
 {
     !matches!(request, Request::Watch)
 }
 
-/// Returns whether the proxy may send the request from its own connection.
+/// Tests whether the proxy may send a request over its own connection.
 pub(crate) fn is_own(request: &Request) -> bool
     ensures { result ≡ is_own request.now }
 {

@@ -1,9 +1,10 @@
-//! Who may send what through the proxy: the policy of the proxy's core.
+//! Which principals may send which requests through the proxy: the policy of the proxy's core.
 //!
-//! [`Access`] has the policy file's rules and the principals, whose places are the roles of their connections. It
-//! reads a line (proxy_request), asks the rules (proxy_policy), and returns what the core has to know of the line
-//! (proxy_core's `Policy`); `specs/Access.antt` defines it. The proxy's own connection has role 0, which may
-//! send only `show` and the order that finds the last number of the proxy's client.
+//! [`Access`] has the rules of the policy file, and the principals; a principal's place in their list
+//! is the role of its connections. It parses a line (proxy_request), applies the rules (proxy_policy),
+//! and returns what the core needs to know about the line (proxy_core's `Policy`), as
+//! `specs/Access.antt` defines. The proxy's own connection has role 0, which may send only `show`, and
+//! the order that finds the last number of the proxy's client.
 #![tactic(auto)]
 
 mod access;

@@ -5,14 +5,14 @@ ghost use Rattle.proxy_access.specs.declared.table.TheConstants.{MOST_PRINCIPALS
 
 use proxy_policy::Policy;
 
-/// The maximum number of principals that may connect until the proxy starts again.
+/// The maximum number of principals that may connect before the proxy is restarted.
 pub const MOST_PRINCIPALS: usize = 65_535;
 
 /// A policy, and the principals that have connected.
 #[derive(Debug, Drop)]
 pub struct Access {
     pub(crate) policy: Policy,
-    /// The principal of role 1, of role 2 ..
+    /// The principals, in the order of their roles: the first one has role 1.
     pub(crate) principals: Vec<String>,
     ghost few: { length principals.items ≤ MOST_PRINCIPALS },
 }

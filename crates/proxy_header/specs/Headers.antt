@@ -11,7 +11,8 @@ use Rattle.proxy_header.specs.Fields.{HasOne, length_in}
 abbrev pub signature : List ℕ
 signature = 13 ∷ 10 ∷ 13 ∷ 10 ∷ 0 ∷ 13 ∷ 10 ∷ 81 ∷ 85 ∷ 73 ∷ 84 ∷ 10 ∷ []
 
--- the signature; the version and the command in a byte, the family and the protocol in one; the length of the rest in two; the rest
+-- A header: the signature; one byte for the version and the command; one byte for the family and the
+-- protocol; two bytes for the length of the rest; and the rest.
 pub record IsHeader (bytes : List ℕ) (command family : ℕ) (rest : List ℕ) : Type 0 where
   pub high : ℕ
   pub low : ℕ
@@ -21,38 +22,39 @@ pub record IsHeader (bytes : List ℕ) (command family : ℕ) (rest : List ℕ) 
 abbrev pub IsAnyHeader : List ℕ → Type 0
 IsAnyHeader bytes = (command family : ℕ) × (rest : List ℕ) × IsHeader bytes command family rest
 
--- how the received bytes begin
+-- The bytes received so far begin in this way.
 abbrev pub BeginsWith : List ℕ → HeaderLength → Type 0
--- a whole header of this length
+-- with a whole header of this length
 BeginsWith bytes (Whole n) = (n ≤ length bytes) × (n ≤ MOST_HEADER_BYTES) × IsAnyHeader (take n bytes)
--- a part of a header
+-- with a part of a header
 BeginsWith bytes Unfinished = (more : List ℕ) × (1 ≤ length more) × (length (bytes ++ more) ≤ MOST_HEADER_BYTES) × IsAnyHeader (bytes ++ more)
--- not a header, whatever follows
+-- not with a header, whatever bytes follow
 BeginsWith bytes Refused = (header more after : List ℕ) → IsAnyHeader header → length header ≤ MOST_HEADER_BYTES → header ++ more ≡ bytes ++ after → ⊥
 
 -- ---- the client
 
--- of no family, IPv4, IPv6 and Unix
+-- the number of bytes of the addresses: of no family, IPv4, IPv6 and Unix
 abbrev pub family_length : ℕ → Option ℕ
 family_length family = if family == 0 then Some 0 else (if family == 1 then Some 12 else (if family == 2 then Some 36 else (if family == 3 then Some 216 else None)))
 
--- the length of the addresses: the family is in the upper half of the byte, and the lower one has no protocol, a stream or datagrams
+-- The number of bytes of the addresses, for the byte with the family in its upper half. Its lower half is the
+-- protocol: none, a stream or datagrams.
 abbrev pub address_length : ℕ → Option ℕ
 address_length family = if nat_lt 2 (family % 16) then None else family_length (family / 16)
 
--- version 2, command PROXY
+-- the byte for version 2 and the command PROXY
 abbrev pub proxy_command : ℕ
 proxy_command = 33
 
--- the types of the SSL field, and of the common name within it
+-- the types of the SSL field, and of the field in it that has the common name
 abbrev pub ssl_kind : ℕ
 ssl_kind = 32
 
 abbrev pub common_name_kind : ℕ
 common_name_kind = 34
 
--- the value of an SSL field: the client used TLS and showed a certificate, in this connection or the session that it resumed, which
--- was verified (result 0) and has this common name
+-- The value of an SSL field of a verified client with this common name: it used TLS; it showed a certificate,
+-- in this connection or in the session that it resumed; and the certificate was verified (result 0).
 pub record IsVerified (value name : List ℕ) : Type 0 where
   pub client : ℕ
   pub fields : List ℕ
@@ -62,7 +64,7 @@ pub record IsVerified (value name : List ℕ) : Type 0 where
   pub one_name : HasOne common_name_kind name fields
   pub name_is_common : is_common_name name ≡ true
 
--- the header of a connection whose client has a verified certificate with this common name
+-- This is the header of a connection whose client has a verified certificate with this common name.
 pub record NamesClient (header name : List ℕ) : Type 0 where
   pub family : ℕ
   pub addresses : List ℕ

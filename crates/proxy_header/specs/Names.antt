@@ -3,7 +3,7 @@ use Rattle.std.specs.Prelude.{ℕ, ◌&&◌, nat_le, Bool, List, length}
 use Rattle.std.specs.List.{list_all}
 use Rattle.proxy_header.specs.declared.names.TheConstants.{MOST_NAME_BYTES}
 
--- printable ASCII
+-- whether a byte is printable ASCII
 abbrev pub is_common_byte : ℕ → Bool
 is_common_byte byte = nat_le 32 byte && nat_le byte 126
 

@@ -1,4 +1,4 @@
--- How the fields of a header are found, from the left.
+-- How the fields of a header are found, from left to right.
 use Rattle.std.specs.Prelude.{ℕ, suc, ◌%◌, ◌/◌, ◌==◌, ◌&&◌, ◌||◌, not, nat_eq, nat_le, nat_lt, Bool, if◌then◌else◌, List, [], ◌∷◌, length, take, drop, slice_index, Option, Some, None, option_and_then}
 use Rattle.std.specs.List.{starts_with}
 use Rattle.std.specs.Str.{bytes_eq}
@@ -6,12 +6,12 @@ use Rattle.proxy_header.specs.Fields.{length_in}
 use Rattle.proxy_header.specs.Headers.{address_length, common_name_kind, proxy_command, signature, ssl_kind}
 use Rattle.proxy_header.specs.Names.{is_common_name}
 
--- a second value of the type is one too many
+-- the value, if none was found before; a second value makes the result None
 abbrev pub if_first : Option (List ℕ) → Option (List ℕ) → Option (List ℕ)
 if_first None value = value
 if_first (Some found) value = None
 
--- the one value of a type among at most this many fields, given one found before the bytes
+-- the only value of this type in at most this many fields, if `found` is the value found in earlier bytes
 abbrev pub only_among : ℕ → ℕ → List ℕ → Option (List ℕ) → Option (List ℕ)
 only_among most kind [] found = found
 only_among (suc most) kind (of ∷ high ∷ low ∷ rest) found =
@@ -21,7 +21,7 @@ only_among (suc most) kind (of ∷ high ∷ low ∷ rest) found =
     else None
 only_among most kind bytes found = None
 
--- there are no more fields than bytes
+-- The number of fields is at most the number of bytes, so this bound is enough.
 unfoldable pub only_value : ℕ → List ℕ → Option (List ℕ) → Option (List ℕ)
 only_value kind bytes found = only_among (length bytes) kind bytes found
 
@@ -31,17 +31,18 @@ is_verified client verify = client % 2 == 1 && not (client / 2 % 4 == 0) && byte
 abbrev pub if_common : List ℕ → Option (List ℕ)
 if_common name = if is_common_name name then Some name else None
 
--- the common name in an SSL field
+-- the common name in the value of an SSL field
 abbrev pub ssl_name : List ℕ → Option (List ℕ)
 ssl_name value =
     if nat_lt (length value) 5 || not (is_verified (slice_index value 0) (take 4 (drop 1 value))) then None
     else option_and_then if_common (only_value common_name_kind (drop 5 value) None)
 
--- the common name in the SSL field after the addresses
+-- the common name in the SSL field that follows the addresses
 abbrev pub name_after : List ℕ → ℕ → Option (List ℕ)
 name_after rest addresses = if nat_lt (length rest) addresses then None else option_and_then ssl_name (only_value ssl_kind (drop addresses rest) None)
 
--- the common name in the bytes after the signature, if they have the command PROXY and the length that they say
+-- the common name in the bytes after the signature, if they have the command PROXY and the length that they
+-- state
 abbrev pub name_after_signature : List ℕ → Option (List ℕ)
 name_after_signature bytes =
     if nat_lt (length bytes) 4 then None

@@ -1,4 +1,4 @@
-//! A header as a whole.
+//! Finds a header, and the client that it names.
 
 ghost use Rattle.std.specs.Prelude.{◌≡◌, ◌+◌, ◌≤◌, ℕ, IfNone, IfSome, List, length, slice_index};
 ghost use Rattle.std.specs.Option.{option_copied};
@@ -9,24 +9,24 @@ ghost use Rattle.proxy_header.specs.Scanning.{is_verified, name_after, name_afte
 use crate::fields::only_value;
 use crate::names::is_common_name;
 
-/// The maximum number of bytes of a header.
+/// The maximum number of bytes of an accepted header.
 pub const MOST_HEADER_BYTES: usize = 2048;
 
 /// The first bytes of every header of version 2.
 const SIGNATURE: [u8; 12] = *b"\r\n\r\n\0\r\nQUIT\n";
 
-/// What the first bytes of a connection are.
+/// The kind of the first bytes of a connection.
 #[derive(Clone, Copy, Debug, PartialEq, Eq)]
 pub enum HeaderLength {
     /// A part of a header: more bytes have to arrive.
     Unfinished,
-    /// No header of version 2, or one of more than `MOST_HEADER_BYTES`.
+    /// Not a header of version 2, or a header of more than `MOST_HEADER_BYTES`.
     Refused,
-    /// A whole header of this many bytes, and perhaps bytes after it.
+    /// A whole header of this many bytes; more bytes may follow.
     Whole(usize),
 }
 
-/// Returns the length of the header at the beginning of these bytes.
+/// Tests whether these bytes begin with a header, and returns its length.
 #[tactic(auto, using(crate::proofs::Lengths::refused_signature, crate::proofs::Lengths::refused_other, crate::proofs::Lengths::unfinished_signature, crate::proofs::Lengths::refused_long, crate::proofs::Lengths::unfinished, crate::proofs::Lengths::whole))]
 pub fn header_length(bytes: &[u8]) -> HeaderLength
     ensures { BeginsWith bytes.now result }
@@ -61,8 +61,8 @@ fn least_length(rest: &[u8]) -> usize
     16 + high as usize * 256 + low as usize
 }
 
-/// Returns the common name of the client's verified certificate from a whole header. None for a header that names
-/// no such client.
+/// Returns the common name of the client's verified certificate from a whole header, or None if the
+/// header names no such client.
 #[tactic(auto, using(crate::proofs::Clients::found_is_named))]
 pub fn common_name(header: &[u8]) -> Option<&[u8]>
     ensures found { IfSome result (λ name. NamesClient header.now name.now) }
@@ -97,7 +97,8 @@ fn name_after_signature(bytes: &[u8]) -> Option<&[u8]>
     }
 }
 
-/// Returns the common name in the fields that follow this many bytes of addresses.
+/// Returns the common name in the fields that follow the addresses. `addresses` is their number of
+/// bytes.
 fn name_after(rest: &[u8], addresses: usize) -> Option<&[u8]>
     ensures { option_copied result ≡ name_after rest.now addresses }
 {
@@ -107,7 +108,7 @@ fn name_after(rest: &[u8], addresses: usize) -> Option<&[u8]>
     ssl_name(only_value(&rest[addresses..], 0x20, None)?)
 }
 
-/// Returns the number of bytes of the addresses of a family; None for an unknown family or protocol.
+/// Returns the number of bytes of a family's addresses, or None for an unknown family or protocol.
 fn address_length(family: u8) -> Option<usize>
     ensures { result ≡ address_length family }
 {
@@ -123,7 +124,8 @@ fn address_length(family: u8) -> Option<usize>
     }
 }
 
-/// Returns the only common name in the SSL field of a verified certificate.
+/// Returns the common name in the value of an SSL field, or None unless the certificate was verified
+/// and has exactly one common name.
 fn ssl_name(value: &[u8]) -> Option<&[u8]>
     ensures { option_copied result ≡ ssl_name value.now }
 {
@@ -138,7 +140,7 @@ fn ssl_name(value: &[u8]) -> Option<&[u8]>
     }
 }
 
-/// Returns whether the client showed a certificate over TLS, and it was verified.
+/// Tests whether the client used TLS and showed a certificate that was verified.
 fn is_verified(client: u8, verify: &[u8]) -> bool
     ensures { result ≡ is_verified client verify.now }
 {

@@ -6,7 +6,8 @@ ghost use Rattle.proxy_header.specs.Names.{is_common_byte, is_common_name};
 /// The maximum number of bytes of a common name.
 pub const MOST_NAME_BYTES: usize = 64;
 
-/// Returns whether these bytes are a common name that the proxy accepts: 1 to 64 bytes of printable ASCII.
+/// Tests whether these bytes are a common name that the proxy accepts: 1 to 64 bytes of printable
+/// ASCII.
 pub fn is_common_name(name: &[u8]) -> bool
     ensures { result ≡ is_common_name name.now }
 {

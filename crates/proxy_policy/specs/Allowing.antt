@@ -16,7 +16,8 @@ abbrev pub is_proxy_client : Option ℕ → Bool
 is_proxy_client None = false
 is_proxy_client (Some c) = c == PROXY_CLIENT
 
--- a rule's clients or nodes, None for all: a request without a client or a node is within them
+-- whether a rule's list of clients or nodes permits this one; None permits all, and every list permits a
+-- request without a client or a node
 abbrev pub may_use : Option (Vec ℕ Global) → Option ℕ → Bool
 may_use None one = true
 may_use (Some all) None = true
@@ -27,7 +28,7 @@ may_name None one = true
 may_name (Some all) None = true
 may_name (Some all) (Some u) = list_any (λ each. each == u) all.items
 
--- the rule lists the principal, the request's op, its client and each node that it names
+-- whether a rule lists the principal, the request's op, its client, and each node that it names
 abbrev pub rule_allows : Rule → List ℕ → Request → Bool
 rule_allows rule principal r =
     list_any (λ name. bytes_eq (string_bytes name) principal) rule.principals.items
@@ -36,11 +37,11 @@ rule_allows rule principal r =
     && may_name rule.nodes (first_node_of r)
     && may_name rule.nodes (second_node_of r)
 
--- some rule allows it, and it does not use the proxy's client
+-- whether some rule allows the request, and the request does not use the proxy's client
 abbrev pub allows : List Rule → List ℕ → Request → Bool
 allows rules principal r = not (is_proxy_client (client_of r)) && list_any (λ rule. rule_allows rule principal r) rules
 
--- an op by which more is asked for than to see the nodes and links
+-- whether an op permits more than to see the nodes and links
 abbrev pub is_order_op : Op → Bool
 is_order_op Show = false
 is_order_op Watch = false
@@ -49,6 +50,6 @@ is_order_op op = true
 abbrev pub lets_order : Rule → List ℕ → Bool
 lets_order rule principal = list_any (λ name. bytes_eq (string_bytes name) principal) rule.principals.items && list_any is_order_op rule.ops.items
 
--- some rule lists the principal and such an op
+-- whether some rule lists the principal together with such an op
 abbrev pub may_order : List Rule → List ℕ → Bool
 may_order rules principal = list_any (λ rule. lets_order rule principal) rules

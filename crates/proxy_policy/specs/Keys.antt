@@ -1,4 +1,4 @@
--- The keys that a policy may have, and those that it must have.
+-- The keys that a policy may have, and the keys that it must have.
 use Rattle.std.specs.Prelude.{ℕ, Bool, true, false, ◌&&◌, ◌||◌, List, [], ◌∷◌, codes, Option, Some, is_some}
 use Rattle.std.specs.Str.{bytes_eq}
 use Rattle.toml.specs.Data.{Data, array, table, Items, no_items, item, Members, no_members, member, get_member}
@@ -6,17 +6,17 @@ use Rattle.toml.specs.Data.{Data, array, table, Items, no_items, item, Members, 
 abbrev pub Key : Type 0
 Key = List ℕ
 
--- the key is one of these
+-- whether the key is one of these
 abbrev pub is_among : List Key → Key → Bool
 is_among [] key = false
 is_among (k ∷ ks) key = bytes_eq key k || is_among ks key
 
--- the table has no key but these
+-- whether the table has no other keys than these
 abbrev pub has_only : List Key → Members → Bool
 has_only ks no_members = true
 has_only ks (member key d ms) = is_among ks key && has_only ks ms
 
--- the table has a value at each of these keys
+-- whether the table has a value at each of these keys
 abbrev pub has_all : List Key → Members → Bool
 has_all [] ms = true
 has_all (k ∷ ks) ms = is_some (get_member k ms) && has_all ks ms
@@ -27,12 +27,12 @@ rule_keys = codes "principals" ∷ codes "ops" ∷ codes "clients" ∷ codes "no
 abbrev pub needed_keys : List Key
 needed_keys = codes "principals" ∷ codes "ops" ∷ []
 
--- if the value is a table, it has only the known keys, and all the needed ones
+-- whether the value, if it is a table, has only known keys, and all the needed ones
 abbrev pub has_keys : List Key → List Key → Data → Bool
 has_keys known needed (table ms) = has_only known ms && has_all needed ms
 has_keys known needed other = true
 
--- each table of an array has such keys
+-- whether each table in an array has only known keys, and all the needed ones
 abbrev pub items_have_keys : List Key → List Key → Items → Bool
 items_have_keys known needed no_items = true
 items_have_keys known needed (item d ds) = has_keys known needed d && items_have_keys known needed ds
@@ -41,6 +41,6 @@ abbrev pub entries_have_keys : List Key → List Key → Option Data → Bool
 entries_have_keys known needed (Some (array ds)) = items_have_keys known needed ds
 entries_have_keys known needed other = true
 
--- a policy has only rules, and each has right keys
+-- whether a policy has no key but `rules`, and each rule has only known keys, and all the needed ones
 unfoldable pub has_right_keys : Members → Bool
 has_right_keys ms = has_only (codes "allow" ∷ []) ms && entries_have_keys rule_keys needed_keys (get_member (codes "allow") ms)

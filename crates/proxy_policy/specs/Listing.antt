@@ -17,7 +17,7 @@ abbrev pub limit_text : List ℕ → Option (Vec ℕ Global) → List ℕ
 limit_text name None = []
 limit_text name (Some numbers) = name ++ numbers_text numbers.items
 
--- the ops, and the limits that there are
+-- a rule's ops, and its clients and nodes if it lists any
 abbrev pub rule_text : Rule → List ℕ
 rule_text rule = op_texts rule.ops.items ++ (limit_text (codes ", as clients") rule.clients ++ limit_text (codes ", at nodes") rule.nodes)
 
@@ -27,6 +27,6 @@ principal_line rule principal = principal ++ (codes ":" ++ (rule_text rule ++ co
 abbrev pub rule_lines : Rule → List ℕ
 rule_lines rule = flat_map (λ name. principal_line rule (string_bytes name)) rule.principals.items
 
--- a line for each principal of each rule
+-- one line for each principal of each rule
 abbrev pub listed : List Rule → List ℕ
 listed rules = flat_map rule_lines rules

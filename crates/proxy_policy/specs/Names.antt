@@ -4,14 +4,14 @@ use Rattle.std.specs.List.{list_all, starts_with}
 use Rattle.proxy_header.specs.Names.{is_common_name}
 use Rattle.proxy_header.specs.declared.names.TheConstants.{MOST_NAME_BYTES}
 
--- 1 to 64 bytes
+-- whether a name has 1 to 64 bytes
 abbrev pub is_short : List ℕ → Bool
 is_short name = nat_le 1 (length name) && nat_le (length name) MOST_NAME_BYTES
 
 abbrev pub is_within : ℕ → ℕ → ℕ → Bool
 is_within least most byte = nat_le least byte && nat_le byte most
 
--- one of `a-z A-Z 0-9 . _ -`
+-- whether a byte is one of `a-z A-Z 0-9 . _ -`
 abbrev pub is_socket_byte : ℕ → Bool
 is_socket_byte byte = is_within 97 122 byte || is_within 65 90 byte || is_within 48 57 byte || byte == 46 || byte == 95 || byte == 45
 

@@ -22,7 +22,7 @@ content rule = record {
   nodes = option_map (λ entries. entries.items) rule.nodes;
 }
 
--- the whole number from 1 to the most that the value is
+-- the value, if it is a whole number from 1 to this maximum
 abbrev pub number_in : ℕ → Data → Option ℕ
 number_in most (integer (pos n)) = if nat_le 1 n && nat_le n most then Some n else None
 number_in most other = None
@@ -45,12 +45,12 @@ abbrev pub in_front : {X : Type 0} → Option X → Option (List X) → Option (
 in_front (Some x) (Some xs) = Some (x ∷ xs)
 in_front x xs = None
 
--- the value of each item, if each has one
+-- the values of the items, if each item has one
 abbrev pub each : {X : Type 0} → (Data → Option X) → Items → Option (List X)
 each read no_items = Some []
 each read (item d ds) = in_front (read d) (each read ds)
 
--- at least one
+-- the list, unless it is empty
 abbrev pub some_of : {X : Type 0} → List X → Option (List X)
 some_of [] = None
 some_of (x ∷ xs) = Some (x ∷ xs)
@@ -66,7 +66,7 @@ abbrev pub limit_in : {X : Type 0} → (Data → Option X) → Option Data → O
 limit_in read None = Some None
 limit_in read (Some d) = option_map Some (list_in read d)
 
--- None inside means all
+-- the list at a key that may be absent; an inner None means that everything is permitted
 unfoldable pub limit_at : {X : Type 0} → (Data → Option X) → List ℕ → Members → Option (Option (List X))
 limit_at read key ms = limit_in read (get_member key ms)
 
@@ -74,13 +74,13 @@ abbrev pub rule_with : Option (List (List ℕ)) → Option (List Op) → Option 
 rule_with (Some principals) (Some ops) (Some clients) (Some nodes) = Some (record { principals = principals; ops = ops; clients = clients; nodes = nodes })
 rule_with principals ops clients nodes = None
 
--- a rule is a table
+-- the rule that a value contains; the value must be a table
 abbrev pub rule_in : Data → Option Content
 rule_in (table ms) =
     rule_with (list_at name_in (codes "principals") ms) (list_at op_in (codes "ops") ms) (limit_at client_in (codes "clients") ms) (limit_at node_in (codes "nodes") ms)
 rule_in other = None
 
--- a policy without rules allows nothing
+-- the rules at the key `rules`; a policy without rules allows nothing
 unfoldable pub rules_in : Option Data → Option (List Content)
 rules_in None = Some []
 rules_in (Some (array ds)) = each rule_in ds

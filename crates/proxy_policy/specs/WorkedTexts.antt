@@ -1,4 +1,4 @@
--- Worked examples: texts and their rules or faults.
+-- Worked examples: texts with their rules or faults.
 use Rattle.std.specs.Prelude.{◌≡◌, [], ◌∷◌, codes, Some, None, Ok, Err}
 use Rattle.proxy_request.specs.declared.op.Op.TheVariants.{Show, Watch, Confirm}
 use Rattle.proxy_policy.specs.declared.fault.PolicyFault.TheVariants.{NotToml, BadKey, BadValue}

@@ -11,7 +11,7 @@ use coord_types::{Client, Identifier, NodeId};
 use proxy_request::{Op, PROXY_CLIENT, Request};
 
 impl Policy {
-    /// Returns whether a principal may send this request.
+    /// Tests whether a principal may send this request.
     pub fn allows(&self, principal: &str, request: &Request) -> bool
         ensures { result ≡ allows self.now.rules.items principal.now request.now }
     {
@@ -19,7 +19,7 @@ impl Policy {
             && some_rule_allows(self.rules.as_slice(), principal, request)
     }
 
-    /// Returns whether a rule allows a principal more than to show and to watch.
+    /// Tests whether a rule allows a principal more than to show and to watch.
     pub fn may_order(&self, principal: &str) -> bool
         ensures { result ≡ may_order self.now.rules.items principal.now }
     {

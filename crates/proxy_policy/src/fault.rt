@@ -1,4 +1,4 @@
-//! Why a policy is refused.
+//! The reasons why a policy is refused.
 
 ghost use Rattle.std.specs.Prelude.{◌≡◌, Some};
 ghost use Rattle.proxy_policy.specs.Faults.{fault_name, fault_number};
@@ -8,15 +8,15 @@ use std::alloc::{AllocError, AllocFailed};
 use std::error::Error;
 use std::fmt;
 
-/// Why a policy is refused.
+/// The reason why a policy is refused.
 #[derive(Clone, Copy, Debug, PartialEq, Eq)]
 pub enum PolicyFault {
     OutOfMemory,
-    /// The text is longer than `MAX_POLICY_BYTES`, or `toml` does not read it.
+    /// The text is longer than `MAX_POLICY_BYTES`, or the crate `toml` rejects it.
     NotToml,
     /// A key is missing or unknown.
     BadKey,
-    /// A value is of another type, or out of its limits.
+    /// A value has the wrong type, or is out of its limits.
     BadValue,
 }
 

@@ -28,7 +28,7 @@ fn is_among(names: &[&str], key: &str) -> bool
     false
 }
 
-/// Returns whether the table has no key but these.
+/// Tests whether the table has no other keys than these.
 fn has_only(names: &[&str], table: &Table) -> bool
     ensures { result ≡ has_only (map (λ name. name.now) names.now) (table_view table.now) }
 {
@@ -40,7 +40,7 @@ fn has_only(names: &[&str], table: &Table) -> bool
     true
 }
 
-/// Returns whether the table has a value at each of these keys.
+/// Tests whether the table has a value at each of these keys.
 fn has_all(names: &[&str], table: &Table) -> bool
     ensures { result ≡ has_all (map (λ name. name.now) names.now) (table_view table.now) }
 {
@@ -52,7 +52,7 @@ fn has_all(names: &[&str], table: &Table) -> bool
     true
 }
 
-/// Returns whether the value, if it is a table, has only the known keys, and all the needed ones.
+/// Tests whether the value, if it is a table, has only known keys, and all the needed ones.
 fn has_keys(known: &[&str], needed: &[&str], value: &Value) -> bool
     ensures { result ≡ has_keys (map (λ name. name.now) known.now) (map (λ name. name.now) needed.now) (view value.now) }
 {
@@ -62,7 +62,7 @@ fn has_keys(known: &[&str], needed: &[&str], value: &Value) -> bool
     }
 }
 
-/// Returns whether each table in an array has only the known keys, and all the needed ones.
+/// Tests whether each table in an array has only known keys, and all the needed ones.
 fn items_have_keys(known: &[&str], needed: &[&str], array: &Array) -> bool
     ensures { result ≡ items_have_keys (map (λ name. name.now) known.now) (map (λ name. name.now) needed.now) (array_view array.now) }
 {
@@ -74,8 +74,8 @@ fn items_have_keys(known: &[&str], needed: &[&str], array: &Array) -> bool
     true
 }
 
-/// Returns whether each table in the array at this key, if there is one, has only the known keys, and all the needed
-/// ones.
+/// Tests whether each table in the array at this key, if there is one, has only known keys, and all the
+/// needed ones.
 fn entries_have_keys(known: &[&str], needed: &[&str], table: &Table, key: &str) -> bool
     ensures { result ≡ entries_have_keys (map (λ name. name.now) known.now) (map (λ name. name.now) needed.now)
         (get_member key.now (table_view table.now)) }
@@ -89,7 +89,7 @@ fn entries_have_keys(known: &[&str], needed: &[&str], table: &Table, key: &str) 
     }
 }
 
-/// Returns whether each key of a policy is known, and none is missing.
+/// Tests whether each key of a policy is known, and no needed key is missing.
 #[tactic(auto, unfolding(crate::specs::Keys::has_right_keys))]
 pub fn has_right_keys(table: &Table) -> bool
     ensures { result ≡ has_right_keys (table_view table.now) }

@@ -5,8 +5,8 @@ ghost use Rattle.proxy_policy.specs.Names.{is_principal, is_socket_byte, is_sock
 
 use proxy_header::{MOST_NAME_BYTES, is_common_name};
 
-/// Returns whether these bytes are the name of a principal: the name of a socket, or `certificate:` and the common
-/// name of a certificate.
+/// Tests whether these bytes are the name of a principal: the name of a socket, or `certificate:` and
+/// the common name of a certificate.
 #[tactic(auto, unfolding(crate::specs::Names::is_principal))]
 pub fn is_principal(name: &[u8]) -> bool
     ensures { result ≡ is_principal name.now }
@@ -18,7 +18,7 @@ pub fn is_principal(name: &[u8]) -> bool
     }
 }
 
-/// Returns whether these bytes are the name of a socket: 1 to 64 of `a-z A-Z 0-9 . _ -`.
+/// Tests whether these bytes are the name of a socket: 1 to 64 bytes of `a-z A-Z 0-9 . _ -`.
 pub fn is_socket_name(name: &[u8]) -> bool
     ensures { result ≡ is_socket_name name.now }
 {

@@ -1,4 +1,4 @@
-//! Reads a policy.
+//! Parses a policy.
 
 ghost use Rattle.std.specs.Prelude.{◌≡◌, ◌≢◌, ◌≤◌, length, map, Err, IfErr, IfOk, Ok};
 ghost use Rattle.proxy_policy.specs.declared.fault.PolicyFault.TheVariants.{OutOfMemory};
@@ -11,14 +11,14 @@ use crate::rule::Policy;
 use crate::values::rules_of;
 use std::alloc::Global;
 
-/// The maximum number of bytes of a policy.
+/// The maximum number of bytes of a policy text.
 pub const MAX_POLICY_BYTES: usize = 1_048_576;
 
-/// Reads a policy from its text.
+/// Returns the rules of a policy's text.
 ///
-/// Returns the rules of the text. Errors: `NotToml` if the text has more than `MAX_POLICY_BYTES` or the crate `toml`
-/// does not read it as a table, `BadKey` if a key is missing or unknown, `BadValue` if all keys are right and some
-/// value is not; out of memory, but not for a text that is too long.
+/// Errors: `NotToml` if the text has more than `MAX_POLICY_BYTES` or the crate `toml` does not accept
+/// it as a table; `BadKey` if a key is missing or unknown; `BadValue` if all keys are right and some
+/// value is wrong; `OutOfMemory`, except for a text that is too long.
 pub fn read_policy(alloc: Global, text: &str) -> Result<Policy, PolicyFault>
     ensures ok { IfOk result (λ policy. reading text.now ≡ Ok (map content policy.rules.items)) }
     ensures refused { IfErr result (λ fault. fault ≢ OutOfMemory → reading text.now ≡ Err fault) }

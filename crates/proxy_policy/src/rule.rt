@@ -6,19 +6,19 @@ use proxy_request::Op;
 /// A rule: its principals, and the requests that it allows them.
 #[derive(Debug, Drop)]
 pub struct Rule {
-    /// At least one: the name of a socket, or `certificate:` and a common name.
+    /// The principals, at least one. Each is the name of a socket, or `certificate:` and a common name.
     pub principals: Vec<String>,
-    /// At least one.
+    /// The allowed ops, at least one.
     pub ops: Vec<Op>,
-    /// The clients whose orders are allowed, at least one. None means all.
+    /// The clients whose orders are allowed, at least one, or None for all.
     pub clients: Option<Vec<Client>>,
-    /// The nodes of allowed orders, at least one. None means all.
+    /// The nodes that a request may name, at least one, or None for all.
     pub nodes: Option<Vec<NodeId>>,
 }
 
-/// A request that no rule allows is not allowed.
+/// The rules of a policy. A request that no rule allows is refused.
 #[derive(Debug, Drop)]
 pub struct Policy {
-    /// In the order of the file.
+    /// The rules, in the order of the file.
     pub rules: Vec<Rule>,
 }

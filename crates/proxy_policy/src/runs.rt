@@ -1,26 +1,26 @@
-//! Worked texts: functions that do nothing, whose contracts are computed through the definitions.
+//! Worked examples of texts: each is the contract of an empty function, computed from the definitions.
 
 ghost use Rattle.proxy_policy.specs.WorkedTexts.{GoodTexts, WrongKeys, WrongTexts, WrongValues};
 
-/// Policies.
+/// Texts that are policies.
 #[tactic(auto, using(crate::proofs::Computes::good_compute))]
 pub fn good_texts()
     ensures { GoodTexts }
 {}
 
-/// Unknown keys, and a missing one.
+/// Texts with unknown keys, and one with a missing key.
 #[tactic(auto, using(crate::proofs::Computes::keys_compute))]
 pub fn wrong_keys()
     ensures { WrongKeys }
 {}
 
-/// Values of another type, unknown names, numbers out of range and empty lists.
+/// Texts with values of the wrong type, unknown names, numbers out of range, and empty lists.
 #[tactic(auto, using(crate::proofs::Computes::values_compute))]
 pub fn wrong_values()
     ensures { WrongValues }
 {}
 
-/// A text that is no TOML.
+/// A text that is not TOML.
 #[tactic(auto, using(crate::proofs::Computes::texts_compute))]
 pub fn wrong_texts()
     ensures { WrongTexts }

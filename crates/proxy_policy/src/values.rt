@@ -20,7 +20,7 @@ use toml::{Table, Value};
 trait Entry: Drop {
     ghost reads: { Data → Option Self };
 
-    /// Returns the entry of a value; None if the value is none.
+    /// Returns the entry that a value contains, or None if it contains none.
     fn of(value: &Value) -> Option<Self>
         ensures { result ≡ reads (view value.now) };
 }
@@ -49,7 +49,7 @@ impl Entry for NodeId {
     }
 }
 
-/// Returns the entries of an array, if each item is one.
+/// Returns the entries of an array. Each item must be an entry.
 fn each<E: Entry>(alloc: Global, array: &Array) -> Result<Vec<E>, PolicyFault>
     ensures ok { IfOk result (λ entries. each E.reads (array_view array.now) ≡ Some entries.items) }
     ensures bad { IfErr result (λ fault. fault ≢ OutOfMemory →
@@ -65,7 +65,7 @@ fn each<E: Entry>(alloc: Global, array: &Array) -> Result<Vec<E>, PolicyFault>
     Ok(entries)
 }
 
-/// Returns the entries of an array with at least one.
+/// Returns the entries of an array, which must have at least one.
 fn list_of<E: Entry>(alloc: Global, value: &Value) -> Result<Vec<E>, PolicyFault>
     ensures ok { IfOk result (λ entries. list_in E.reads (view value.now) ≡ Some entries.items) }
     ensures bad { IfErr result (λ fault. fault ≢ OutOfMemory →
@@ -81,7 +81,7 @@ fn list_of<E: Entry>(alloc: Global, value: &Value) -> Result<Vec<E>, PolicyFault
     Ok(entries)
 }
 
-/// Returns the entries at a key.
+/// Returns the entries at a key, at least one.
 #[tactic(auto, unfolding(crate::specs::Values::list_at))]
 fn list_at<E: Entry>(alloc: Global, table: &Table, key: &str) -> Result<Vec<E>, PolicyFault>
     ensures ok { IfOk result (λ entries. list_at E.reads key.now (table_view table.now) ≡ Some entries.items) }
@@ -94,7 +94,7 @@ fn list_at<E: Entry>(alloc: Global, table: &Table, key: &str) -> Result<Vec<E>, 
     }
 }
 
-/// Returns the entries at a key that may be absent.
+/// Returns the entries at a key, or None if the key is absent.
 #[tactic(auto, unfolding(crate::specs::Values::limit_at))]
 fn limit_at<E: Entry>(
     alloc: Global,
@@ -114,7 +114,7 @@ fn limit_at<E: Entry>(
     }
 }
 
-/// Returns the principal that a value names.
+/// Returns the name of the principal that a value contains.
 fn name_of(alloc: Global, value: &Value) -> Result<String, PolicyFault>
     ensures ok { IfOk result (λ name. name_in (view value.now) ≡ Some (string_bytes name)) }
     ensures bad { IfErr result (λ fault. fault ≢ OutOfMemory →
@@ -191,7 +191,7 @@ fn each_rule(alloc: Global, array: &Array) -> Result<Vec<Rule>, PolicyFault>
     Ok(rules)
 }
 
-/// Returns the rules of a policy, in order; none if the key is absent.
+/// Returns the rules of a policy, in order, or an empty list if the key `rules` is absent.
 #[tactic(auto, unfolding(crate::specs::Values::rules_in))]
 pub fn rules_of(alloc: Global, table: &Table) -> Result<Vec<Rule>, PolicyFault>
     ensures ok { IfOk result (λ rules. rules_in (get_member (codes "allow") (table_view table.now)) ≡ Some (map content rules.items)) }

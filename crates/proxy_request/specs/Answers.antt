@@ -1,4 +1,4 @@
--- What the bytes of an answer say about the number of its order.
+-- What the bytes of an answer imply about the number of its order.
 use Rattle.std.specs.Prelude.{◌≡◌, ℕ, ◌&&◌, ◌||◌, not, nat_eq, Bool, true, false, List, codes}
 use Rattle.std.specs.List.{AllByRecursion, starts_with}
 use Rattle.std.specs.Str.{bytes_eq}
@@ -31,7 +31,8 @@ is_refusal line =
     && not (bytes_eq line (codes "{\"name\":\"OutOfMemory\",\"refused\":2}"))
     && not (bytes_eq line (codes "{\"name\":\"PendingFull\",\"refused\":20}"))
 
--- the refusals that don't judge the order
+-- whether a refusal concerns the order itself, and not its number (OutOfTurn, NumberReused) or the state of the
+-- server (Stopped, OutOfMemory, PendingFull)
 abbrev pub is_of_order : Refusal → Bool
 is_of_order Stopped = false
 is_of_order OutOfMemory = false
@@ -40,7 +41,7 @@ is_of_order NumberReused = false
 is_of_order PendingFull = false
 is_of_order r = true
 
--- the bytes of each reply to an order, and of each refusal, are classified by its meaning
+-- The bytes of each reply to an order, and of each refusal, are classified by its meaning.
 pub record AnswersAreClassified : Type 0 where
   pub replies : AllByRecursion (λ row. (step : ℕ) → is_reply (compact_text (reply (Replied (record { step = step; kind = row.1 })))) ≡ true) kinds
   pub refusals : AllByRecursion (λ row. (is_reply (compact_text (reply (Refused row.1))) ≡ false) × (refuses_number (compact_text (reply (Refused row.1))) ≡ is_of_number row.1) × (is_refusal (compact_text (reply (Refused row.1))) ≡ is_of_order row.1)) refusals

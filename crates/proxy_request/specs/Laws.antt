@@ -5,6 +5,6 @@ use Rattle.coord_admin.specs.Requests as admin
 use Rattle.coord_admin.specs.declared.request.Request as admin_request
 use Rattle.proxy_request.specs.Requests.{asked_by, of_server}
 
--- the proxy reads each request of the server as the same request
+-- If the server reads a line as a request, the proxy reads it as the same request.
 abbrev pub ServerRequestsPass : Type 0
 ServerRequestsPass = (line : Line) (r : admin_request.Request) → admin.asked_by line ≡ Ok r → asked_by line ≡ Ok (of_server r)

@@ -35,6 +35,6 @@ op_number Watch = 7
 op_number Resend = 8
 op_number Close = 9
 
--- ops are equal by their numbers
+-- whether two ops are equal, compared by their numbers
 abbrev pub same_op : Op → Op → Bool
 same_op a b = op_number a == op_number b

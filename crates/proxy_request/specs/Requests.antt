@@ -1,4 +1,4 @@
--- The requests to the proxy, and the lines that ask for them.
+-- The requests to the proxy, and the lines that make them.
 use Rattle.std.specs.Prelude.{ℕ, ◌==◌, ◌&&◌, if◌then◌else◌, Bool, true, false, List, codes, Option, Some, None, option_and_then, Result, Ok, Err}
 use Rattle.std.specs.Str.{bytes_eq, is_utf8}
 use Rattle.serde_json.specs.Data.{Data}
@@ -19,7 +19,7 @@ use Rattle.proxy_request.specs.declared.request.Request.TheVariants.{Order, Conf
 
 -- ---- reading
 
--- the server's requests are the proxy's too
+-- a request of the server as a request to the proxy
 abbrev pub of_server : admin_request.Request → Request
 of_server (server.Order c n x) = Order c n x
 of_server server.Show = Show
@@ -43,7 +43,8 @@ reset_of d = option_and_then (λ u. Some (Reset u)) (admin.node_at (codes "node"
 abbrev pub reset_at_of : Data → Option Request
 reset_at_of d = admin.with_both (λ u e. ResetAt u e) (admin.node_at (codes "node") d) (admin.number_at (codes "epoch") d)
 
--- an op and the number of members distinguish the forms that only the proxy has from those of the server
+-- The request of an op with this number of members. The number distinguishes the forms that only the proxy
+-- has from those of the server.
 abbrev pub request_by : List ℕ → ℕ → Data → Result Request LineFault
 request_by name members d =
     if bytes_eq name (codes "watch") then (if members == 1 then Ok Watch else Err BadRequest)
@@ -56,7 +57,7 @@ abbrev pub request_named : Data → Option (List ℕ) → Result Request LineFau
 request_named d None = Err BadRequest
 request_named d (Some name) = request_by name (admin.member_count d) d
 
--- the request of a JSON value; a value that is not an object has no `op`
+-- the request of a JSON value; a value that is not an object has no `op`, and so makes no request
 abbrev pub request_of : Data → Result Request LineFault
 request_of d = request_named d (option_and_then as_str (get (codes "op") d))
 
@@ -72,7 +73,7 @@ abbrev pub asked_by : Line → Result Request LineFault
 asked_by None = Err TooLong
 asked_by (Some bytes) = if is_utf8 bytes then asked_in bytes else Err BadText
 
--- ---- what a request is
+-- ---- properties of a request
 
 abbrev pub command_op : Command → Op
 command_op (command.Add u g) = op.Add
@@ -82,7 +83,7 @@ command_op (command.Drop a b) = op.Drop
 command_op (command.Reset u) = op.Reset
 command_op (command.Confirm u e) = op.Confirm
 
--- its name in a policy
+-- the name of a request in a policy
 abbrev pub op_of : Request → Op
 op_of (Order c n x) = command_op x
 op_of (Confirm u e) = op.Confirm
@@ -93,7 +94,7 @@ op_of Watch = op.Watch
 op_of Resend = op.Resend
 op_of Close = op.Close
 
--- the client whose number it has
+-- the client that a request names
 abbrev pub client_of : Request → Option ℕ
 client_of (Order c n x) = Some c
 client_of r = None
@@ -106,7 +107,7 @@ command_node (command.Drop a b) = a
 command_node (command.Reset u) = u
 command_node (command.Confirm u e) = u
 
--- the nodes that it names: the first, and the second of a link
+-- the nodes that a request names: the first, and for a link the second
 abbrev pub first_node_of : Request → Option ℕ
 first_node_of (Order c n x) = Some (command_node x)
 first_node_of (Confirm u e) = Some u
@@ -123,18 +124,18 @@ abbrev pub second_node_of : Request → Option ℕ
 second_node_of (Order c n x) = far_node x
 second_node_of r = None
 
--- the server changes nothing for it
+-- whether a request changes nothing in the server
 abbrev pub is_query : Request → Bool
 is_query Show = true
 is_query Watch = true
 is_query r = false
 
--- it must not be sent to the server a second time
+-- whether a request must not be sent to the server a second time
 abbrev pub is_once : Request → Bool
 is_once Close = true
 is_once r = false
 
--- the command of an order without a client and a number; the epoch of a reset is for the proxy alone
+-- the command of an order without a client and a number; only the proxy uses the epoch of a reset
 abbrev pub unnumbered_command : Request → Option Command
 unnumbered_command (Confirm u e) = Some (command.Confirm u e)
 unnumbered_command (Reset u) = Some (command.Reset u)

@@ -1,10 +1,10 @@
-//! Laws of requests and answers: functions that do nothing, whose contracts are the laws.
+//! Laws of requests and answers. Each is the contract of an empty function.
 
 ghost use Rattle.proxy_request.specs.Answers.{AnswersAreClassified};
 ghost use Rattle.proxy_request.specs.Laws.{ServerRequestsPass};
 ghost use Rattle.proxy_request.specs.WorkedLines.{WorkedLines};
 
-/// What the server reads as a request the proxy reads as the same.
+/// If the server reads a line as a request, the proxy reads it as the same request.
 #[tactic(auto, using(crate::proofs::Passes::server_requests_pass))]
 pub fn server_requests_pass()
     ensures { ServerRequestsPass }
@@ -16,7 +16,7 @@ pub fn answers_are_classified()
     ensures { AnswersAreClassified }
 {}
 
-/// Lines and their requests.
+/// Examples of lines with their requests.
 #[tactic(auto, using(crate::proofs::Computes::lines_compute))]
 pub fn worked_lines()
     ensures { WorkedLines }

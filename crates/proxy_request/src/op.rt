@@ -19,7 +19,7 @@ pub enum Op {
 }
 
 impl Op {
-    /// Returns the op of this name.
+    /// Returns the op with this name.
     pub fn named(name: &str) -> Option<Op>
         ensures { result ≡ op_named name.now }
     {
@@ -38,7 +38,7 @@ impl Op {
         }
     }
 
-    /// Returns its name.
+    /// Returns the op's name.
     pub fn name(self) -> &'static str
         ensures { result.now ≡ op_name self }
     {
@@ -56,7 +56,7 @@ impl Op {
         }
     }
 
-    /// Returns its place in the order above, from 0.
+    /// Returns the op's place in the order above, counted from 0.
     pub fn number(self) -> u8
         ensures { result ≡ op_number self }
     {

@@ -1,4 +1,4 @@
-//! Reads a line.
+//! Parses a line.
 
 ghost use Rattle.std.specs.Prelude.{◌≡◌, ◌≢◌, Err, Some};
 ghost use Rattle.std.specs.Option.{option_copied};
@@ -14,8 +14,8 @@ use serde_json::Value;
 use std::alloc::Global;
 use std::str;
 
-/// Returns the request of a line, or its fault (docs/FORMATS.md, "Administration lines"). A line over the limit is
-/// None.
+/// Returns the request of a line, or its fault (docs/FORMATS.md, "Administration lines"). `line` is
+/// None if it was over the limit.
 pub fn read_line(alloc: Global, line: Option<&[u8]>) -> Result<Request, LineFault>
     ensures value { result ≢ Err OutOfMemory → result ≡ asked_by (option_copied line.entry) }
     ensures memory { result ≡ Err OutOfMemory → IsText (option_copied line.entry) }

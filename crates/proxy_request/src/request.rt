@@ -6,32 +6,32 @@ ghost use Rattle.proxy_request.specs.Requests.{client_of, command_node, command_
 use crate::op::Op;
 use coord_types::{Client, Command, NodeId};
 
-/// The client of the orders that the proxy numbers. No request of a connection may have it.
+/// The client of the orders that the proxy numbers. No request over a connection may use it.
 pub const PROXY_CLIENT: u8 = 15;
 
 /// A request to the proxy.
 #[derive(Clone, Copy, Debug, PartialEq, Eq)]
 pub enum Request {
-    /// An order of a client with its number, which is any u64.
+    /// Carry out a client's order with this number, which may be any u64.
     Order(Client, u64, Command),
-    /// To confirm an epoch at a node, with a number of the proxy.
+    /// Confirm an epoch at a node. The proxy chooses the number.
     Confirm(NodeId, u64),
-    /// To reset a node, with a number of the proxy.
+    /// Reset a node. The proxy chooses the number.
     Reset(NodeId),
-    /// To reset a node if it has this epoch and no reset is under way.
+    /// Reset a node if it has this epoch and no reset is under way.
     ResetAt(NodeId, u64),
-    /// To show the settled world once.
+    /// Show the settled world once.
     Show,
-    /// To show the settled world now and after each change.
+    /// Show the settled world now and after each change.
     Watch,
-    /// To resend the packets that may have been lost.
+    /// Resend the packets that may have been lost.
     Resend,
-    /// To close the server.
+    /// Close the server.
     Close,
 }
 
 impl Request {
-    /// Returns its name in a policy.
+    /// Returns the request's name in a policy.
     pub fn op(&self) -> Op
         ensures { result ≡ op_of self.now }
     {
@@ -46,7 +46,7 @@ impl Request {
         }
     }
 
-    /// Returns the client whose number the request has.
+    /// Returns the client that the request names.
     pub fn client(&self) -> Option<Client>
         ensures { result ≡ client_of self.now }
     {
@@ -69,7 +69,7 @@ impl Request {
         }
     }
 
-    /// Returns the other node of a request that names two.
+    /// Returns the second node of a request that names two nodes.
     pub fn second_node(&self) -> Option<NodeId>
         ensures { result ≡ second_node_of self.now }
     {
@@ -79,21 +79,21 @@ impl Request {
         }
     }
 
-    /// Returns whether the server changes nothing for it.
+    /// Tests whether the request changes nothing in the server.
     pub fn is_query(&self) -> bool
         ensures { result ≡ is_query self.now }
     {
         matches!(self, Request::Show | Request::Watch)
     }
 
-    /// Returns whether it must not be sent to the server a second time.
+    /// Tests whether the request must not be sent to the server a second time.
     pub fn is_once(&self) -> bool
         ensures { result ≡ is_once self.now }
     {
         matches!(self, Request::Close)
     }
 
-    /// Returns the command of an order without a client and a number; None for every other request.
+    /// Returns the command of an order without a client and a number, or None for any other request.
     pub fn unnumbered_command(&self) -> Option<Command>
         ensures { result ≡ unnumbered_command self.now }
     {
@@ -131,7 +131,7 @@ fn first_node(command: Command) -> NodeId
     }
 }
 
-/// Returns a request of the server as one of the proxy.
+/// Returns a request of the server as a request to the proxy.
 pub(crate) fn of_server(request: coord_admin::Request) -> Request
     ensures { result ≡ of_server request }
 {

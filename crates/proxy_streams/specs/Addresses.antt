@@ -1,10 +1,10 @@
--- The address of the server that is tried next, and the pause before it.
+-- The server's address that is tried next, and the pause before the attempt.
 use Rattle.std.specs.Prelude.{ℕ, ◌+◌, ◌*◌, min, if◌then◌else◌, nat_lt}
 
--- the index after this one, of `count` addresses; the first one after the last
+-- the index after this one among `count` addresses; after the last index, the first
 abbrev pub following : ℕ → ℕ → ℕ
 following count index = if nat_lt (index + 1) count then index + 1 else 0
 
--- the pause after this one, in milliseconds: twice as long, and at most a second
+-- the pause after this one, in milliseconds: twice as long, but at most a second
 abbrev pub longer : ℕ → ℕ
 longer pause = min (pause * 2) 1000

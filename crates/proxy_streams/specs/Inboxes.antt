@@ -1,16 +1,16 @@
--- The bytes that came from a client and have not been taken as lines.
+-- The bytes that arrived from a client and were not yet taken as lines.
 use Rattle.std.specs.Prelude.{◌≡◌, ℕ, ◌||◌, Bool, false, List, [], Option, Some, None, if◌then◌else◌, is_some}
 use Rattle.coord_lines.specs.Lines.{Line, extended, before_line_feed, behind_line_feed}
 
 pub record Inbox : Type 0 where
-  pub line : Line  -- so far; None if it is over the limit
-  pub is_whole : Bool  -- its line feed has come
-  pub rest : List ℕ  -- the bytes after it
+  pub line : Line  -- the line so far; None if it is over the limit
+  pub is_whole : Bool  -- whether its line feed has arrived
+  pub rest : List ℕ  -- the bytes after the line
 
 abbrev pub new_inbox : Inbox
 new_inbox = record { line = Some []; is_whole = false; rest = [] }
 
--- a whole line has come
+-- whether a whole line has arrived
 abbrev pub has_line : Inbox → Bool
 has_line i = i.is_whole || is_some (behind_line_feed i.rest)
 
@@ -18,17 +18,17 @@ abbrev pub behind : Option (List ℕ) → List ℕ
 behind None = []
 behind (Some more) = more
 
--- the line continues up to the next line feed, or to the last byte
+-- the inbox after the line has taken the bytes up to the next line feed, or all bytes if there is none
 abbrev pub with_line : Inbox → Inbox
 with_line i =
     if i.is_whole then i
     else record { line = extended i.line (before_line_feed i.rest); is_whole = is_some (behind_line_feed i.rest); rest = behind (behind_line_feed i.rest) }
 
--- the next line begins
+-- the inbox at the beginning of the next line
 abbrev pub after_line : Inbox → Inbox
 after_line i = record { line = Some []; is_whole = false; rest = i.rest }
 
--- everything that came belongs to the line, which is not complete
+-- All bytes that arrived belong to the line, which is not complete.
 abbrev pub IsDrained : Inbox → Type 0
 IsDrained i = (i.is_whole ≡ false) × (i.rest ≡ [])
 

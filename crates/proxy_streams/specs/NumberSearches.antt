@@ -1,4 +1,4 @@
--- The search for a client's last number: numbers are tried outwards from one that is near it.
+-- The search for a client's last number: it tries numbers at growing distance from a starting point.
 use Rattle.std.specs.Prelude.{ℕ, ◌+◌, ◌-◌, min, not, ◌&&◌, ◌==◌, Bool, true, false, if◌then◌else◌}
 
 pub record Search : Type 0 where
@@ -6,7 +6,7 @@ pub record Search : Type 0 where
   pub below : ℕ  -- the next number below, or 0 if there is none
   pub is_below_next : Bool
 
--- the numbers that are tried begin with the one after `near`, and `near` itself
+-- the search whose first numbers are the one after `near`, and `near`
 abbrev pub search_from : ℕ → Search
 search_from near = record { above = min (near + 1) 18446744073709551615; below = near; is_below_next = false }
 

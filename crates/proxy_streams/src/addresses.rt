@@ -7,13 +7,13 @@ ghost use Rattle.proxy_streams.specs.Addresses.{following, longer};
 use std::net::SocketAddr;
 use std::time::Duration;
 
-/// The milliseconds of the first pause before a new try.
+/// The first pause before another attempt, in milliseconds.
 pub const FIRST_PAUSE: u64 = 20;
 
-/// The milliseconds of the longest pause.
+/// The longest pause, in milliseconds.
 pub const LONGEST_PAUSE: u64 = 1000;
 
-/// The addresses of the server, the one that is used, and the pause before the next try.
+/// The addresses of the server, the one that is in use, and the pause before the next attempt.
 #[derive(Drop)]
 pub struct Addresses {
     all: Vec<SocketAddr>,
@@ -23,7 +23,7 @@ pub struct Addresses {
 }
 
 impl Addresses {
-    /// Returns the addresses, the first of which is used; None if there is none.
+    /// Makes a list of addresses, the first of which is in use; None if the list is empty.
     pub fn new(all: Vec<SocketAddr>) -> Option<Self>
         ensures { MatchOption result (all.items ≡ []) (λ a. (a.all ≡ all) × (a.index ≡ 0) × (a.pause ≡ FIRST_PAUSE)) }
     {
@@ -37,15 +37,15 @@ impl Addresses {
         })
     }
 
-    /// Returns the address that is used.
+    /// Returns the address that is in use.
     pub fn used(&self) -> SocketAddr
         ensures { slice_get self.now.all.items self.now.index ≡ Some result }
     {
         self.all[self.index]
     }
 
-    /// Uses the next address, and returns the pause before it is tried: each pause is twice the one before, from 20
-    /// milliseconds to a second.
+    /// Changes to the next address, and returns the pause before it is tried. Each pause is twice as
+    /// long as the one before, from 20 milliseconds to one second.
     pub fn leave(&mut self) -> Duration
         ensures pause { as_nanos result ≡ self.old.pause * 1000000 }
         ensures next { self.new.index ≡ following (length self.old.all.items) self.old.index }
@@ -62,7 +62,7 @@ impl Addresses {
         pause
     }
 
-    /// Notes that the server answered: the next pause is the shortest one.
+    /// Records that the server answered: the next pause is the shortest one.
     pub fn answered(&mut self)
         ensures pause { self.new.pause ≡ FIRST_PAUSE }
         ensures index { self.new.index ≡ self.old.index }

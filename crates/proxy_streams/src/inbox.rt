@@ -8,10 +8,11 @@ use coord_lines::LineBuffer;
 use std::alloc::{AllocError, Global};
 use std::marker::Model;
 
-/// The maximum number of bytes that an inbox takes at once.
+/// The maximum number of bytes that an inbox accepts at once.
 pub const MOST_PIECE_BYTES: usize = 4096;
 
-/// The bytes that came from a client and have not been taken as lines: a line so far, and the bytes after it.
+/// The bytes that arrived from a client and were not yet taken as lines: the line so far, and the bytes
+/// after it.
 #[derive(Drop)]
 pub struct Inbox {
     line: LineBuffer,
@@ -44,7 +45,7 @@ impl Inbox {
         }
     }
 
-    /// Returns whether a whole line has come, and completes it with the bytes after it.
+    /// Moves the bytes up to the next line feed into the line. Returns whether the line is complete.
     pub fn complete_line(&mut self) -> bool
         ensures whole { result ≡ has_line self.old }
         ensures after { self.new ≡ with_line self.old }
@@ -66,7 +67,7 @@ impl Inbox {
         }
     }
 
-    /// Returns the line so far; None if it is over the limit.
+    /// Returns the line so far, or None if it is over the limit.
     pub fn line(&self) -> Option<&[u8]>
         ensures { option_copied result ≡ self.now.line }
     {
@@ -81,14 +82,15 @@ impl Inbox {
         self.is_whole = false;
     }
 
-    /// Returns whether all that came is in the line, which is not whole: then there is room for more.
+    /// Tests whether all bytes that arrived are in the line, and the line is not complete: then more
+    /// bytes can be accepted.
     pub fn is_drained(&self) -> bool
         ensures { IsTrue result ↔ IsDrained self.now }
     {
         !self.is_whole && self.piece[self.begin..].is_empty()
     }
 
-    /// Returns whether no byte of a line has come.
+    /// Tests whether no byte of a line has arrived.
     pub fn is_empty(&self) -> bool
         ensures { IsTrue result ↔ (IsDrained self.now × (self.now.line ≡ Some [])) }
     {
@@ -101,7 +103,8 @@ impl Inbox {
         }
     }
 
-    /// Takes bytes that came, if all before them are in the line. Errors: out of memory; nothing changes.
+    /// Accepts more bytes. All earlier bytes must be in the line. If memory runs out, returns an error
+    /// and changes nothing.
     pub fn fill(&mut self, bytes: &[u8]) -> Result<(), AllocError>
         requires { IsDrained self.old }
         ensures ok { OnOk result (self.new ≡ filled bytes.now self.old) }

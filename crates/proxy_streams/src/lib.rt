@@ -1,8 +1,9 @@
 //! The buffers and counters of the proxy's loop, which read and write through the traits of `std::io`.
 //!
-//! An [`Inbox`] splits what a client sends into lines, as the server does. An [`Outbox`] holds bytes until
-//! the stream takes them. [`ServerLines`] holds the lines of the server. [`Addresses`] says which address
-//! of the server is tried next, and after which pause. A [`NumberSearch`] finds the last number of the proxy's client.
+//! An [`Inbox`] splits the bytes of a client into lines, like the server. An [`Outbox`] holds bytes
+//! until the stream accepts them. [`ServerLines`] splits the bytes of the server into lines.
+//! [`Addresses`] determines which address of the server is tried next, and after which pause. A
+//! [`NumberSearch`] finds the last number of the proxy's client.
 #![tactic(auto)]
 
 mod addresses;

@@ -1,12 +1,13 @@
-//! The search of the last number of the proxy's client.
+//! The search for the last number of the proxy's client.
 
 ghost use Rattle.std.specs.Prelude.{◌≡◌};
 ghost use Rattle.proxy_streams.specs.NumberSearches.{after_try, search_from, tried};
 
 use std::marker::Model;
 
-/// Which numbers are to be tried, outwards from one that is near the last number. The server refuses
-/// an order of epoch 0 with any of them, by a refusal that distinguishes the last number, the next one, and all others.
+/// The numbers to try, at growing distance from a starting point that is probably near the last number.
+/// The server refuses an order with epoch 0 for every number, and its refusal distinguishes the last
+/// number, the next one, and all others.
 #[derive(Debug, Drop)]
 pub struct NumberSearch {
     above: u64,

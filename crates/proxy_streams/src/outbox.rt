@@ -1,4 +1,4 @@
-//! What is to be sent.
+//! Bytes that are still to be sent.
 
 ghost use Rattle.std.specs.Prelude.{◌≡◌, ◌==◌, ◌≤◌, ◌++◌, ◌∷◌, [], length, take, List, ℕ, OnErr, OnOk};
 ghost use Rattle.std.specs.Io.KnownBytes.{Appends};
@@ -8,21 +8,21 @@ use std::alloc::{AllocError, Global};
 use std::io::{ErrorKind, Write};
 use std::marker::Model;
 
-/// The maximum number of calls of `write` for one sending.
+/// The maximum number of calls of `write` in one call of `send`.
 const MOST_WRITES: u32 = 1024;
 
-/// How far a sending came.
+/// The outcome of a call of `send`.
 #[derive(Clone, Copy, Debug, PartialEq, Eq)]
 pub enum Sending {
     /// All bytes were sent.
     Whole,
-    /// The stream takes no more at present.
+    /// The stream accepts no more bytes at present.
     Blocked,
     /// The stream has failed.
     Failed,
 }
 
-/// The bytes that a stream has not taken yet.
+/// The bytes that a stream has not accepted yet.
 #[derive(Drop)]
 pub struct Outbox {
     bytes: Vec<u8>,
@@ -50,21 +50,21 @@ impl Outbox {
         }
     }
 
-    /// Returns the number of its bytes.
+    /// Returns the number of bytes to be sent.
     pub fn len(&self) -> usize
         ensures { result ≡ length self.now }
     {
         self.bytes.len() - self.begin
     }
 
-    /// Returns whether all was sent.
+    /// Tests whether all bytes were sent.
     pub fn is_empty(&self) -> bool
         ensures { result ≡ length self.now == 0 }
     {
         self.len() == 0
     }
 
-    /// Appends a text. Errors: out of memory; nothing changes.
+    /// Appends a text. If memory runs out, returns an error and changes nothing.
     pub fn push(&mut self, text: &[u8]) -> Result<(), AllocError>
         ensures ok { OnOk result (self.new ≡ self.old ++ text.now) }
         ensures err { OnErr result (self.new ≡ self.old) }
@@ -72,7 +72,7 @@ impl Outbox {
         self.bytes.extend_from_slice(text)
     }
 
-    /// Appends a line and its line feed. Errors: out of memory; nothing changes.
+    /// Appends a line and its line feed. If memory runs out, returns an error and changes nothing.
     pub fn push_line(&mut self, line: &[u8]) -> Result<(), AllocError>
         ensures ok { OnOk result (self.new ≡ self.old ++ (line.now ++ 10 ∷ [])) }
         ensures err { OnErr result (self.new ≡ self.old) }
@@ -88,7 +88,8 @@ impl Outbox {
         }
     }
 
-    /// Sends bytes until the stream takes no more. What was sent and what is left is what was there.
+    /// Sends bytes until the stream accepts no more. The bytes that were sent, followed by those that
+    /// remain, are the bytes that were there before.
     pub fn send<W: Write>(&mut self, stream: &mut W) -> Sending
         ensures sent { (part : List ℕ) × (self.old ≡ part ++ self.new) × Appends (W.contents stream.old) (W.contents stream.new) part }
         ensures whole { result ≡ Whole → self.new ≡ [] }
@@ -103,7 +104,8 @@ impl Outbox {
     }
 }
 
-/// Writes a text until the stream takes no more, and returns how many bytes were written.
+/// Writes a text until the stream accepts no more. Returns the number of bytes written, and the
+/// outcome.
 fn write_part<W: Write>(stream: &mut W, text: &[u8]) -> (usize, Sending)
     ensures bound { result.0 ≤ length text.now }
     ensures sent { Appends (W.contents stream.old) (W.contents stream.new) (take result.0 text.now) }

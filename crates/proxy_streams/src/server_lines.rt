@@ -9,10 +9,10 @@ ghost use Rattle.proxy_streams.specs.ServerLines.{first_line};
 use std::alloc::{AllocError, Global};
 use std::marker::Model;
 
-/// The maximum number of bytes of an answer. The server's longest view has fewer.
+/// The maximum number of bytes of an answer. The server's longest view is shorter.
 pub const MOST_ANSWER_BYTES: usize = 65_536;
 
-/// The bytes that came from the server and have not been taken as answers.
+/// The bytes that arrived from the server and were not yet taken as answers.
 #[derive(Drop)]
 pub struct ServerLines {
     bytes: Vec<u8>,
@@ -40,14 +40,14 @@ impl ServerLines {
         }
     }
 
-    /// Returns the number of bytes.
+    /// Returns the number of bytes in the buffer.
     pub fn len(&self) -> usize
         ensures { result ≡ length self.now }
     {
         self.bytes.len() - self.begin
     }
 
-    /// Appends bytes that came. Errors: out of memory.
+    /// Appends bytes that arrived. Returns an error if memory runs out.
     pub fn fill(&mut self, bytes: &[u8]) -> Result<(), AllocError>
         ensures ok { OnOk result (self.new ≡ self.old ++ bytes.now) }
     {
@@ -56,7 +56,7 @@ impl ServerLines {
         self.bytes.extend_from_slice(bytes)
     }
 
-    /// Returns the first line, without its line feed, if it is whole.
+    /// Returns the first line without its line feed, if the line feed has arrived.
     pub fn first(&self) -> Option<&[u8]>
         ensures { option_copied result ≡ first_line self.now }
     {
@@ -67,7 +67,7 @@ impl ServerLines {
         }
     }
 
-    /// Drops as many bytes as a line has, and its line feed; all if there are fewer.
+    /// Drops the first line, of this length, and its line feed; if there are fewer bytes, drops all.
     pub fn drop_first(&mut self, length: usize)
         ensures { self.new ≡ drop (length + 1) self.old }
     {

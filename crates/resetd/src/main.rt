@@ -1,4 +1,4 @@
-//! The program `resetd`. Its commands stand in the library `coord_commands`, the drill in
+//! The program `resetd`. Its commands are in the library `coord_commands`, and the drill is in
 //! `coord_drill`.
 #![tactic(auto)]
 

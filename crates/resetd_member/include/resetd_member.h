@@ -1,15 +1,16 @@
 /* The members' rule and the order book of resetd, for a program in any language that calls C.
  *
- * docs/SERVICES.md describes a member; these functions return its due action, and spell each text. They
- * read and write no file and no socket, and keep no state between two calls. Their results are proved.
+ * docs/SERVICES.md describes a member; these functions return its due action and the texts that it stores
+ * and sends. They read and write no file and no socket, and keep no state between two calls. Their results
+ * are proved.
  *
- * A text is its bytes and their count, and may hold any bytes. A pointer to it is never NULL, even if the
- * count is 0. A text that a call writes may overlap no other text of the call. A call allocates with
- * malloc, and has freed everything when it returns. Calls from several threads at once are safe, as long
- * as none writes a text that another one reads.
+ * A text is passed as a pointer to its bytes and their number, and may hold any bytes. The pointer must
+ * not be NULL, even if the number is 0. A text that a call writes must not overlap another text of the
+ * call. A call allocates with malloc, and has freed everything when it returns. Several threads may call
+ * at once, as long as none writes a text that another one reads.
  *
- * Each function that returns a number returns RESETD_OK or one of the numbers below it. If it is not
- * RESETD_OK, ignore the written bytes; the orders that were passed in are unchanged.
+ * Each function that returns a uint32_t returns RESETD_OK or one of the errors below. After an error,
+ * ignore the written bytes; the order book that was passed in is unchanged.
  */
 #ifndef RESETD_MEMBER_H
 #define RESETD_MEMBER_H
@@ -27,11 +28,11 @@ enum {
   RESETD_OUT_OF_MEMORY = 1,
   RESETD_NO_ROOM = 2,     /* the text has more bytes than the buffer */
   RESETD_BAD_LINE = 3,    /* the line is not the required answer */
-  RESETD_NO_NODE = 4,     /* the node is not shown: talk in no run, and look again */
-  RESETD_BAD_START = 5,   /* the file of the start does not read: remove it, and a reset is asked for */
-  RESETD_BAD_HISTORY = 6, /* that of the history does not: remove it with the member's other files */
-  RESETD_BAD_NUMBER = 7,  /* a node is 1 to 64, a client 1 to 16, an op 1 to 6 */
-  RESETD_IN_HAND = 8,     /* an order is in hand already */
+  RESETD_NO_NODE = 4,     /* the view does not have the node: stop talking, and look again */
+  RESETD_BAD_START = 5,   /* the file of the start cannot be read: remove it; the next look then asks for a reset */
+  RESETD_BAD_HISTORY = 6, /* the file of the history cannot be read: remove all files of the member */
+  RESETD_BAD_NUMBER = 7,  /* a number is out of range: a node is 1 to 64, a client 1 to 16, an op 1 to 6 */
+  RESETD_IN_HAND = 8,     /* another order is already in hand */
   RESETD_NO_TEXT = 9      /* a text is not UTF-8 */
 };
 
@@ -40,17 +41,17 @@ enum {
 enum {
   RESETD_TALK = 1,  /* talk, with the tag of resetd_tag */
   RESETD_WAIT = 2,  /* look again soon */
-  RESETD_BEGIN = 3, /* drop the work, load the common start, put down that of resetd_begun, confirm */
+  RESETD_BEGIN = 3, /* discard the work, load the common start, store the text of resetd_loaded, confirm */
   RESETD_RESET = 4  /* ask for a reset, and look again */
 };
 
-/* The longest text of a file of a start, with the line of the history after it. */
+/* The maximum size in bytes of the text of a start's file, followed by a line of the history. */
 #define RESETD_MOST_TEXT 8192
-/* The most bytes of a tag, and of the line of an order. */
+/* The maximum size in bytes of a tag, and of the line of an order. */
 #define RESETD_MOST_TAG 65
 #define RESETD_MOST_LINE 128
 
-/* The epoch that stands with the work in hand, if there is any. */
+/* The epoch that is stored with the present work, if there is work. */
 struct resetd_work {
   bool is_there;
   uint64_t epoch;
@@ -58,77 +59,80 @@ struct resetd_work {
 
 struct resetd_judged {
   uint32_t due;        /* RESETD_TALK, .. */
-  uint64_t epoch;      /* that is shown */
-  size_t start_length; /* the bytes of the required text of the file of the start; 0: unchanged */
-  size_t line_length;  /* the bytes of the line to add to the history before that; 0: none */
-  size_t history_size; /* the offset of the line in the history; it replaces everything after it */
+  uint64_t epoch;      /* the shown epoch */
+  size_t start_length; /* the size of the text to store in the file of the start; 0: do not change the file */
+  size_t line_length;  /* the size of the line to add to the history before that; 0: add none */
+  size_t history_size; /* the offset in the history at which to write the line; it replaces everything from there on */
 };
 
-/* The two files of a member, and in which order they are read, written and synced:
+/* The two files of a member, and the order in which to read, write and sync them:
  *
- * - At the start of a process, before the first look, sync the files that exist: both files and their
- *   folder. The previous process may have been killed before its own sync; a power cut would then bring
- *   back an earlier text, and a start could talk in two runs. Then read them, and pass the text of the
- *   start through resetd_carried.
- * - The line of the history is on the disk (fdatasync; fsync and the folder, if the file is new) before
- *   the file of the start is written, and before the first message.
- * - The file of the start is written before the first message. It need not be synced: a power cut may
- *   leave an earlier text of it, or a part of one, which says that nothing is begun; then a reset is
- *   asked for. The text of resetd_loaded is valid in one boot only, and needs no sync. If the file has
- *   the text of resetd_begun, which is valid in any boot (earlier versions wrote it, and synced it), sync
- *   the next one before the first message. Write a text over the old one in one call if both have at
- *   most 512 bytes (padded with blanks before its line feed, if it is shorter), or replace the file.
- * - At RESETD_BEGIN the text "nothing begun" is synced before the work is dropped, unless the work is
- *   replaced as a whole, with its epoch, and its epoch is above all that the file ever said. */
+ * - When a process starts, before its first look, sync both files, if they exist, and their folder. The
+ *   previous process may have been killed before its own sync; a power cut would then bring back an
+ *   earlier text, and a start could talk in two runs. Then read the files, and pass the text of the
+ *   start's file through resetd_carried.
+ * - Put the line of the history on disk (fdatasync; if the file is new, fsync it and the folder) before
+ *   you write the file of the start, and before the first message.
+ * - Write the file of the start before the first message. It need not be synced: a power cut may leave an
+ *   earlier text of it, or a part of one, which says that nothing is begun; the next look then asks for a
+ *   reset. The text of resetd_loaded is valid in one boot only, so it needs no sync. If the file has the
+ *   text of resetd_begun, which is valid in any boot (earlier versions wrote and synced it), sync the next
+ *   text before the first message. If both texts have at most 512 bytes, write the new one over the old
+ *   one in one call, with blanks before its line feed if it is shorter; otherwise replace the file.
+ * - At RESETD_BEGIN, sync the text "nothing begun" before you discard the work, unless you replace the
+ *   work as a whole, together with its epoch, and that epoch is above all epochs that the file ever had. */
 
-/* Judges a line that answers `show`, for the member of a node. `start` and `history` are the contents of its files; no
- * bytes, if there is no file. `out` gets the text for the file of the start, followed by the line for the history.
- * Store both before you act, the line first. */
+/* Judges a line that answers `show`, for the member of a node. `start` and `history` are the contents of its files,
+ * empty if a file does not exist. Writes to `out` the text for the file of the start, followed by the line for the
+ * history. Store both before you act, the line first. */
 uint32_t resetd_judge(const uint8_t *show, size_t show_length, uint8_t node, const uint8_t *start,
                       size_t start_length, const uint8_t *history, size_t history_length,
                       const struct resetd_work *work, uint8_t *out, size_t room,
                       struct resetd_judged *judged);
 
-/* The text for the file of the start, once the common start is loaded for an epoch, and what resetd_judge
- * takes from then on. It counts in any boot: write that of resetd_loaded, or sync this one. */
+/* Writes the text for the file of the start once the common start for an epoch is loaded. Pass this text to
+ * resetd_judge from then on. It is valid in any boot: store the text of resetd_loaded instead, or sync this
+ * one. */
 uint32_t resetd_begun(uint8_t node, uint64_t epoch, uint8_t *out, size_t room, size_t *length);
 
-/* The same for a file that is not synced: it counts in the boot of this name alone, the line of
- * /proc/sys/kernel/random/boot_id. Pass that of resetd_begun to resetd_judge all the same. */
+/* Writes the same text for a file that is not synced: it is valid only in the boot with this name, the line
+ * in /proc/sys/kernel/random/boot_id. Still pass the text of resetd_begun to resetd_judge. */
 uint32_t resetd_loaded(uint8_t node, uint64_t epoch, const uint8_t *boot, size_t boot_length,
                        uint8_t *out, size_t room, size_t *length);
 
-/* What the file of the start says in the boot of this name, as the text that resetd_judge takes: once, at
- * the start of a process. A text that a power cut tore says that nothing is begun. */
+/* Writes what the file of the start says in the boot with this name, as the text that resetd_judge takes.
+ * Call it once, when a process starts. A text that a power cut has torn says that nothing is begun. */
 uint32_t resetd_carried(uint8_t node, const uint8_t *start, size_t start_length, const uint8_t *boot,
                         size_t boot_length, uint8_t *out, size_t room, size_t *length);
 
-/* The tag of a start that is due to talk, by its file after the result of resetd_judge was stored. `word` is the first
- * line of each digest; no bytes, if the group has no word. A tag of no bytes is none: the start was alone, and talks
- * with nobody. */
+/* Writes the tag of a start that is due to talk. `start` is the content of its file after the result of resetd_judge
+ * was stored. `word` is the first line of each digest, empty if the group has no word. An empty tag means that the
+ * start was alone, and talks with no other member. */
 uint32_t resetd_tag(const uint8_t *show, size_t show_length, uint8_t node, const uint8_t *start,
                     size_t start_length, const uint8_t *word, size_t word_length, uint8_t *out,
                     size_t room, size_t *length);
 
-/* Whether a message with the tag `other` is of the run of `own`, the receiver's. */
+/* Returns whether a message with the tag `other` belongs to the run of `own`, its receiver's tag. */
 bool resetd_is_same_run(const uint8_t *own, size_t own_length, const uint8_t *other, size_t other_length);
 
-/* After a refused tag: look. If that look says RESETD_TALK and this is so with the tag of now, ask for a
- * reset: no look of either can bring the two together. */
+/* Returns whether two starts with these tags will always refuse each other's messages. After a refused tag,
+ * look again. If RESETD_TALK is due, and this function returns true for the present tag, ask for a reset: no
+ * further look by either member can reconcile them. */
 bool resetd_are_parted(const uint8_t *own, size_t own_length, const uint8_t *other, size_t other_length);
 
 /* ---- the fence ---- */
 
-/* The most generations. */
+/* The number of generations: a generation is below this. */
 #define RESETD_GENERATIONS 8388608
 
-/* The fence of a start for a resource that several members use, by its file after the result of resetd_judge was
- * stored: a count and a tag, the same as long as the start lives. No bytes: it has none yet. The resource keeps three
- * values, initially 0, 0 and no bytes: a floor, a count and a tag. It accepts a fence whose count is above its count,
- * or is above the floor with the resource's own tag. Then, if the tag is another one, the floor becomes its count; its
- * count becomes the greater of both, and the tag that of the fence. So a start that one of another run has replaced is
- * never accepted again, however late it comes. After a restore of the coordinator's store start all members with a
- * greater `generation`. */
+/* Writes the fence of a start for a resource that several members use: a count and a tag, which do not change during
+ * the start. `start` is the content of its file after the result of resetd_judge was stored. An empty tag means that
+ * the start has no fence yet. The resource keeps a floor, a count and a tag, initially 0, 0 and empty. It accepts a
+ * fence whose count is above the resource's count, or whose tag is the resource's and whose count is above the floor.
+ * When it accepts a fence with another tag, the floor becomes the resource's count. Then its count becomes the greater
+ * of both counts, and its tag the tag of the fence. So a start that a start of another run has replaced is never
+ * accepted again, however late its request arrives. After the coordinator's store was restored, start all members with
+ * a greater `generation`. */
 uint32_t resetd_fence(uint8_t node, const uint8_t *start, size_t start_length, uint32_t generation,
                       const uint8_t *word, size_t word_length, uint64_t *count, uint8_t *out,
                       size_t room, size_t *length);
@@ -145,36 +149,36 @@ enum {
 };
 
 struct resetd_order {
-  uint8_t op;     /* RESETD_ADD, ..; 0 is no order */
+  uint8_t op;     /* RESETD_ADD, ..; 0 means no order */
   uint8_t a;      /* a node */
-  uint8_t b;      /* the other node of a link, or the group of a node that is added */
-  uint64_t epoch; /* that is confirmed */
+  uint8_t b;      /* the other node of a link, or the group of an added node */
+  uint64_t epoch; /* the confirmed epoch */
 };
 
-/* Keep it on the disk: before a line is sent, and before the next order is written down. */
+/* An order book. Store it on disk before you send a line, and before you record the next order. */
 struct resetd_orders {
   uint64_t last;               /* the number of the last order that was carried out; 0 for none */
-  struct resetd_order in_hand; /* the one whose outcome is not known */
+  struct resetd_order in_hand; /* the order whose outcome is unknown */
 };
 
 enum {
-  RESETD_DONE = 1,       /* it was carried out */
-  RESETD_NOT_DONE = 2,   /* it was refused, and its number is free */
-  RESETD_SEND_AGAIN = 3, /* nothing: send the same line again after a pause */
-  RESETD_COUNT_LOST = 4  /* the count is not the server's: try `last` = 0, 1, 2 and so on until it is another
-                            meaning. A confirm and a reset do no harm twice */
+  RESETD_DONE = 1,       /* the order was carried out */
+  RESETD_NOT_DONE = 2,   /* the order was refused, and its number is free */
+  RESETD_SEND_AGAIN = 3, /* the outcome is unknown: send the same line again after a pause */
+  RESETD_COUNT_LOST = 4  /* the count differs from the server's: try `last` = 0, 1, 2 and so on until the
+                            meaning is another one. A confirm or a reset may safely be repeated */
 };
 
-/* Writes an order down under the next number. */
+/* Records an order under the next number. */
 uint32_t resetd_write_down(struct resetd_orders *orders, const struct resetd_order *order);
 
-/* The line that is to be sent for the order in hand, first or again, with its line feed; no bytes, where
- * there is none. */
+/* Writes the line to send for the order in hand, for the first time or again, with its line feed; empty if no
+ * order is in hand. */
 uint32_t resetd_order_line(const struct resetd_orders *orders, uint8_t client, uint8_t *out, size_t room,
                            size_t *length);
 
-/* Hears the answer to the line that was sent last. Use one connection for each line: a late answer on another one must
- * not be heard. RESETD_BAD_LINE: the line was a fault or torn. */
+/* Handles the answer to the line that was sent last, and writes its meaning. Use a separate connection for each line:
+ * a late answer on another connection must not be passed in. RESETD_BAD_LINE: the line was a fault, or torn. */
 uint32_t resetd_hear(struct resetd_orders *orders, const uint8_t *line, size_t length, uint32_t *meaning);
 
 #ifdef __cplusplus

@@ -1,4 +1,4 @@
--- The results that C gets.
+-- The results that the functions for C return.
 use Rattle.std.specs.Prelude.{◌≡◌, ◌≢◌, ℕ, List, Option, Some, None, Result, Ok, Err, if◌then◌else◌, String, string_bytes}
 use Rattle.std.specs.declared.alloc.Global.{Global}
 use Rattle.std.specs.Str.{IsUtf8}
@@ -60,7 +60,7 @@ pub record IsTagGiven (show : List ℕ) (node : ℕ) (file word room : List ℕ)
   pub is : IsTagged show node file word made
   pub given : IsGiven made room size status
 
--- if an order is not written down, the book is unchanged
+-- the status, and the order book after an order was to be recorded: if it was not, the book is unchanged
 abbrev pub IsKeptAs : Orders → Result Orders Fault → Orders → ℕ → Type 0
 IsKeptAs old (Ok written) new status = (status ≡ 0) × (new ≡ written)
 IsKeptAs old (Err fault) new status = (status ≡ status_of fault) × (new ≡ old)

@@ -1,4 +1,4 @@
--- The other content of a start's file: in one boot of the machine, and for a resource.
+-- The other contents of a start's file: what it says in one boot of the machine, and the fence of the start.
 use Rattle.std.specs.Prelude.{◌≡◌, ◌≤◌, ◌<◌, ◌⊎◌, ℕ, ◌+◌, ◌*◌, ◌^◌, List, [], Option, Some, None, Result, Ok, Err, String, string_bytes}
 use Rattle.std.specs.declared.alloc.Global.{Global}
 use Rattle.std.specs.declared.vec.Vec.{Vec}
@@ -10,7 +10,7 @@ use Rattle.coord_kept.specs.declared.start.Start.{Start}
 use Rattle.resetd_member.specs.declared.status.Fault.{Fault}
 use Rattle.resetd_member.specs.declared.status.Fault.TheVariants.{OutOfMemory, BadStart, BadNumber, NoText}
 
--- the text of a start that a file says in this boot
+-- the text of the start that the file says in this boot, in the form that is valid in any boot
 pub record IsCarriedText (node : ℕ) (file boot text : List ℕ) : Type 0 where
   pub start : Start
   pub read : carried_in boot node file ≡ Some (seen start)
@@ -31,11 +31,11 @@ IsLoaded node epoch boot (Err _) = ⊥
 
 -- ---- a start's fence
 
--- a count and a tag
+-- the values of a fence: a count and a tag
 abbrev pub Brought : Type 0
 Brought = ℕ × String Global
 
--- a later generation is above all counts of one before
+-- the count of a fence; the counts of a later generation are greater than all counts of an earlier one
 abbrev pub fence_count : ℕ → ℕ → ℕ
 fence_count generation settled = generation * 2 ^ 40 + settled
 
@@ -44,7 +44,7 @@ IsFenceBy word generation (Some first) (Some settled) fence = (fence.0 ≡ fence
 IsFenceBy word generation (Some first) None fence = (fence.0 ≡ 0) × (string_bytes fence.1 ≡ [])
 IsFenceBy word generation None settled fence = (fence.0 ≡ 0) × (string_bytes fence.1 ≡ [])
 
--- more steps than a world may have
+-- the number of settled steps is greater than a world can have
 abbrev pub IsTooMany : Option ℕ → Type 0
 IsTooMany None = ⊥
 IsTooMany (Some settled) = 2 ^ 40 < settled
@@ -60,7 +60,7 @@ pub record IsReadFence (node : ℕ) (file : List ℕ) (generation : ℕ) (word :
   pub read : seen_in node file ≡ Some (seen start)
   pub is : IsFenceOf start generation word made
 
--- the reason why there is none
+-- a fence, or the reason why there is none
 abbrev pub IsFenceFor : ℕ → List ℕ → ℕ → List ℕ → Result Brought Fault → Type 0
 IsFenceFor node file generation word (Ok fence) = IsReadFence node file generation word (Ok fence)
 IsFenceFor node file generation word (Err OutOfMemory) = Unit {0}

@@ -1,4 +1,4 @@
--- The action that a view requires of the member of a node, with the texts of its files.
+-- The action that a view requires of the member of a node, with the texts to store in its files.
 use Rattle.std.specs.Prelude.{◌≡◌, ◌<◌, ℕ, ◌==◌, ◌++◌, false, List, [], length, take, Option, Some, None, Result, Ok, Err, if◌then◌else◌, find, is_some, String, string_bytes}
 use Rattle.std.specs.declared.alloc.Global.{Global}
 use Rattle.std.specs.Option.{option_map}
@@ -30,7 +30,7 @@ use Rattle.resetd_member.specs.Status.{due_number}
 
 -- ---- the shown view
 
--- the line shows this row and these to the member of the node, with this many settled steps
+-- the line answers `show`, and shows this row, party and number of settled steps to the member of the node
 pub record IsShown (show : List ℕ) (node : ℕ) (row : Row) (party : List Entry) (settled : ℕ) : Type 0 where
   pub view : Shown
   pub own : NodeView
@@ -39,13 +39,13 @@ pub record IsShown (show : List ℕ) (node : ℕ) (row : Row) (party : List Entr
   pub read : IsReadOf view node own row party
   pub settled_is : settled ≡ view.settled
 
--- the line is an answer to `show`, without the node
+-- the line answers `show`, but the node does not exist
 pub record IsAbsent (show : List ℕ) (node : ℕ) : Type 0 where
   pub view : Shown
   pub shown : shown_in show ≡ Ok view
   pub absent : find (is_of node) view.nodes ≡ None
 
--- why no view was shown
+-- why a line shows the node's member no view
 abbrev pub IsUnseen : List ℕ → ℕ → Fault → Type 0
 IsUnseen show node OutOfMemory = Unit {0}
 IsUnseen show node BadLine = shown_in show ≡ Err NoAnswer
@@ -63,31 +63,31 @@ IsLooked show node (Err fault) = IsUnseen show node fault
 
 -- ---- the due action
 
--- the epoch of the present work, if it is the one that is stored as begun
+-- the epoch of the present work, if it is the one that the file of the start says
 abbrev pub begun_at : Option ℕ → Option ℕ → Option ℕ
 begun_at None work = None
 begun_at (Some epoch) None = None
 begun_at (Some epoch) (Some e) = if epoch == e then Some epoch else None
 
--- the shown entries among those that the start first talked with
+-- the shown entries among those of the party with which the start first talked
 abbrev pub first_known : Start → List Entry → Option (List Entry)
 first_known kept party = option_map (λ lines. known lines.items party) kept.party
 
--- the required text of the file of the start; empty: its present text
+-- the required text of the file of the start after this change; empty if the file does not change
 abbrev pub start_after : ℕ → Option ℕ → List (String Global) → ℕ → Change → List ℕ
 start_after node begun lines settled Keeps = []
 start_after node begun lines settled Drops = start_text node None None None
 start_after node begun lines settled NotesAlone = start_text node begun (Some lines) (Some settled)
 start_after node begun lines settled NotesFirst = start_text node begun (Some lines) (Some settled)
 
--- `line` is the history's line of the shown party
+-- the line to add to the history with this change, or nothing; `line` is the line of the shown party
 abbrev pub line_of_change : List ℕ → Change → List ℕ
 line_of_change line Keeps = []
 line_of_change line Drops = []
 line_of_change line NotesAlone = []
 line_of_change line NotesFirst = line
 
--- where these are shown and kept
+-- the judgement for this view, given the stored start and the result of looking up the party in the history
 pub record IsDueBy (node : ℕ) (row : Row) (party : List Entry) (lines : List (String Global)) (settled : ℕ) (shown_line : List ℕ) (kept : Start) (found : Found) (work : Option ℕ) (j : Judgement) : Type 0 where
   pub due : j.due ≡ due_of (begun_at kept.begun work) (first_known kept party) found.has row party
   pub epoch : j.epoch ≡ row.epoch
@@ -95,7 +95,7 @@ pub record IsDueBy (node : ℕ) (row : Row) (party : List Entry) (lines : List (
   pub line : string_bytes j.line ≡ line_of_change shown_line (change_of j.due (is_some kept.party) party)
   pub size : j.history_size ≡ found.size
 
--- where these are shown, and the files read
+-- the judgement for this view, given the texts of both files
 pub record IsDueOf (node : ℕ) (row : Row) (party : List Entry) (lines : List (String Global)) (settled : ℕ) (file history : List ℕ) (work : Option ℕ) (j : Judgement) : Type 0 where
   pub kept : Start
   pub found : Found
@@ -103,7 +103,7 @@ pub record IsDueOf (node : ℕ) (row : Row) (party : List Entry) (lines : List (
   pub found_is : looked_up history (history_line lines) ≡ Some found
   pub is : IsDueBy node row party lines settled (history_line lines) kept found work j
 
--- why a file can't be read
+-- why a file cannot be read
 abbrev pub IsUnread : ℕ → List ℕ → List ℕ → Fault → Type 0
 IsUnread node file history OutOfMemory = Unit {0}
 IsUnread node file history BadStart = seen_in node file ≡ None
@@ -134,7 +134,7 @@ pub record IsJudgement (show : List ℕ) (node : ℕ) (file history : List ℕ) 
   pub lines_are : AreLinesOf party lines
   pub is : IsDueOf node row party lines settled file history work j
 
--- why nothing is judged
+-- why there is no judgement
 abbrev pub IsUnjudged : List ℕ → ℕ → List ℕ → List ℕ → Fault → Type 0
 IsUnjudged show node file history OutOfMemory = Unit {0}
 IsUnjudged show node file history BadLine = shown_in show ≡ Err NoAnswer
@@ -177,9 +177,9 @@ IsTagged show node file word (Err BadNumber) = from_1_to MAX_NODES node ≡ None
 IsTagged show node file word (Err NoText) = ¬ (IsUtf8 show × IsUtf8 file × IsUtf8 word)
 IsTagged show node file word (Err _) = ⊥
 
--- ---- the judgement as C hears of it
+-- ---- the judgement as C receives it
 
--- the start's text and the history's line follow one another
+-- the text in the caller's buffer: the text for the file of the start, followed by the line for the history
 abbrev pub out_of : Judgement → List ℕ
 out_of j = string_bytes j.start ++ string_bytes j.line
 
@@ -202,7 +202,7 @@ pub record IsJudgedInto (show : List ℕ) (node : ℕ) (file history : List ℕ)
   pub is : IsJudgement show node file history work judgement
   pub out : IsOut judgement room judged
 
--- there is no room for the text of the judgement
+-- the caller's buffer is too small for the texts of the judgement
 pub record IsTooLong (show : List ℕ) (node : ℕ) (file history : List ℕ) (work : Option ℕ) (room : List ℕ) : Type 0 where
   pub judgement : Judgement
   pub is : IsJudgement show node file history work judgement

@@ -1,4 +1,4 @@
--- Orders as numbers, and their effect on the order book.
+-- Orders as numbers, and the calls of the order book over them.
 use Rattle.std.specs.Prelude.{◌≡◌, ℕ, ◌+◌, ◌^◌, ◌-◌, ◌==◌, List, [], Option, Some, None, option_and_then, Result, Ok, Err, if◌then◌else◌}
 use Rattle.std.specs.Option.{option_map}
 use Rattle.coord_types.specs.declared.limits.TheConstants.{MAX_CLIENTS, MAX_GROUPS, MAX_NODES}
@@ -64,7 +64,7 @@ kept_of o = if o.in_hand.op == 0 then Some (record { last = o.last; in_hand = No
 abbrev pub orders_of : Kept → Orders
 orders_of kept = record { last = kept.last; in_hand = order_with kept.in_hand }
 
--- ---- what the book makes of them
+-- ---- the calls of the order book
 
 abbrev pub written_in : Option OrderBook → Result Orders Fault
 written_in None = Err InHand
@@ -75,7 +75,7 @@ written_by None x = Err BadNumber
 written_by (Some kept) None = Err BadNumber
 written_by (Some kept) (Some x) = written_in (written (opened kept) x)
 
--- an order is written down under the next number
+-- the book after an order is recorded under the next number
 abbrev pub written_down : Orders → Order → Result Orders Fault
 written_down orders order = written_by (kept_of orders) (command_of order)
 
@@ -106,6 +106,6 @@ heard_by None answer = Err BadNumber
 heard_by (Some kept) (Err fault) = Err BadLine
 heard_by (Some kept) (Ok a) = if kept.last == 2 ^ 64 - 1 then Err BadNumber else Ok (heard_as kept (meaning_of a))
 
--- the answer to the line that was sent last
+-- the book after the answer to the line that was sent last, and the meaning of that answer
 abbrev pub heard_in : Orders → List ℕ → Result Heard Fault
 heard_in orders line = heard_by (kept_of orders) (answer_in line)

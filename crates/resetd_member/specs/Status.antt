@@ -25,12 +25,12 @@ due_number Wait = 2
 due_number Begin = 3
 due_number Reset = 4
 
--- the text is at the beginning, or there is no room for it
+-- the text is at the beginning of the buffer, or the buffer is too small for it
 abbrev pub IsPut : List ℕ → List ℕ → Result Unit Fault → Type 0
 IsPut text room (Ok done) = take (length text) room ≡ text
 IsPut text room (Err fault) = (fault ≡ NoRoom) × (length room < length text)
 
--- the text that was made, at the beginning of the room for it, or why it is not
+-- the text is at the beginning of the buffer, or the status says why it is not
 abbrev pub IsGiven : Result (String Global) Fault → List ℕ → ℕ → ℕ → Type 0
 IsGiven (Ok text) room size status =
     ((status ≡ 0) × (size ≡ length (string_bytes text)) × (take size room ≡ string_bytes text)) ⊎ ((status ≡ status_of NoRoom) × (length room < length (string_bytes text)))

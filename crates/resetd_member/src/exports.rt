@@ -30,7 +30,8 @@ fn work_of(work: Work) -> Option<u64>
     }
 }
 
-/// Judges a line that answers `show`, for the member of a node with these files and this work.
+/// Judges a line that answers `show`, for the member of a node, from the contents of its files and
+/// the epoch of its present work. Writes the texts to store to `out`.
 #[unsafe(no_mangle)]
 pub extern "C" fn resetd_judge(
     alloc: Global,
@@ -53,7 +54,8 @@ pub extern "C" fn resetd_judge(
     }
 }
 
-/// Writes the text for the file of a start, once the common start is loaded for an epoch.
+/// Writes the text for the file of the start once the common start for an epoch is loaded. The text
+/// is valid in any boot.
 #[unsafe(no_mangle)]
 pub extern "C" fn resetd_begun(
     alloc: Global,
@@ -71,7 +73,8 @@ pub extern "C" fn resetd_begun(
     give(text, out, length)
 }
 
-/// The same with the name of the boot in which it is valid.
+/// Writes the text for the file of the start once the common start for an epoch is loaded, in a
+/// form that is valid only in the boot with this name.
 #[unsafe(no_mangle)]
 pub extern "C" fn resetd_loaded(
     alloc: Global,
@@ -86,7 +89,8 @@ pub extern "C" fn resetd_loaded(
     give(loaded(alloc, node, epoch, boot), out, length)
 }
 
-/// Writes the meaning of the file of a start in the boot of this name.
+/// Writes what the file of a start says in the boot with this name, as the text that `resetd_judge`
+/// takes.
 #[unsafe(no_mangle)]
 pub extern "C" fn resetd_carried(
     alloc: Global,
@@ -101,7 +105,8 @@ pub extern "C" fn resetd_carried(
     give(carried(alloc, node, start, boot), out, length)
 }
 
-/// Writes the fence of the start in a file.
+/// Writes the fence of the start in a file: its count and its tag. The tag is empty if the start
+/// has no fence yet.
 #[unsafe(no_mangle)]
 pub extern "C" fn resetd_fence(
     alloc: Global,
@@ -124,8 +129,8 @@ pub extern "C" fn resetd_fence(
     }
 }
 
-/// Returns the tag of a start that is due to talk. `start` is its file as it was stored; `word` is
-/// the group's.
+/// Writes the tag of a start that is due to talk. `start` is the content of its file after the
+/// judgement was stored; `word` is the first line of each digest, or empty if the group has none.
 #[unsafe(no_mangle)]
 pub extern "C" fn resetd_tag(
     alloc: Global,
@@ -141,7 +146,7 @@ pub extern "C" fn resetd_tag(
     give(tag_of_bytes(alloc, show, node, start, word), out, length)
 }
 
-/// Whether a message with the tag `other` belongs to the run of `own`.
+/// Returns whether a message with the tag `other` belongs to the run of `own`, its receiver's tag.
 #[unsafe(no_mangle)]
 pub extern "C" fn resetd_is_same_run(own: &[u8], other: &[u8]) -> bool
     ensures { result ≡ tag.is_same_run own.now other.now }
@@ -149,7 +154,7 @@ pub extern "C" fn resetd_is_same_run(own: &[u8], other: &[u8]) -> bool
     coord_kept::is_same_run(own, other)
 }
 
-/// Whether two starts reject each other forever.
+/// Returns whether two starts with these tags will always refuse each other's messages.
 #[unsafe(no_mangle)]
 pub extern "C" fn resetd_are_parted(own: &[u8], other: &[u8]) -> bool
     ensures { result ≡ tag.are_parted own.now other.now }
@@ -157,7 +162,7 @@ pub extern "C" fn resetd_are_parted(own: &[u8], other: &[u8]) -> bool
     coord_kept::are_parted(own, other)
 }
 
-/// Writes an order down under the next number.
+/// Records an order under the next number.
 #[unsafe(no_mangle)]
 pub extern "C" fn resetd_write_down(orders: &mut Orders, order: &Order) -> u32
     ensures { IsWrittenAs orders.old order.now orders.new result }
@@ -171,7 +176,8 @@ pub extern "C" fn resetd_write_down(orders: &mut Orders, order: &Order) -> u32
     }
 }
 
-/// Writes the line to send, for the first time or again.
+/// Writes the line to send for the order in hand, for the first time or again. It is empty if no
+/// order is in hand.
 #[unsafe(no_mangle)]
 pub extern "C" fn resetd_order_line(
     alloc: Global,
@@ -185,7 +191,7 @@ pub extern "C" fn resetd_order_line(
     give(line_for(alloc, *orders, client), out, length)
 }
 
-/// Hears the answer to the line that was sent last.
+/// Handles the answer to the line that was sent last, and writes its meaning.
 #[unsafe(no_mangle)]
 pub extern "C" fn resetd_hear(
     alloc: Global,

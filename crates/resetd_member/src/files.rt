@@ -1,5 +1,5 @@
-//! The meanings of the file of a start beside a judgement: in one boot of the machine, and for a
-//! resource.
+//! Reads the file of a start for purposes other than a judgement: its meaning in one boot of the
+//! machine, and the start's fence.
 
 ghost use Rattle.std.specs.Prelude.{◌≡◌, ◌<◌, ◌^◌, IfOk, string_bytes};
 ghost use Rattle.std.specs.Option.{option_map};
@@ -10,13 +10,14 @@ use crate::status::{Fault, text_of};
 use coord_kept::{ReadFault, Start, carried_start, fence_tag, loaded_text, read_start, start_text};
 use std::alloc::{AllocError, Global};
 
-/// A generation is below this.
+/// One more than the greatest generation.
 const GENERATIONS: u32 = 8_388_608;
 
-/// The maximum number of steps of a world: a later generation's counts are above all of one before.
+/// The maximum number of steps of a world: counts of a later generation are greater than all counts
+/// of an earlier one.
 const COUNTS: u64 = 1_099_511_627_776;
 
-/// The text of the file of this start, which is valid in any boot.
+/// Returns the text of the file of this start, in the form that is valid in any boot.
 fn text_with(alloc: Global, node: u8, start: &Start) -> Result<String, AllocError>
     ensures { IfOk result (λ text. string_bytes text ≡ kept.start_text node start.now.begun (option_map (λ lines. lines.items) start.now.party) start.now.count) }
 {
@@ -32,7 +33,7 @@ fn text_with(alloc: Global, node: u8, start: &Start) -> Result<String, AllocErro
     }
 }
 
-/// Returns the meaning of a file in this boot, as the text for a judgement.
+/// Returns what a file says in this boot, as the text that a judgement takes.
 pub(crate) fn carried(alloc: Global, node: u8, file: &[u8], boot: &[u8]) -> Result<String, Fault>
     ensures { IsCarried node file.now boot.now result }
 {
@@ -48,7 +49,8 @@ pub(crate) fn carried(alloc: Global, node: u8, file: &[u8], boot: &[u8]) -> Resu
     Ok(text?)
 }
 
-/// Returns the text of the file once the common start is loaded, which is valid in this boot.
+/// Returns the text of the file once the common start is loaded, in the form that is valid only in
+/// this boot.
 pub(crate) fn loaded(alloc: Global, node: u8, epoch: u64, boot: &[u8]) -> Result<String, Fault>
     ensures { IsLoaded node epoch boot.now result }
 {
@@ -56,8 +58,8 @@ pub(crate) fn loaded(alloc: Global, node: u8, epoch: u64, boot: &[u8]) -> Result
     Ok(loaded_text(alloc, node, epoch, boot)?)
 }
 
-/// The count and the tag of the fence of a start that has talked. One that has not, or whose file
-/// has no count, has none: the tag is empty.
+/// Returns the count and the tag of a start's fence. The tag is empty if the start has no fence: it
+/// has not talked, or its file has no count.
 fn fence_of(
     alloc: Global,
     start: &Start,
@@ -78,7 +80,7 @@ fn fence_of(
     Ok((count, tag))
 }
 
-/// The fence of the start in a file.
+/// Returns the fence of the start in a file.
 pub(crate) fn fence_in(
     alloc: Global,
     node: u8,

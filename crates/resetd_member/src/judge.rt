@@ -16,7 +16,7 @@ use coord_types::NodeId;
 use coord_wire::read_show;
 use std::alloc::{AllocError, Global};
 
-/// The view as it is shown to the member of a node.
+/// The part of a view that the member of a node sees.
 #[derive(Drop, Debug)]
 pub struct Sight {
     pub look: Look,
@@ -24,17 +24,17 @@ pub struct Sight {
     pub settled: u64,
 }
 
-/// The due action for a view, and what must be on disk before it.
+/// The due action for a view, and the texts that must be on disk before it.
 #[derive(Drop, Debug)]
 pub struct Judgement {
     pub due: Due,
     /// The shown epoch.
     pub epoch: u64,
-    /// The required text of the file of the start; empty: it stays unchanged.
+    /// The required text of the file of the start; empty if the file does not change.
     pub start: String,
-    /// The line to add to the history before that; empty: none.
+    /// The line to add to the history before that; empty if there is none.
     pub line: String,
-    /// The offset of the line in the history.
+    /// The offset in the history at which to write the line.
     pub history_size: usize,
 }
 
@@ -47,15 +47,16 @@ pub struct Judged {
     pub due: u32,
     /// The shown epoch.
     pub epoch: u64,
-    /// The number of bytes of the required text of the file of the start; 0: it stays unchanged.
+    /// The length of the required text of the file of the start, in bytes; 0 if the file does not
+    /// change.
     pub start_length: usize,
-    /// The number of bytes of the line; 0: the history gets none.
+    /// The length of the line for the history, in bytes; 0 if there is none.
     pub line_length: usize,
-    /// The offset of the line in the history.
+    /// The offset in the history at which to write the line.
     pub history_size: usize,
 }
 
-/// The view that a line shows to the member of a node.
+/// Returns what a line that answers `show` shows to the member of a node.
 pub(crate) fn look_at(alloc: Global, show: &str, node: NodeId) -> Result<Sight, Fault>
     ensures { IsLooked show.now node result }
 {
@@ -74,7 +75,7 @@ pub(crate) fn look_at(alloc: Global, show: &str, node: NodeId) -> Result<Sight, 
     }
 }
 
-/// The epoch of the present work, if it is the one that is stored as begun.
+/// Returns the epoch of the present work, if it is the one that the file of the start says.
 fn begun_at(kept: Option<u64>, work: Option<u64>) -> Option<u64>
     ensures { result ≡ begun_at kept work }
 {
@@ -84,7 +85,7 @@ fn begun_at(kept: Option<u64>, work: Option<u64>) -> Option<u64>
     }
 }
 
-/// The due action.
+/// Returns the due action.
 fn due_at(
     alloc: Global,
     begun: Option<u64>,
@@ -111,7 +112,8 @@ fn due_at(
     }
 }
 
-/// The required text of the file of the start after a change.
+/// Returns the required text of the file of the start after a change; empty if the file does not
+/// change.
 fn start_after(
     alloc: Global,
     node: u8,
@@ -131,7 +133,8 @@ fn start_after(
     }
 }
 
-/// The line to add to the history with a change; `line` is that of the shown party.
+/// Returns the line to add to the history with a change, or an empty one. `line` is the line of the
+/// shown party.
 fn line_after(alloc: Global, line: &str, change: Change) -> Result<String, AllocError>
     ensures { IfOk result (λ text. string_bytes text ≡ line_of_change line.now change) }
 {
@@ -141,7 +144,7 @@ fn line_after(alloc: Global, line: &str, change: Change) -> Result<String, Alloc
     }
 }
 
-/// The meaning of the file of a start.
+/// Returns the start in the text of its file.
 fn read(alloc: Global, node: u8, file: &str) -> Result<Start, Fault>
     ensures { IsRead node file.now result }
 {
@@ -152,7 +155,8 @@ fn read(alloc: Global, node: u8, file: &str) -> Result<Start, Fault>
     }
 }
 
-/// The due action for the stored values, and the change.
+/// Returns the judgement for the stored start and the result of looking up the party in the
+/// history.
 fn judged_by(
     alloc: Global,
     node: u8,
@@ -178,7 +182,7 @@ fn judged_by(
     })
 }
 
-/// Judges a view for the member of a node, by the lines of the shown party.
+/// Judges a view for the member of a node, given the lines of the shown party.
 fn judged_with(
     alloc: Global,
     node: u8,
@@ -212,7 +216,7 @@ fn judged_with(
     Ok(judged?)
 }
 
-/// Judges a view for the member of a node, by the texts of its files.
+/// Judges a view for the member of a node, given the texts of its files.
 pub(crate) fn judge(
     alloc: Global,
     show: &str,
@@ -239,7 +243,7 @@ pub(crate) fn judge(
     judged
 }
 
-/// The tag of the start in a file, if a line shows these to it; empty: it has none.
+/// Returns the tag of the start in a file for the view that a line shows; empty if it has none.
 pub(crate) fn tag(
     alloc: Global,
     show: &str,
@@ -262,7 +266,7 @@ pub(crate) fn tag(
     Ok(tag?)
 }
 
-/// A text with another one after it.
+/// Returns a text followed by another one.
 fn joined(mut text: String, behind: &str) -> Result<String, AllocError>
     ensures { IfOk result (λ both. string_bytes both ≡ string_bytes text ++ behind.now) }
 {
@@ -270,7 +274,7 @@ fn joined(mut text: String, behind: &str) -> Result<String, AllocError>
     Ok(text)
 }
 
-/// Puts the texts of a judgement into the buffer.
+/// Copies the texts of a judgement into the buffer.
 fn put_texts(judgement: Judgement, out: &mut [u8]) -> Result<Judged, Fault>
     ensures { IsPutOf judgement out.new result }
 {
@@ -297,7 +301,8 @@ fn put_texts(judgement: Judgement, out: &mut [u8]) -> Result<Judged, Fault>
     Ok(judged)
 }
 
-/// Judges a view for the member of a node, by bytes, and puts the texts into the buffer.
+/// Judges a view for the member of a node, given the bytes of all texts, and copies the resulting
+/// texts into the buffer.
 pub(crate) fn judge_into(
     alloc: Global,
     show: &[u8],
@@ -318,7 +323,7 @@ pub(crate) fn judge_into(
     put_texts(judgement, out)
 }
 
-/// The tag, from bytes.
+/// Returns the tag of a start, given the bytes of all texts.
 pub(crate) fn tag_of_bytes(
     alloc: Global,
     show: &[u8],

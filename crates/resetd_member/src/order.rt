@@ -6,8 +6,9 @@ ghost use Rattle.resetd_member.specs.Orders.{command_of, kept_of, order_of, orde
 use coord_orders::Kept;
 use coord_types::{Command, Group, NodeId};
 
-/// An order. `op` is 1 to 6: add, remove, join, drop, reset, confirm; 0 is no order. `a` is a node,
-/// `b` the other node of a link or the group of an added node, and `epoch` the confirmed epoch.
+/// An order. `op` is 1 to 6: add, remove, join, drop, reset, confirm; 0 means no order. `a` is a
+/// node, `b` the other node of a link or the group of an added node, and `epoch` the confirmed
+/// epoch.
 #[repr(C)]
 #[derive(Clone, Copy, Debug, PartialEq, Eq)]
 pub struct Order {
@@ -17,7 +18,7 @@ pub struct Order {
     pub epoch: u64,
 }
 
-/// The order book: the number of the last order that was carried out, and the one in hand.
+/// An order book: the number of the last order that was carried out, and the order in hand.
 #[repr(C)]
 #[derive(Clone, Copy, Debug, PartialEq, Eq)]
 pub struct Orders {
@@ -25,7 +26,7 @@ pub struct Orders {
     pub in_hand: Order,
 }
 
-/// The order of these numbers; None if one is out of its range.
+/// Returns the order with these numbers, or None if one of them is out of range.
 pub(crate) fn command_of(order: Order) -> Option<Command>
     ensures { result ≡ command_of order }
 {
@@ -40,7 +41,7 @@ pub(crate) fn command_of(order: Order) -> Option<Command>
     }
 }
 
-/// The numbers of an order.
+/// Returns the numbers of an order.
 pub(crate) fn order_of(command: &Command) -> Order
     ensures { result ≡ order_of command.now }
 {
@@ -60,7 +61,7 @@ fn numbers(op: u8, a: u8, b: u8, epoch: u64) -> Order
     Order { op, a, b, epoch }
 }
 
-/// The book of these numbers; None if one is out of its range.
+/// Returns the book with these numbers, or None if one of them is out of range.
 pub(crate) fn kept_of(orders: Orders) -> Option<Kept>
     ensures { result ≡ kept_of orders }
 {
@@ -76,7 +77,7 @@ pub(crate) fn kept_of(orders: Orders) -> Option<Kept>
     })
 }
 
-/// The numbers of a book.
+/// Returns the numbers of a book.
 pub(crate) fn orders_of(kept: &Kept) -> Orders
     ensures { result ≡ orders_of kept.now }
 {

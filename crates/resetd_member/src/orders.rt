@@ -1,4 +1,4 @@
-//! The order book over orders as numbers.
+//! The calls of the order book, over orders as numbers.
 
 ghost use Rattle.std.specs.Prelude.{◌≡◌, ◌≢◌, Ok, Err, IfOk, IfErr, string_bytes};
 ghost use Rattle.resetd_member.specs.Orders.{heard_in, line_for, meaning_number, written_down};
@@ -18,7 +18,7 @@ pub struct Heard {
     pub meaning: u32,
 }
 
-/// Writes an order down under the next number.
+/// Records an order under the next number.
 pub(crate) fn write_down(orders: Orders, order: Order) -> Result<Orders, Fault>
     ensures { result ≡ written_down orders order }
 {
@@ -34,7 +34,7 @@ pub(crate) fn write_down(orders: Orders, order: Order) -> Result<Orders, Fault>
     }
 }
 
-/// Writes the line to send, for the first time or again; empty: no order is in hand.
+/// Returns the line to send, for the first time or again; empty if no order is in hand.
 pub(crate) fn line_for(alloc: Global, orders: Orders, client: u8) -> Result<String, Fault>
     ensures line { IfOk result (λ text. line_for orders client ≡ Ok (string_bytes text)) }
     ensures fault { IfErr result (λ fault. fault ≢ OutOfMemory → line_for orders client ≡ Err fault) }
@@ -55,7 +55,7 @@ pub(crate) fn line_for(alloc: Global, orders: Orders, client: u8) -> Result<Stri
     Ok(text)
 }
 
-/// The number of a meaning.
+/// Returns the number of a meaning.
 fn meaning_number(meaning: Meaning) -> u32
     ensures { result ≡ meaning_number meaning }
 {
@@ -67,8 +67,8 @@ fn meaning_number(meaning: Meaning) -> u32
     }
 }
 
-/// Hears the answer to the line that was sent last. Each line has its own connection, or no line is
-/// sent before the previous one is answered: so no other answer comes.
+/// Handles the answer to the line that was sent last. The caller uses a separate connection for
+/// each line, or sends no line before the previous one is answered, so no other answer can arrive.
 pub(crate) fn hear(alloc: Global, orders: Orders, line: &str) -> Result<Heard, Fault>
     ensures { result ≢ Err OutOfMemory → result ≡ heard_in orders line.now }
 {

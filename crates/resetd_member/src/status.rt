@@ -7,23 +7,23 @@ ghost use Rattle.resetd_member.specs.declared.status.Fault.TheVariants.{OutOfMem
 use coord_member::Due;
 use std::alloc::AllocError;
 
-/// Why a call returned nothing.
+/// The reason for which a call returned nothing.
 #[derive(Clone, Copy, Debug, PartialEq, Eq)]
 pub enum Fault {
     OutOfMemory,
-    /// The text has more bytes than the buffer.
+    /// The text is longer than the buffer.
     NoRoom,
     /// The line is not the required answer.
     BadLine,
-    /// The node is not in it.
+    /// The answer to `show` does not have the node.
     NoNode,
-    /// The file of the start does not read.
+    /// The file of the start cannot be read.
     BadStart,
-    /// The file of the history does not read.
+    /// The file of the history cannot be read.
     BadHistory,
-    /// A number is out of its range.
+    /// A number is out of range.
     BadNumber,
-    /// An order is in hand already.
+    /// Another order is already in hand.
     InHand,
     /// A text is not UTF-8.
     NoText,
@@ -37,7 +37,7 @@ impl From<AllocError> for Fault {
     }
 }
 
-/// The number of a status. 0 is for none.
+/// Returns the status of a fault. 0 is the status of success.
 pub(crate) fn status_of(fault: Fault) -> u32
     ensures { result ≡ status_of fault }
 {
@@ -54,7 +54,7 @@ pub(crate) fn status_of(fault: Fault) -> u32
     }
 }
 
-/// The number of a due action.
+/// Returns the number of a due action.
 pub(crate) fn due_number(due: Due) -> u32
     ensures { result ≡ due_number due }
 {
@@ -66,7 +66,7 @@ pub(crate) fn due_number(due: Due) -> u32
     }
 }
 
-/// Copies a text to the beginning of the buffer. Errors: `NoRoom`.
+/// Copies a text to the beginning of the buffer, or returns `NoRoom` if the buffer is too small.
 pub(crate) fn put(out: &mut [u8], text: &[u8]) -> Result<(), Fault>
     ensures { IsPut text.now out.new result }
 {
@@ -78,7 +78,8 @@ pub(crate) fn put(out: &mut [u8], text: &[u8]) -> Result<(), Fault>
     Ok(())
 }
 
-/// Gives a text to C: at the beginning of the room for it, with how many bytes it has.
+/// Copies a text to the beginning of the caller's buffer and sets `length` to its length in bytes.
+/// Returns the status.
 pub(crate) fn give(made: Result<String, Fault>, out: &mut [u8], length: &mut usize) -> u32
     ensures { IsGiven made out.new length.new result }
 {
@@ -95,7 +96,7 @@ pub(crate) fn give(made: Result<String, Fault>, out: &mut [u8], length: &mut usi
     }
 }
 
-/// A text of bytes.
+/// Returns the bytes as a text, or `NoText` if they are not UTF-8.
 pub(crate) fn text_of(bytes: &[u8]) -> Result<&str, Fault>
     ensures { IsTextOf bytes.now result }
 {

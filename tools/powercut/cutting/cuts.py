@@ -1,7 +1,7 @@
 """What a power cut may leave of a disk's writes.
 
-All that was written before the last flush that was answered is there. Of each later write there is all, nothing, or any of its units (512
-or 4,096 bytes, as the device writes them whole), and of a unit that was written several times any of these.
+Everything that was written before the last answered flush is left. Of each later write, all, nothing, or any of its units is
+left (512 or 4,096 bytes, which the device writes as a whole), and of a unit that was written several times any version.
 """
 
 import collections
@@ -13,13 +13,13 @@ from .disk import SECTOR, Entry, Sectors, sectors_of
 from .stores import MAGIC
 
 UNITS = (512, 4_096)
-# The place and the bytes of each write that no flush has made durable.
+# The position and the bytes of each write that no flush has made durable.
 Volatile = list[tuple[int, bytes]]
 
 
 @dataclass
 class Moment:
-    """A place of the list of writes and flushes: what was durable, volatile, answered and signalled there."""
+    """A position in the list of writes and flushes: what was durable, volatile, answered and signalled at that moment."""
 
     place: int = 0
     newly_durable: Sectors = field(default_factory=Sectors)
@@ -41,7 +41,8 @@ class Moment:
 
 
 def moments(log: list[Entry], has_flushes: bool = True) -> Iterator[Moment]:
-    """The moment after each entry of the list; the same object, changed. Without flushes nothing becomes durable."""
+    """Yields the moment after each entry of the list, always as the same object, which changes. Without flushes nothing becomes
+    durable."""
     moment = Moment()
     for place, entry in enumerate(log):
         moment.place, moment.newly_durable = place, Sectors()
@@ -57,7 +58,7 @@ def moments(log: list[Entry], has_flushes: bool = True) -> Iterator[Moment]:
 
 
 def ends_of_checkpoints(log: list[Entry]) -> list[int]:
-    """The places of the writes that change a store's selector."""
+    """Returns the positions of the writes that change a store's selector."""
     last, found = None, []
     for place, entry in enumerate(log):
         if entry[0] != "write":
@@ -72,7 +73,7 @@ def ends_of_checkpoints(log: list[Entry]) -> list[int]:
 
 
 class Cut:
-    """What is left of volatile writes, in one of eight ways, where `unit` bytes are written as a whole."""
+    """What is left of volatile writes, in one of eight ways, if `unit` bytes are written as a whole."""
 
     WAYS = ("lost", "kept", "prefix", "subset", "units", "stale", "only", "but")
 
@@ -86,14 +87,14 @@ class Cut:
         return left
 
     def _lost(self, volatile: Volatile, left: Sectors) -> None:
-        """Nothing."""
+        """Leaves nothing."""
 
     def _kept(self, volatile: Volatile, left: Sectors) -> None:
         for at, data in volatile:
             left.update(sectors_of(at, data))
 
     def _prefix(self, volatile: Volatile, left: Sectors) -> None:
-        """The first writes, and of the next one a beginning, an end, or some units."""
+        """Leaves the first writes, and of the next one a beginning, an end, or some units."""
         count = self._choice.randrange(len(volatile))
         self._kept(volatile[:count], left)
         last = sectors_of(*volatile[count])
@@ -106,12 +107,12 @@ class Cut:
                 left[number] = data
 
     def _subset(self, volatile: Volatile, left: Sectors) -> None:
-        """Some writes, each of them whole."""
+        """Leaves some writes, each of them whole."""
         share = self._choice.choice((0.1, 0.3, 0.5, 0.7, 0.9))
         self._kept([write for write in volatile if self._choice.random() < share], left)
 
     def _units(self, volatile: Volatile, left: Sectors) -> None:
-        """Some units of each write."""
+        """Leaves some units of each write."""
         share = self._choice.choice((0.2, 0.5, 0.8))
         for at, data in volatile:
             is_left = dict[int, bool]()
@@ -123,7 +124,7 @@ class Cut:
                     left[number] = sector
 
     def _stale(self, volatile: Volatile, left: Sectors) -> None:
-        """Each unit as one of its writes left it, or as it was before them."""
+        """Leaves each unit as one of its writes left it, or as it was before them."""
         versions = collections.defaultdict[int, list[Sectors]](list)
         for at, data in volatile:
             of_write = collections.defaultdict[int, Sectors](dict)
@@ -136,10 +137,10 @@ class Cut:
                 left.update(sectors)
 
     def _only(self, volatile: Volatile, left: Sectors) -> None:
-        """One write."""
+        """Leaves only one write."""
         self._kept([self._choice.choice(volatile)], left)
 
     def _but(self, volatile: Volatile, left: Sectors) -> None:
-        """All writes but one."""
+        """Leaves all writes except one."""
         missing = self._choice.randrange(len(volatile))
         self._kept(volatile[:missing] + volatile[missing + 1:], left)

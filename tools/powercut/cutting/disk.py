@@ -1,4 +1,4 @@
-"""A disk with a volatile cache, which keeps a list of all writes and flushes."""
+"""A disk with a volatile cache, which records all writes and flushes."""
 
 import mmap
 import os
@@ -8,19 +8,19 @@ from typing import Literal
 SECTOR = 512
 # Sectors by their numbers.
 Sectors = dict[int, bytes]
-# An entry of the list: a write with its place and bytes, a flush, or the text of a marker.
+# An entry of the list: a write with its position and bytes, a flush, or the text of a marker.
 Write = tuple[Literal["write"], int, bytes]
 Entry = Write | tuple[Literal["flush"]] | tuple[Literal["marker"], str]
 
 
 def sectors_of(at: int, data: bytes) -> Sectors:
-    """The sectors of a write."""
+    """Returns the sectors of a write."""
     return {at // SECTOR + each: data[SECTOR * each:SECTOR * (each + 1)] for each in range(len(data) // SECTOR)}
 
 
 class Disk:
-    """Bytes over a base file, which stays as it is. `log` has the writes and flushes while `is_recording`; otherwise `show` takes
-    them back."""
+    """Bytes over a base file, which stays unchanged. `log` has the writes and flushes while `is_recording`; otherwise `show`
+    undoes them."""
 
     def __init__(self, base: str, is_recording: bool = False) -> None:
         self.size = os.path.getsize(base)
@@ -51,7 +51,8 @@ class Disk:
             self._put(number, data)
 
     def show(self, sectors: Sectors) -> None:
-        """Makes the disk the durable bytes with these sectors over them: what a cut has left. What was written since is gone."""
+        """Makes the disk the durable bytes with these sectors over them, as a cut has left it. Everything written since is
+        dropped."""
         for number in self._changed:
             self._put(number, self.durable.get(number) or self._base[number * SECTOR:(number + 1) * SECTOR])
         self._changed = set(sectors)

@@ -1,4 +1,4 @@
-"""The file systems that are tried, and disks with one of them."""
+"""The file systems to be tried, and disks that contain one of them."""
 
 import os
 import struct
@@ -16,14 +16,15 @@ MKFS = {
     "btrfs": ["mkfs.btrfs", "-f", "-q"],
     "f2fs": ["mkfs.f2fs", "-f", "-q"],
 }
-MEBIBYTES = {"ext4": 160, "xfs": 320, "btrfs": 128, "f2fs": 64}  # about the least of each; ext4 has a second superblock from 128 on
+MEBIBYTES = {"ext4": 160, "xfs": 320, "btrfs": 128, "f2fs": 64}  # about the minimum for each; ext4 has a second superblock from 128 on
 
 
 @dataclass(frozen=True)
 class FileSystem:
-    """A file system with its mount options. `no_barrier` are the options with which it sends no flush, if it has them. `lossy` are those
-    with which it loses answers of a program that syncs as it has to, by the name of a control. `harmless` are the mutants that lose
-    nothing there, each with the reason; `harmful_with` those that lose something only with other options, each with these."""
+    """A file system with its mount options. `no_barrier` are the options with which it sends no flush, if it has any. `lossy`
+    are those with which it loses answers of a program that syncs properly, by the name of a control. `harmless` are the
+    mutants that lose nothing on it, each with the reason; `harmful_with` those that lose something only with other options,
+    each with these."""
 
     name: str
     kind: str
@@ -51,7 +52,7 @@ ALL = {
 
 
 def partition_table(*partitions: tuple[int, int]) -> bytes:
-    """A first sector with these partitions: the place and the size of each."""
+    """Returns a first sector with these partitions: the position and the size of each."""
     table = bytearray(512)
     for number, (at, size) in enumerate(partitions):
         struct.pack_into("<BBBBBBBBII", table, 446 + 16 * number, 0, 0, 2, 0, 0x83, 0, 0, 0, at // 512, size // 512)
@@ -60,7 +61,7 @@ def partition_table(*partitions: tuple[int, int]) -> bytes:
 
 
 def copy_sparse(source: str, target: str, at: int) -> None:
-    """Copies a file to a place of another one, but for blocks of zeroes."""
+    """Copies a file into another one at an offset, except blocks of zeroes."""
     with open(source, "rb") as read, open(target, "r+b") as written:
         while block := read.read(1 << 16):
             if any(block):
@@ -70,7 +71,7 @@ def copy_sparse(source: str, target: str, at: int) -> None:
 
 
 def make_disk(path: str, kind: str) -> None:
-    """Makes a disk with an empty file system and a partition for markers."""
+    """Creates a disk with an empty file system and a partition for markers."""
     size, scratch = MEBIBYTES[kind] * MEBIBYTE, f"{path}.new"
     with open(scratch, "wb") as file:
         file.truncate(size)

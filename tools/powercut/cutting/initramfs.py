@@ -1,4 +1,4 @@
-"""What the machines boot: the agent, the programs that are tried, their libraries, and the kernel's modules."""
+"""The files that the machines boot: the agent, the programs under trial, their libraries, and the kernel's modules."""
 
 import os
 import re
@@ -24,7 +24,7 @@ class File(NamedTuple):
 
 
 def cpio(files: list[File]) -> bytes:
-    """An archive of the form newc, which the kernel unpacks."""
+    """Returns an archive of the form newc, which the kernel unpacks."""
     out = bytearray()
     for number, file in enumerate([*files, File("TRAILER!!!", 0)], 1):
         name = file.name.encode() + b"\0"
@@ -47,19 +47,19 @@ def build_agent(work: str) -> bytes:
 
 
 def build_late_syncs(work: str) -> bytes:
-    """The library that makes syncs late."""
+    """Builds the library that delays syncs."""
     path = f"{work}/late_syncs.so"
     subprocess.run(["cc", "-O1", "-shared", "-fPIC", "-Wall", "-Wextra", "-D_GNU_SOURCE", "-o", path, f"{GUEST}/late_syncs.c"], check=True)
     return read(path)
 
 
 def program_path(number: int) -> str:
-    """Where the machine has the program with this number."""
+    """Returns the path of the program with this number in the machine."""
     return f"/bin/program{number}"
 
 
 def files_of_programs(programs: list[str]) -> list[File]:
-    """The programs and their libraries, with the folders of these."""
+    """Returns the programs and their libraries, with the folders of these."""
     files, paths = list[File](), set[str]()
     for number, program in enumerate(programs):
         files.append(File(program_path(number)[1:], PROGRAM, read(program)))
@@ -76,7 +76,7 @@ def files_of_modules(paths: list[str]) -> list[File]:
 
 
 def build(work: str, programs: list[str]) -> str:
-    """Builds what both machines boot, in the folder WORK: what was built. Raises Missing."""
+    """Builds in the folder WORK what both machines boot. Returns what was built. Raises Missing."""
     os.makedirs(work, exist_ok=True)
     version, user_version = get_kernel(work), get_user_kernel(work)
     common = [*files_of_programs(programs), File("dev/console", CONSOLE, device=(5, 1)), File("init", PROGRAM, build_agent(work)),

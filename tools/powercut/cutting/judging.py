@@ -1,5 +1,5 @@
-"""Images that a cut may leave, each judged: is the store legal, does it have all that was answered and signalled, and is it of the one
-history of its run?"""
+"""Judges images that a cut may leave: is the store legal, does it have everything that was answered and signalled, and does it
+belong to the one history of its run?"""
 
 import collections
 import hashlib
@@ -19,15 +19,15 @@ from .recording import Run, load_run
 from .stores import History
 from .verdicts import Disagreement, Looker, Verdict, hung, judge_image
 
-INSIDE = 25  # the machine's own program looks at one image of this many
+INSIDE = 25  # the machine's own program checks one image out of this many
 MOST_TOLD = 8
 BEFORE_MIGRATED = ("start", "made", "migrating")
 
 
 @dataclass(frozen=True)
 class Places:
-    """Where a run is cut: in these phases, near the ends of checkpoints, or just after an answer or a signal was marked; anywhere after
-    its begin if nothing is named."""
+    """The moments at which a run is cut: in these phases, near the ends of checkpoints, or just after an answer or a signal was
+    marked. If nothing is given, any moment after its beginning."""
 
     phases: tuple[str, ...] = ()
     is_near_checkpoints: bool = False
@@ -45,7 +45,7 @@ class Places:
 
 
 class Image(NamedTuple):
-    """Which image it is."""
+    """Identifies an image."""
 
     place: int
     phase: str
@@ -56,9 +56,9 @@ class Image(NamedTuple):
 
 @dataclass
 class Tally:
-    """What became of the images. `refused` are those that the file system did not mount or gave no file of, or whose store the
-    program refused; `lost` those in which something answered is missing, or that have another history. By the bytes of a unit.
-    `faults` are those that may not be: a lost one, or a refused one where 4,096 bytes are written whole. `told` has all."""
+    """The outcomes of the images, by the bytes of a unit. `refused` are those that the file system did not mount or gave no
+    file of, or whose store the program refused; `lost` those that lack an answer, or have another history. `faults` are
+    those that may not occur: a lost one, or a refused one if 4,096 bytes are written as a whole. `told` has all."""
 
     images: collections.Counter[int] = field(default_factory=collections.Counter)
     refused: collections.Counter[int] = field(default_factory=collections.Counter)
@@ -93,13 +93,13 @@ class Tally:
 
 
 def key_of(sectors: Sectors, durable: Sectors) -> bytes:
-    """The same for images with the same bytes."""
+    """Returns a key that is equal for images with the same bytes."""
     changed = (struct.pack(">Q", number) + sectors[number] for number in sorted(sectors) if durable.get(number) != sectors[number])
     return hashlib.sha256(b"".join(changed)).digest()
 
 
 class Judge:
-    """Judges images of one run, in a machine that is started again if it hangs."""
+    """Judges the images of one run, in a machine that is restarted if it hangs."""
 
     def __init__(self, make: Maker, folder: str, program: str, has_flushes: bool = True) -> None:
         self._make, self._folder, self._has_flushes = make, folder, has_flushes
@@ -107,13 +107,13 @@ class Judge:
         self._disk, self._looker = Disk(f"{folder}/base"), Looker(program, self.run.mutant)
         self._machine: Machine | None = None
         self.history, self.tally = History(), Tally()
-        self._known = dict[bytes, Verdict]()  # verdicts over the bytes that are durable now
+        self._known = dict[bytes, Verdict]()  # verdicts for the bytes that are durable now
         if has_flushes and os.path.exists(f"{folder}/history"):
             with open(f"{folder}/history", "rb") as file:
                 self.history = pickle.load(file)
 
     def judge(self, images: int, seed: int, places: Places = Places(), is_until_fault: bool = False) -> Tally:
-        """Judges this many images, or until the first fault. There are none if the run has no such place."""
+        """Judges this many images, or until the first fault. Judges none if the run has no such moment."""
         choice = random.Random(seed)
         where = places.of(self.log, self._has_flushes)
         wanted = collections.Counter(choice.choice(where) for _ in range(images)) if where else collections.Counter[int]()
@@ -130,7 +130,7 @@ class Judge:
         return self.tally
 
     def _moments(self, wanted: collections.Counter[int]) -> Iterator[Moment]:
-        """The moments that are wanted, with all that was durable there on the disk."""
+        """Yields the moments that are wanted, with everything that was durable at each on the disk."""
         for moment in moments(self.log, self._has_flushes):
             if moment.newly_durable:
                 self._disk.settle(moment.newly_durable)
@@ -153,7 +153,7 @@ class Judge:
         self.tally.note(image, verdict, disagreement or self._lost(image, moment, verdict))
 
     def _look(self, left: Sectors) -> Verdict:
-        """The machine's verdict, at the second try if it hangs at the first."""
+        """Returns the machine's verdict, from a second try if it hangs at the first."""
         for is_last in (False, True):
             try:
                 if self._machine is None:
@@ -172,7 +172,7 @@ class Judge:
         raise AssertionError
 
     def _lost(self, image: Image, moment: Moment, verdict: Verdict) -> str | None:
-        """What a legal store lacks; None if it lacks nothing."""
+        """Describes what a legal store lacks, or returns None if it lacks nothing."""
         if verdict.kind != "legal" or verdict.content is None:
             return None
         if verdict.count < image.answered:
@@ -186,7 +186,7 @@ class Judge:
         return self.history.differs(verdict.content)
 
     def _save(self) -> None:
-        """Keeps the history for the next judgement of this run."""
+        """Saves the history for the next judgement of this run."""
         if self._has_flushes:
             with open(f"{self._folder}/history", "wb") as file:
                 pickle.dump(self.history, file)

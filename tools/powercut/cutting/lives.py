@@ -1,4 +1,4 @@
-"""A further life: a disk that was cut goes on, and all that was answered before the cut stays owed."""
+"""A further life: a disk that was cut is used again, and must still have everything that was answered before the cut."""
 
 import dataclasses
 import os
@@ -22,7 +22,7 @@ def put(path: str, sectors: Sectors) -> None:
 
 
 def cut_disk(folder: str, new: str, seed: int) -> None:
-    """Makes a folder whose disk is one that a cut of the run in `folder` may leave, in its last three quarters."""
+    """Creates a folder with a disk as a cut of the run in `folder` may leave it, in its last three quarters."""
     choice, (run, log) = random.Random(seed), load_run(folder)
     places = [moment.place for moment in moments(log) if moment.answered]
     place = choice.choice(places[len(places) // 4:])

@@ -20,18 +20,18 @@ COMMAND_LINE = "console=ttyS0 panic=-1 oops=panic quiet loglevel=4 mitigations=o
 
 
 class Gone(Exception):
-    """The machine does not answer; the text is what its console said last."""
+    """The machine does not answer. The text is the last output of its console."""
 
 
 class Refused(Exception):
-    """The machine did not do what it was asked to."""
+    """The machine did not do what it was asked to do."""
 
 
 class Machine:
-    """What both machines have: an agent at the other end of a socket, which takes an order and answers it."""
+    """The common part of both machines: an agent at the other end of a socket, which takes an order and answers it."""
 
     def __init__(self, work: str, disk: Disk) -> None:
-        """Boots it with what WORK has, over a disk. Raises Gone and Refused."""
+        """Boots the machine with the files in WORK, over a disk. Raises Gone and Refused."""
         self.folder = tempfile.mkdtemp(prefix="powercut-")
         self.console = f"{self.folder}/console"
         self._processes = list[subprocess.Popen[bytes]]()
@@ -46,11 +46,11 @@ class Machine:
             raise
 
     def _boot(self, work: str) -> socket.socket:
-        """Starts the processes: the socket at whose other end the agent will be. Raises Gone."""
+        """Starts the processes. Returns the socket at whose other end the agent will be. Raises Gone."""
         raise NotImplementedError
 
     def _prepare(self) -> None:
-        """What the agent has to do first. Raises Gone and Refused."""
+        """Prepares the agent. Raises Gone and Refused."""
 
     def _start(self, *words: str, files: tuple[int, ...] = (), output: str | None = None) -> None:
         with open(output or os.devnull, "ab") as out:
@@ -63,7 +63,7 @@ class Machine:
             pass
 
     def ask(self, *words: object, data: bytes = b"", seconds: float = 300) -> tuple[int, bytes, bytes]:
-        """Gives an order: its status, what was printed, and what was printed as errors. Raises Gone."""
+        """Gives an order. Returns its status, its output, and its error output. Raises Gone."""
         until = time.monotonic() + seconds
         try:
             self._socket.sendall("\t".join(map(str, words)).encode() + b"\n" + data)
@@ -79,7 +79,7 @@ class Machine:
         return status, out[:printed], out[printed:]
 
     def must(self, *words: object, data: bytes = b"", seconds: float = 300) -> bytes:
-        """Gives an order that has to succeed: what was printed. Raises Gone and Refused."""
+        """Gives an order that has to succeed. Returns its output. Raises Gone and Refused."""
         status, printed, errors = self.ask(*words, data=data, seconds=seconds)
         if status:
             raise Refused(f"{' '.join(map(str, words[:4]))}: {status} {(printed + errors)[-2000:].decode(errors='replace')}")
@@ -97,7 +97,7 @@ class Machine:
         self._socket.close()
 
     def _end_processes(self) -> None:
-        """Signal 9 to all that was started."""
+        """Kills all started processes by signal 9."""
         for process in self._processes:
             os.killpg(process.pid, signal.SIGKILL) if process.poll() is None else None
             process.wait()
@@ -120,7 +120,7 @@ class Machine:
 
 
 class Qemu(Machine):
-    """QEMU with Debian's kernel, in software unless POWERCUT_ACCEL names something else (kvm)."""
+    """QEMU with Debian's kernel, emulated in software unless POWERCUT_ACCEL names another accelerator (kvm)."""
 
     def _boot(self, work: str) -> socket.socket:
         listener = socket.socket(socket.AF_UNIX)
@@ -142,8 +142,8 @@ class Qemu(Machine):
 
 
 class UserModeLinux(Machine):
-    """Linux as a process; qemu-storage-daemon serves its virtio disk. It is some ten times as fast as QEMU in software. It can't run a
-    program with AddressSanitizer, since it has fewer addresses."""
+    """Linux as a process; qemu-storage-daemon serves its virtio disk. It is about ten times as fast as QEMU in software. It
+    can't run a program with AddressSanitizer, because it has fewer addresses."""
 
     def _boot(self, work: str) -> socket.socket:
         self._start("qemu-storage-daemon", "--blockdev", f"driver=nbd,node-name=d,server.type=unix,server.path={self.folder}/disk", "--export",
@@ -164,6 +164,6 @@ class UserModeLinux(Machine):
         self.must("set", "/sys/block/vda/cache_type", "write back")
 
 
-# What makes a machine over a disk.
+# Makes a machine over a disk.
 Maker = Callable[[Disk], Machine]
 MACHINES: dict[str, Callable[[str, Disk], Machine]] = {"qemu": Qemu, "user": UserModeLinux}

@@ -1,7 +1,7 @@
-"""A disk as a server of the NBD protocol (https://github.com/NetworkBlockDevice/nbd/blob/master/doc/proto.md), at a Unix socket.
+"""Serves a disk by the NBD protocol (https://github.com/NetworkBlockDevice/nbd/blob/master/doc/proto.md), at a Unix socket.
 
-It says that it takes flushes, and offers neither FUA nor discards: so whoever mounts it has to flush. Requests that wait together are
-carried out flushes first, since a flush need not cover a write that was not answered when it was sent.
+It announces that it accepts flushes, and offers neither FUA nor discards: so its client has to flush. Requests that wait
+together are carried out flushes first, because a flush need not cover a write that was not answered when the flush was sent.
 """
 
 import contextlib
@@ -26,7 +26,7 @@ class Ended(Exception):
 
 
 def receive(client: socket.socket, size: int) -> bytes:
-    """This many bytes."""
+    """Receives this many bytes."""
     received = b""
     while len(received) < size:
         more = client.recv(size - len(received))
@@ -37,7 +37,7 @@ def receive(client: socket.socket, size: int) -> bytes:
 
 
 def agree(client: socket.socket, size: int) -> None:
-    """The first part of a connection: what the disk is."""
+    """Handles the first part of a connection, which describes the disk."""
     client.sendall(GREETING)
     receive(client, 4)
     while True:
@@ -62,7 +62,7 @@ def option_reply(option: int, kind: int, data: bytes = b"") -> bytes:
 
 
 def take_requests(buffer: bytearray) -> list[Request]:
-    """Takes the whole requests out of a buffer: kind, handle, place, size and bytes."""
+    """Removes the complete requests from a buffer, and returns them: kind, handle, position, size and bytes."""
     taken = []
     while len(buffer) >= REQUEST.size:
         _, _, kind, handle, at, size = REQUEST.unpack_from(buffer)
@@ -75,7 +75,7 @@ def take_requests(buffer: bytearray) -> list[Request]:
 
 
 def carry_out(disk: Disk, request: Request) -> bytes:
-    """The answer to a request that was carried out."""
+    """Carries out a request, and returns the answer."""
     kind, handle, at, size, data = request
     if kind == WRITE:
         disk.write(at, data)
@@ -99,7 +99,7 @@ def serve_client(disk: Disk, client: socket.socket) -> None:
 
 
 def serve(disk: Disk, path: str) -> None:
-    """Serves a disk at a socket, one client after the other, as long as this process runs."""
+    """Serves a disk at a socket, one client after another, as long as this process runs."""
     listener = socket.socket(socket.AF_UNIX)
     listener.bind(path)
     listener.listen(4)

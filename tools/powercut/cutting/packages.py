@@ -1,4 +1,4 @@
-"""What of Debian the machines are made of."""
+"""The parts of Debian from which the machines are made."""
 
 import os
 import re
@@ -6,7 +6,7 @@ import shutil
 import subprocess
 import tempfile
 
-# The commands that are needed, each with the package that has it. The script `packages` installs these.
+# The commands that are needed, each with the package that contains it. The script `packages` installs these.
 COMMANDS = {
     "qemu-system-x86_64": "qemu-system-x86", "qemu-storage-daemon": "qemu-utils", "cc": "gcc", "modprobe": "kmod", "depmod": "kmod",
     "mkfs.ext4": "e2fsprogs", "e2fsck": "e2fsprogs", "mkfs.xfs": "xfsprogs", "mkfs.btrfs": "btrfs-progs", "mkfs.f2fs": "f2fs-tools",
@@ -16,11 +16,11 @@ KERNEL, USER_KERNEL = "linux-image-amd64", "user-mode-linux"
 
 
 class Missing(Exception):
-    """A package is missing; the text says which, and how to get it."""
+    """A package is missing. The text says which, and how to get it."""
 
 
 def expect_commands() -> None:
-    """Raises Missing unless each command is there."""
+    """Raises Missing unless each command exists."""
     path = f"{os.environ.get('PATH', '')}:/usr/sbin:/sbin"
     os.environ["PATH"] = path
     missing = sorted({package for command, package in COMMANDS.items() if not shutil.which(command, path=path)})
@@ -31,7 +31,7 @@ def expect_commands() -> None:
 def download(package: str, folder: str) -> None:
     """Unpacks a package into a folder, without installing it. Raises Missing."""
     with tempfile.TemporaryDirectory() as scratch:
-        os.chmod(scratch, 0o777)  # apt-get reads as a user of its own
+        os.chmod(scratch, 0o777)  # apt-get reads the files as a user of its own
         done = subprocess.run(["apt-get", "-q", "download", package], cwd=scratch, capture_output=True, text=True, check=False)
         files = os.listdir(scratch)
         if done.returncode or not files:
@@ -40,7 +40,7 @@ def download(package: str, folder: str) -> None:
 
 
 def kernel_package() -> str:
-    """The package of the newest kernel. Raises Missing."""
+    """Returns the package of the newest kernel. Raises Missing."""
     text = subprocess.run(["apt-cache", "depends", KERNEL], capture_output=True, text=True, check=False).stdout
     found = re.search(r"Depends: (linux-image-\S+)", text)
     if not found:
@@ -49,7 +49,7 @@ def kernel_package() -> str:
 
 
 def get_kernel(work: str) -> str:
-    """Has the kernel in WORK/kernel, and answers its version."""
+    """Puts the kernel into WORK/kernel, and returns its version."""
     folder = f"{work}/kernel"
     if not os.path.exists(folder):
         download(kernel_package(), f"{folder}.new")
@@ -60,7 +60,8 @@ def get_kernel(work: str) -> str:
 
 
 def get_user_kernel(work: str) -> str:
-    """Has the kernel that runs as a process in WORK/user, its modules where modprobe looks for them, and answers its version."""
+    """Puts the kernel that runs as a process into WORK/user, with its modules where modprobe looks for them, and returns its
+    version."""
     folder = f"{work}/user"
     if not os.path.exists(folder):
         download(USER_KERNEL, f"{folder}.new")
@@ -71,7 +72,7 @@ def get_user_kernel(work: str) -> str:
 
 
 def modules_of(folder: str, version: str, names: tuple[str, ...]) -> list[str]:
-    """The files of kernel modules and of those that they need, in the order in which they are loaded."""
+    """Returns the files of kernel modules and of those that they need, in the order in which they are loaded."""
     found = list[str]()
     for name in names:
         text = subprocess.run(["modprobe", "-d", folder, "-S", version, "--show-depends", name], capture_output=True, text=True, check=True).stdout

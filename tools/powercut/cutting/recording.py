@@ -1,4 +1,4 @@
-"""A run of the program in a machine, and the list of what its disk was given meanwhile."""
+"""Records a run of the program in a machine: the list of writes and flushes that its disk receives."""
 
 import json
 import os
@@ -18,7 +18,7 @@ STILL_MILLISECONDS = 1_500  # so that the file system writes what it wrote late
 
 @dataclass
 class Run:
-    """What a run is. `scenario` is one of SCENARIOS. If the nodes are apart, no order sends packets. With
+    """The parameters of a run. `scenario` is one of SCENARIOS. If the nodes are apart, no order sends packets. With
     `has_late_syncs` a kill often finds unsynced writes. In a further life `owed` and `signalled` are what was answered and
     signalled before the cut."""
 
@@ -39,11 +39,11 @@ class Run:
 
 
 class Failed(Exception):
-    """A run did not come to its end as it has to."""
+    """A run did not end properly."""
 
 
 def make_first(machine: Machine, run: Run) -> None:
-    """A life: `resetd init`, in a folder that was made just before and not synced where the store has one."""
+    """A life: `resetd init`, in a folder that was created just before and not synced."""
     machine.must("sync")
     machine.must("mark", "start")
     if os.path.dirname(run.store) != "/mnt":
@@ -53,7 +53,7 @@ def make_first(machine: Machine, run: Run) -> None:
 
 
 def migrate_first(machine: Machine, run: Run) -> None:
-    """A store of version 1, and `resetd migrate`."""
+    """A life: a store of version 1, and `resetd migrate`."""
     machine.put(run.store, store_of_version_1())
     machine.must("sync")
     machine.must("mark", f"made|least {STEPS_MADE}")
@@ -71,7 +71,7 @@ SCENARIOS = {"life": make_first, "migration": migrate_first, "again": go_on}
 
 
 def carry_out(machine: Machine, run: Run) -> str:
-    """The run: what the load came to. Raises Refused and Gone."""
+    """Carries out the run, and returns the results of the load. Raises Refused and Gone."""
     if run.mutant is not None:
         machine.must("variable", "MUTANT", run.mutant)
     if run.has_late_syncs:
@@ -93,14 +93,15 @@ def carry_out(machine: Machine, run: Run) -> str:
 
 
 def with_markers(disk: Disk) -> list[Entry]:
-    """The disk's list, in which each write to the last partition is a marker."""
+    """Returns the disk's list, in which each write to the last partition is a marker."""
     is_marker = [entry[0] == "write" and entry[1] >= disk.size - MARKER_SIZE for entry in disk.log]
     return [("marker", entry[2].rstrip(b"\0").decode()) if is_one and entry[0] == "write" else entry
             for is_one, entry in zip(is_marker, disk.log)]
 
 
 def record(make: Maker, folder: str, run: Run) -> str:
-    """Carries out a run, and leaves its list in a folder, which in a further life has the disk already: what it came to. Raises Failed."""
+    """Carries out a run, and leaves its list in a folder, which in a further life already has the disk. Returns the results of
+    the load. Raises Failed."""
     base = f"{folder}/base"
     if run.scenario != "again":
         shutil.rmtree(folder, ignore_errors=True)
@@ -130,7 +131,7 @@ def save(folder: str, run: Run, log: list[Entry]) -> None:
 
 
 def load_run(folder: str) -> tuple[Run, list[Entry]]:
-    """What a folder has of a run."""
+    """Loads a run from its folder."""
     with open(f"{folder}/run.json", encoding="utf-8") as text:
         run = Run(**json.load(text))
     with open(f"{folder}/log", "rb") as file:

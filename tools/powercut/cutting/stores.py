@@ -1,4 +1,4 @@
-"""Stores: the group that they are of, one of version 1, and what a store's bytes say (docs/FORMATS.md)."""
+"""Stores: their group, one of version 1, and what a store's bytes contain (docs/FORMATS.md)."""
 
 import struct
 from typing import NamedTuple
@@ -6,7 +6,7 @@ from typing import NamedTuple
 NODES = 12
 HALF = 32_768
 LINKS = sorted({(min(a, b), max(a, b)) for a in range(1, NODES + 1) for far in (0, 1) if (b := (a + far) % NODES + 1)})
-STEPS_MADE = NODES + len(LINKS)  # of a store that was just made
+STEPS_MADE = NODES + len(LINKS)  # of a store that was just created
 TOPOLOGY = f"half = {HALF}\n" + "".join(f"[[node]]\nid = {node}\ngroup = 1\n" for node in range(1, NODES + 1)) + "".join(
     f"[[link]]\na = {a}\nb = {b}\n" for a, b in LINKS)
 # Each node has its own group, so no link can be made and no order sends packets.
@@ -17,7 +17,7 @@ ORDER, PACKET = 0, 1  # kinds of a step
 
 
 def store_of_version_1() -> bytes:
-    """A store of the group, as a program of format 1 made it."""
+    """Returns a store of the group, as a program of format 1 made it."""
     rows = b"".join(struct.pack(">BBBBQQQ", node, 1, 0, 0, 0, 0, 0) for node in range(1, NODES + 1))
     lane = struct.pack(">QQB", 0, 0, 0)
     links = b"".join(struct.pack(">BBQ", a, b, NODES + 1 + number) + lane + lane for number, (a, b) in enumerate(LINKS))
@@ -26,7 +26,7 @@ def store_of_version_1() -> bytes:
 
 
 class Content(NamedTuple):
-    """What a legal store's bytes say. `steps` are the bytes of each step after those of the snapshot."""
+    """The content of a legal store. `steps` are the bytes of each step after those of the snapshot."""
 
     version: int
     snapshot_count: int
@@ -43,7 +43,7 @@ def size_of_step(body: bytes, at: int, version: int) -> int:
 
 
 def steps_of(body: bytes, version: int) -> dict[int, bytes]:
-    """The steps of a batch."""
+    """Returns the steps of a batch."""
     first, count = struct.unpack(">QH", body[:10])
     steps, at = {}, 10
     for step in range(first, first + count):
@@ -66,14 +66,14 @@ def read_store(data: bytes) -> Content:
 
 
 class History:
-    """The one history of a run: what one image says of a step or a snapshot, each other image has to say too."""
+    """The one history of a run: if one image has a step or a snapshot, each other image must agree with it."""
 
     def __init__(self) -> None:
         self.steps = dict[int, bytes]()
         self.snapshots = dict[tuple[int, int], bytes]()
 
     def differs(self, content: Content) -> str | None:
-        """What a store says otherwise than others of this run; None where all agrees."""
+        """Describes how a store differs from others of this run, or returns None if it agrees."""
         key = content.version, content.snapshot_count
         if self.snapshots.setdefault(key, content.snapshot) != content.snapshot:
             return f"another snapshot of {content.snapshot_count} steps"

@@ -1,4 +1,4 @@
-"""All that is tried of one file system: its runs, their images, and the controls, each of which has to find something."""
+"""The whole trial of one file system: its runs, their images, and the controls, each of which has to find something."""
 
 import dataclasses
 import os
@@ -15,15 +15,15 @@ from .recording import Run, load_run, record
 WITHOUT_BARRIER = "barrier_left_out"
 MUTANTS = ("body_not_synced", "gate_not_synced", WITHOUT_BARRIER)
 TRIES = 4  # seeds with which a control is tried until it finds something
-# A run in which many kills find unsynced writes. It is cut as soon as an answer after a kill was read. No packet is on its way then,
-# since its step would sync the file before that answer.
+# A run in which many kills find unsynced writes. It is cut as soon as an answer after a kill was read. No packet is in transit
+# then, because its step would sync the file before that answer.
 KILLS: dict[str, Any] = {"orders": 120, "kills": 20, "noise": False, "is_apart": True, "has_late_syncs": True}
 KILLED = Places(("killed",), is_at_markers=True)
 
 
 @dataclasses.dataclass
 class Setting:
-    """What the trials of all file systems share. `wrong` is a program that has MUTANTS to choose from."""
+    """The common settings of the trials of all file systems. `wrong` is a program that has MUTANTS to choose from."""
 
     work: str
     program: str
@@ -36,7 +36,7 @@ class Setting:
 
 
 class Trial:
-    """The trial of one file system, in a folder of its own."""
+    """The trial of one file system, in its own folder."""
 
     def __init__(self, setting: Setting, file_system: FileSystem) -> None:
         self._setting, self._of = setting, file_system
@@ -47,7 +47,7 @@ class Trial:
         return lambda disk: MACHINES[machine](self._setting.work, disk)
 
     def _run(self, scenario: str = "life", **values: Any) -> Run:
-        """A run of this file system, with these fields of its own."""
+        """Returns a run of this file system, with these fields changed."""
         run = Run(scenario, self._of.kind, self._of.options, self._setting.seed, self._setting.orders)
         return dataclasses.replace(run, **values)
 
@@ -55,13 +55,13 @@ class Trial:
         print(f"{self._of.name}: {text}", flush=True)
 
     def _record(self, name: str, run: Run, machine: str | None = None) -> str:
-        """Carries a run out: its folder."""
+        """Carries a run out, and returns its folder."""
         said = record(self._make(machine or self._setting.machine), f"{self._folder}/{name}", run)
         self._tell(f"{name}: {said}")
         return f"{self._folder}/{name}"
 
     def _judge(self, folder: str, share: int, seed: int, places: Places = Places()) -> None:
-        """Judges images / share images of a run, and adds what came of them."""
+        """Judges images / share images of a run, and adds the outcomes."""
         judge = Judge(self._make(self._setting.machine), folder, self._setting.program)
         tally = judge.judge(self._setting.images // share, self._setting.seed + seed, places)
         where = "near checkpoints" if places.is_near_checkpoints else ", ".join(places.phases) or "anywhere"
@@ -71,7 +71,7 @@ class Trial:
         self.tally.add(tally)
 
     def judge_runs(self) -> None:
-        """Each run, cut anywhere, near the ends of checkpoints, and where a command makes or migrates a store."""
+        """Judges each run, cut at any moment, near the ends of checkpoints, and while a command creates or migrates a store."""
         seed = self._setting.seed
         life = self._record("life", self._run(kills=3))
         self._judge(life, 2, 1)
@@ -89,7 +89,7 @@ class Trial:
             self._judge(life, 8, 6 + life_number)
 
     def judge_controls(self) -> None:
-        """Each control until it finds something, or has been tried with all seeds."""
+        """Judges each control until it finds something, or was tried with all seeds."""
         life = f"{self._folder}/life"
         self._control("a disk that ignores flushes", lambda seed: self._finds(life, seed, has_flushes=False))
         if self._of.no_barrier is None:
@@ -116,7 +116,7 @@ class Trial:
         self._tell(f"control {name}: NOT CAUGHT")
 
     def _finds(self, folder: str, seed: int, places: Places = Places(), has_flushes: bool = True) -> str | None:
-        """The first fault of a run, if there is one."""
+        """Returns the first fault of a run, or None."""
         judge = Judge(self._make(self._setting.machine), folder, self._setting.program, has_flushes)
         tally = judge.judge(max(50, self._setting.images // 8), seed, places, is_until_fault=True)
         return tally.faults[0] if tally.faults else None
@@ -126,12 +126,12 @@ class Trial:
         return self._finds(self._record("no-flushes", run), seed)
 
     def _with_options(self, name: str, options: str, seed: int) -> str | None:
-        """The program as it is, with other mount options, in a run in which many kills find unsynced writes."""
+        """Tries the unchanged program with other mount options, in a run in which many kills find unsynced writes."""
         folder = self._record(name, self._run(seed=seed, options=options, **KILLS))
         return self._finds(folder, seed, KILLED)
 
     def _of_mutant(self, number: int, options: str, seed: int) -> str | None:
-        """A mutant. The barrier at a start matters if a kill has left unsynced bytes."""
+        """Tries a mutant. The barrier at a start matters only if a kill has left unsynced bytes."""
         name = MUTANTS[number - 1]
         values, places = (KILLS, KILLED) if name == WITHOUT_BARRIER else ({"orders": 40, "noise": False}, Places())
         folder = self._record(name, self._run(seed=seed, options=options, program=1, mutant=number, **values), self._setting.wrong_machine)

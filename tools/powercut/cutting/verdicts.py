@@ -1,4 +1,4 @@
-"""What the machine and the program say of an image: whether it mounts, and what its store is."""
+"""The verdict of the machine and the program on an image: whether it mounts, and what its store is."""
 
 import hashlib
 import os
@@ -19,7 +19,8 @@ NODE_LINE = re.compile(r"^node (\d+) \d+ \w+ \d+ (\d+) \d+$", re.M)
 
 @dataclass
 class Verdict:
-    """`kind` is legal, nomount, nofile, unreadable, empty, refused, noshow, noumount or hung. `said` is why, where it is not legal."""
+    """`kind` is legal, nomount, nofile, unreadable, empty, refused, noshow, noumount or hung. `said` is the reason, if it is
+    not legal."""
 
     kind: str
     said: str = ""
@@ -29,7 +30,7 @@ class Verdict:
 
 
 class Said(NamedTuple):
-    """What a command said of a store."""
+    """The output of a command about a store."""
 
     name: str
     status: int
@@ -37,7 +38,7 @@ class Said(NamedTuple):
 
 
 def read_said(text: str) -> list[Said]:
-    """What the agent says: each command's line `NAME STATUS BYTES`, and those bytes."""
+    """Parses the agent's output: each command's line `NAME STATUS BYTES`, and those bytes."""
     found = list[Said]()
     while head := re.match(r"(check|show) (\d+) (\d+)\n", text):
         size = int(head[3])
@@ -47,7 +48,7 @@ def read_said(text: str) -> list[Said]:
 
 
 def verdict_of(said: list[Said], data: bytes) -> Verdict:
-    """The verdict by what `check` and `show` said of a store's bytes."""
+    """Returns the verdict that follows from the output of `check` and `show` for a store's bytes."""
     if not said or said[0].status:
         return Verdict("refused" if data else "empty", said[0].text if said else "nothing was said")
     legal = re.match(r"legal (\d+)\n", said[0].text)
@@ -58,7 +59,7 @@ def verdict_of(said: list[Said], data: bytes) -> Verdict:
 
 
 class Looker:
-    """The host's program, which looks at a store's bytes: at equal bytes once."""
+    """The host's program, which checks a store's bytes, once for equal bytes."""
 
     def __init__(self, program: str, mutant: int | None = None) -> None:
         self._program, self._known = program, dict[bytes, list[Said]]()
@@ -80,12 +81,12 @@ class Looker:
 
 
 class Disagreement(Exception):
-    """The program says something else in the machine than here."""
+    """The program's output differs between the machine and the host."""
 
 
 def judge_image(machine: Machine, run: Run, looker: Looker, is_inside: bool) -> Verdict:
-    """Mounts the disk as it is now, and has its store looked at: by the host's program, and with `is_inside` also by the machine's own.
-    Raises Disagreement."""
+    """Mounts the disk as it is now, and checks its store with the host's program and, if `is_inside`, also with the machine's
+    own. Raises Disagreement."""
     program = program_path(run.program) if is_inside else ""
     status, printed, data = machine.ask("judge", DEVICE, run.kind, run.options, program, run.store)
     text = printed.decode(errors="replace")
@@ -100,5 +101,5 @@ def judge_image(machine: Machine, run: Run, looker: Looker, is_inside: bool) -> 
 
 
 def hung(gone: Gone) -> Verdict:
-    """The verdict on an image on which the machine does not answer."""
+    """Returns the verdict on an image with which the machine does not answer."""
     return Verdict("hung", str(gone)[-600:])

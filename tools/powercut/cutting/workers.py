@@ -1,4 +1,4 @@
-"""Processes of this one that each try something, and end with it."""
+"""Child processes that each make a call, and end together with this process."""
 
 import ctypes
 import multiprocessing
@@ -14,20 +14,20 @@ SET_SIGNAL_OF_PARENTS_DEATH = 1  # of prctl(2)
 
 
 def end_once(*_: object) -> None:
-    """Ends this process, with all that it cleans up, which no further signal interrupts."""
+    """Ends this process with all its cleanup, which no further signal interrupts."""
     signal.signal(signal.SIGTERM, signal.SIG_IGN)
     sys.exit(1)
 
 
 def start_worker() -> None:
-    """Has this process end when it gets SIGTERM, or when the process that started it has ended. An interrupt is for that process."""
+    """Makes this process end when it gets SIGTERM, or when its parent has ended. An interrupt is for the parent."""
     signal.signal(signal.SIGTERM, end_once)
     signal.signal(signal.SIGINT, signal.SIG_IGN)
     ctypes.CDLL(None).prctl(SET_SIGNAL_OF_PARENTS_DEATH, signal.SIGTERM)
 
 
 def call_to_end(function: Callable[..., R], *arguments: Any) -> R:
-    """A call in a worker. If the call is ended, so is the worker, which else would go on with the next one."""
+    """Makes a call in a worker. If the call is ended, the worker ends too; otherwise it would continue with the next one."""
     try:
         return function(*arguments)
     except SystemExit:
@@ -35,8 +35,8 @@ def call_to_end(function: Callable[..., R], *arguments: Any) -> R:
 
 
 def call_each(function: Callable[..., R], calls: Iterable[tuple[Any, ...]], jobs: int) -> list[R]:
-    """The results of these calls, each made in one of so many processes. If this process is interrupted or gets SIGTERM, it ends once they
-    have ended."""
+    """Returns the results of these calls, each made in one of `jobs` processes. If this process is interrupted or gets SIGTERM,
+    it ends after these processes have ended."""
     signal.signal(signal.SIGTERM, end_once)
     with ProcessPoolExecutor(jobs, initializer=start_worker) as pool:
         try:

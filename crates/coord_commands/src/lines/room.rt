@@ -1,4 +1,4 @@
-//! Room for a short line, which takes no memory.
+//! A buffer for a short line, which allocates nothing.
 
 ghost use Rattle.std.specs.Prelude.{◌≡◌, []};
 
@@ -6,10 +6,10 @@ use std::io;
 use std::io::{ErrorKind, Write};
 use std::marker::Model;
 
-/// One more than the bytes of the longest line of a fault.
+/// The capacity, one byte more than the longest line of a fault.
 const ROOM: usize = 64;
 
-/// A partial line, which contracts see. It has at most 64 bytes.
+/// A partial line of at most 64 bytes. Contracts see its bytes.
 #[derive(Drop)]
 pub struct Room {
     bytes: [u8; ROOM],
@@ -27,7 +27,7 @@ impl Model for Room {
 }
 
 impl Room {
-    /// An empty line.
+    /// Returns an empty line.
     pub fn new() -> Self
         ensures { result ≡ [] }
     {

@@ -1,4 +1,4 @@
--- A disk that fails calls by a rule.
+-- A disk that fails some calls, as a rule decides.
 use Rattle.std.specs.Prelude.{◌≡◌, ℕ, ◌+◌, ◌-◌, ◌^◌, min, length, take, Bool, true, false, List, Option, Some, None, Result, IsErr}
 use Rattle.coord_disk.specs.declared.fault.DiskFault.{DiskFault}
 use Rattle.coord_disk.specs.declared.failing.Call.{Call}
@@ -13,11 +13,11 @@ inner_of disk = disk.inner
 abbrev pub rule_of : {D R : Type 0} → FailingDisk D R → R
 rule_of disk = disk.rule
 
--- one more, saturating at the greatest u64
+-- n + 1, but at most the greatest u64
 abbrev pub one_more : ℕ → ℕ
 one_more n = min (n + 1) (2 ^ 64 - 1)
 
--- the number of calls
+-- the number of calls so far
 abbrev pub calls_of : {D R : Type 0} → FailingDisk D R → ℕ
 calls_of disk = disk.calls
 
@@ -29,14 +29,14 @@ failed_of disk = length disk.failed.items
 abbrev pub failures_of : {D R : Type 0} → DiskModel D → FailingDisk D R → ℕ
 failures_of m disk = m.failures (inner_of disk) + failed_of disk
 
--- over this disk, with this rule, before any call
+-- a new disk over this one, with this rule and no calls so far
 pub record IsOver {D R : Type 0} (inner : D) (rule : R) (disk : FailingDisk D R) : Type 0 where
   pub inside : inner_of disk ≡ inner
   pub follows : rule_of disk ≡ rule
   pub calls : calls_of disk ≡ 0
   pub failed : failed_of disk ≡ 0
 
--- A disk that fails by a rule has the meaning of the disk inside.
+-- A disk that fails by a rule has the model of the disk inside.
 abbrev pub failing : {D R : Type 0} → DiskModel D → DiskModel (FailingDisk D R)
 failing m = seen_through m inner_of (failures_of m)
 
@@ -45,15 +45,15 @@ pub record IsUnreached {D R : Type 0} (old new : FailingDisk D R) : Type 0 where
   pub same : inner_of new ≡ inner_of old
   pub counted : failed_of new ≡ failed_of old + 1
 
--- The effect of a write that must fail. If the rule tears it, its first bytes are written, provided that the disk
--- inside does not fail; otherwise the disk inside is unchanged.
+-- The effect of a write that the rule fails. If the rule tears it, its first bytes are written, unless the disk inside
+-- fails too; otherwise the disk inside is unchanged.
 abbrev pub IsTorn : {D R : Type 0} → DiskModel D → Option ℕ → ℕ → List ℕ → FailingDisk D R → FailingDisk D R → Type 0
 IsTorn m None at bytes old new = IsUnreached old new
 IsTorn m (Some kept) at bytes old new =
     m.keeps_model (inner_of old) ≡ true → m.failures (inner_of new) ≡ m.failures (inner_of old) → m.present (inner_of new) ≡ written_at at (take kept bytes) (m.present (inner_of old))
 
--- Each call through such a disk is counted, and the rule decides whether it fails. If so, this is its effect.
--- Otherwise the call is passed on, and fails only if the disk inside fails.
+-- Each call is counted, and the rule decides whether it fails. If it does, the effect is `leaves`. Otherwise the call
+-- is passed on, and fails only if the disk inside fails.
 pub record IsCounted {D R T : Type 0} (m : DiskModel D) (says : R → Call → Bool → R → Type 0) (call : Call) (old new : FailingDisk D R) (result : Result T DiskFault) (leaves : Type 0) : Type 0 where
   pub counted : calls_of new ≡ one_more (calls_of old)
   pub fails : Bool

@@ -7,7 +7,7 @@ use Rattle.coord_disk.specs.declared.failing.Call.{Call}
 use Rattle.coord_disk.specs.declared.failing.Call.TheVariants.{Sync}
 use Rattle.coord_disk.specs.declared.gate.Gate.{Gate}
 
--- with the flag that a sync sets, and the flag by which another thread lets it continue
+-- the gate with these two flags: a sync sets the first, and another thread sets the second to let the sync continue
 abbrev pub gate_of : Arc AtomicBool Global → Arc AtomicBool Global → Gate
 gate_of entered answered = record { entered = entered; answered = answered }
 

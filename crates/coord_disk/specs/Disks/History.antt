@@ -1,4 +1,4 @@
--- The state of a disk in memory after its writes and syncs.
+-- The content of a disk in memory, computed from its writes and syncs.
 use Rattle.std.specs.Prelude.{◌≡◌, ℕ, ◌≤◌, List, [], ◌∷◌, ◌++◌, length, take, true, Option, Some, None}
 use Rattle.coord_disk.specs.Model.DiskModel.{DiskModel}
 use Rattle.coord_disk.specs.Model.Present.{Present, IsImage, whole, written_at}
@@ -6,17 +6,17 @@ use Rattle.coord_disk.specs.declared.history.Entry.{Entry}
 use Rattle.coord_disk.specs.declared.history.Entry.TheVariants.{Wrote, Synced}
 use Rattle.coord_disk.specs.declared.history.History.{History}
 
--- the disk after a write or a sync
+-- the content after one write or sync
 abbrev pub after : Present → Entry → Present
 after disk (Wrote at bytes) = written_at at bytes.items disk
 after disk Synced = whole disk.read
 
--- the disk after all of these operations, in order
+-- the content after all of these writes and syncs, in order
 abbrev pub replayed : Present → List Entry → Present
 replayed disk [] = disk
 replayed disk (entry ∷ entries) = replayed (after disk entry) entries
 
--- the initial content of a disk, and the operations since
+-- the initial bytes of a disk, and the writes and syncs since
 pub record Past : Type 0 where
   pub first : List ℕ
   pub entries : List Entry
@@ -24,11 +24,11 @@ pub record Past : Type 0 where
 abbrev pub present_after : Past → Present
 present_after past = replayed (whole past.first) past.entries
 
--- A crash after the first n writes and syncs, or after more of them, could have left these bytes.
+-- A crash after the first t writes and syncs, or after more of them, could have left these bytes.
 abbrev pub LeftSince : Past → ℕ → List ℕ → Type 0
 LeftSince past t image = (k : ℕ) × (t ≤ k) × (k ≤ length past.entries) × IsImage (replayed (whole past.first) (take k past.entries)) image
 
--- The model of a disk with such a history. The number of operations is its moment.
+-- The model of a disk with such a history. Its clock is the number of writes and syncs.
 abbrev pub recorded : {D : Type 0} → (D → Past) → (D → ℕ) → DiskModel D
 recorded past failures = record {
   keeps_model = λ _. true;
@@ -38,18 +38,18 @@ recorded past failures = record {
   failures = failures;
 }
 
--- a disk that reads as these bytes, before any operation
+-- the past of a disk that reads as these bytes; without a history there were no writes and syncs
 abbrev pub past_with : List ℕ → Option History → Past
 past_with read None = record { first = read; entries = [] }
 past_with read (Some history) = record { first = history.first.items; entries = history.entries.items }
 
--- the history has led to these bytes
+-- replaying the history gives the bytes that a read gives, and the synced bytes
 pub record LedTo (history : History) (read : List ℕ) : Type 0 where
   pub reads : (present_after (past_with read (Some history))).read ≡ read
   pub syncs : (present_after (past_with read (Some history))).synced ≡ history.synced.items
   pub image : IsImage (present_after (past_with read (Some history))) read
 
--- one more write or sync, and the bytes after it
+-- the new past has one more write or sync, which gives the content `now`
 pub record Adds (old new : Past) (now : Present) : Type 0 where
   pub added : Entry
   pub first : new.first ≡ old.first

@@ -7,19 +7,19 @@ use Rattle.coord_disk.specs.declared.memory_file.Syncs.{Syncs}
 use Rattle.coord_disk.specs.Model.RawCalls.{RawCall}
 use Rattle.coord_disk.specs.Model.RawCalls.RawCall.{SyncData, SyncAll, SyncFolder}
 
--- the bytes of a file in memory
+-- the disk that holds the bytes of a file in memory
 abbrev pub disk_of : MemFile → MemDisk
 disk_of file = file.disk
 
--- whether its folder's entry is synced
+-- whether the file's entry in its folder is synced
 abbrev pub has_entry : MemFile → Bool
 has_entry file = file.entered
 
--- the syncs so far
+-- the number of syncs of each kind so far
 abbrev pub syncs_of : MemFile → Syncs
 syncs_of file = file.syncs
 
--- a sync is counted by its kind
+-- the counts after this call: a sync adds one to the count of its kind
 abbrev pub counted : RawCall → Syncs → Syncs
 counted SyncData syncs = record syncs { bytes = one_more syncs.bytes }
 counted SyncAll syncs = record syncs { all = one_more syncs.all }

@@ -1,4 +1,4 @@
--- A file of the operating system, which claims no model.
+-- A file of the operating system. It claims no model.
 use Rattle.std.specs.Prelude.{◌≡◌, true, false, []}
 use Rattle.coord_disk.specs.Model.DiskModel.{DiskModel, IsModel}
 use Rattle.coord_disk.specs.Model.Present.{IsImage, whole}
@@ -6,7 +6,7 @@ use Rattle.coord_disk.specs.Model.Present.{IsImage, whole}
 pub claims_nothing : {A : Type 0} → false ≡ true → A
 claims_nothing claim = absurd (cc claim)
 
--- the meaning of a file that claims no model
+-- the model of a file that claims none: no file keeps it
 abbrev pub no_model : {F : Type 0} → DiskModel F
 no_model = record { keeps_model = λ _. false; present = λ _. whole []; clock = λ _. 0; left_since = λ _ _ image. IsImage (whole []) image; failures = λ _. 0 }
 

@@ -1,13 +1,13 @@
--- The promise of each call on a disk: a record of its effect on the content, and a record of the
--- rules that every call keeps.
+-- The promise of each call on a disk: a record of the call's effect on the content, and a record of the rules that
+-- every call follows.
 use Rattle.std.specs.Prelude.{◌≡◌, ℕ, ◌+◌, ◌≤◌, Bool, true, List, length, take, drop, Result, IfOk, OnOk, OnErr}
 use Rattle.coord_disk.specs.Model.DiskModel.{DiskModel}
 use Rattle.coord_disk.specs.Model.Moments.{Passes}
 use Rattle.coord_disk.specs.Model.Present.{Present, IsImage, FitsNoMore, WritesWithin, whole, written_at}
 
--- The rules that every call keeps. A disk that keeps the model continues to keep it, at most one moment
--- passes, and the content changes as this call promises. Of a disk that does not keep the model,
--- the record says only that it continues not to.
+-- The rules that every call follows. A disk that keeps the model continues to keep it, at most one moment passes, and
+-- the content changes as this call promises. A disk that does not keep the model continues not to keep it, and nothing
+-- else is promised.
 pub record Acts (keeps keeps_on : Bool) (Time Change : Type 0) : Type 0 where
   pub model : keeps_on ≡ keeps
   pub time : keeps ≡ true → Time
@@ -21,18 +21,18 @@ pub record Measured {E : Type 0} (result : Result ℕ E) (old new : Present) : T
   pub value : IfOk result (λ n. n ≡ length old.read)
   pub same : new ≡ old
 
--- reads the bytes from a place on into a buffer and changes nothing
+-- fills a buffer with the bytes from place `at` on, and changes nothing
 pub record HasRead {T E : Type 0} (at : ℕ) (buffer filled : List ℕ) (result : Result T E) (old new : Present) : Type 0 where
   pub value : OnOk result (filled ≡ take (length buffer) (drop at old.read))
   pub same : new ≡ old
 
--- Writes bytes at a place. Until a sync a crash may leave any bytes there, even if the write
--- failed.
+-- Writes bytes at place `at`. Until the next sync, a crash may leave any bytes there, even if the write failed.
 pub record Written {T E : Type 0} (at : ℕ) (bytes : List ℕ) (result : Result T E) (old new : Present) : Type 0 where
   pub written : OnOk result (new ≡ written_at at bytes old)
   pub crash : WritesWithin at bytes old new
 
--- After a sync, a crash leaves the bytes that a read gives. A failed sync adds no possible outcome.
+-- After a successful sync, a crash leaves the bytes that a read gives. After a failed sync, a crash can leave only
+-- bytes that it could have left before.
 pub record Synced {T E : Type 0} (result : Result T E) (old new : Present) : Type 0 where
   pub durable : OnOk result (new ≡ whole old.read)
   pub crash : FitsNoMore old new
@@ -51,11 +51,11 @@ Writes m at bytes old new result = Calls m old new (Written at bytes result)
 abbrev pub Syncs : {D T E : Type 0} → DiskModel D → D → D → Result T E → Type 0
 Syncs m old new result = Calls m old new (Synced result)
 
--- a disk from which this many bytes can be read from this place on
+-- if the disk keeps the model, `count` bytes can be read from place `at` on
 abbrev pub HasBytes : {D : Type 0} → DiskModel D → D → ℕ → ℕ → Type 0
 HasBytes m disk at count = m.keeps_model disk ≡ true → at + count ≤ length (m.present disk).read
 
--- A crash leaves one of the disk's images, completely synced.
+-- A crash leaves one of the disk's images, and all of it is synced.
 pub record Crashes {D : Type 0} (m : DiskModel D) (old new : D) : Type 0 where
   pub model : m.keeps_model new ≡ m.keeps_model old
   pub image : m.keeps_model old ≡ true → IsImage (m.present old) (m.present new).read

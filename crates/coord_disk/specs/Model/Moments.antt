@@ -3,37 +3,38 @@ use Rattle.std.specs.Prelude.{◌≡◌, ◌⊎◌, ℕ, ◌+◌, ◌≤◌, Lis
 use Rattle.coord_disk.specs.Model.DiskModel.{DiskModel}
 use Rattle.coord_disk.specs.Model.Present.{IsImage}
 
--- Time advances. The bytes that a crash might have left since moment t are those that it might have left
--- before, or those that it may leave now.
+-- Time advances. The bytes that a crash might have left since moment t are those that it might have left before, and
+-- possibly those that it may leave now.
 pub record Elapses (before now : ℕ) (past since : ℕ → List ℕ → Type 0) (may_leave : List ℕ → Type 0) : Type 0 where
   pub later : before ≤ now
-  -- a call is at most one moment
+  -- a call takes at most one moment
   pub soon : now ≤ before + 1
   pub nothing_else : (t : ℕ) (image : List ℕ) → t ≤ before → since t image → past t image ⊎ may_leave image
   pub keeps : (t : ℕ) (image : List ℕ) → t ≤ before → past t image → since t image
 
--- one call passes
+-- the disk changes from `old` to `new` in one call
 abbrev pub Passes : {D : Type 0} → DiskModel D → D → D → Type 0
 Passes m old new = Elapses (m.clock old) (m.clock new) (m.left_since old) (m.left_since new) (IsImage (m.present new))
 
--- A crash at any moment from `old` until now leaves only bytes with P.
+-- A crash at any moment from `old` until `new` leaves only bytes with property P.
 pub record LeavesOnly {D : Type 0} (m : DiskModel D) (old new : D) (P : List ℕ → Type 0) : Type 0 where
   pub later : m.clock old ≤ m.clock new
   pub each : (image : List ℕ) → m.left_since new (m.clock old) image → P image
-  -- since an earlier moment t, a crash may leave only what it could have left before, or bytes with P
+  -- since an earlier moment t, a crash can have left only what it could have left before `old`, or bytes with P
   pub before : (t : ℕ) (image : List ℕ) → t ≤ m.clock old → m.left_since new t image → m.left_since old t image ⊎ P image
 
--- A crash at any moment leaves nothing that it could not have left before.
+-- A crash at any moment from `old` until `new` leaves only bytes that it could have left at `old`.
 abbrev pub AddsNothing : {D : Type 0} → DiskModel D → D → D → Type 0
 AddsNothing m old new = m.keeps_model old ≡ true → LeavesOnly m old new (IsImage (m.present old))
 
--- A list of calls leaves a disk unchanged, and a crash at any moment of it leaves no other bytes than before.
+-- A list of calls leaves the content unchanged, and a crash at any moment of it leaves only bytes that it could have
+-- left at its beginning.
 pub record IsUntouched {D : Type 0} (m : DiskModel D) (old new : D) : Type 0 where
   pub same : m.present new ≡ m.present old
   pub any_moment : LeavesOnly m old new (IsImage (m.present old))
 
--- The rules of every list of calls: a disk that keeps the model continues to keep it, and it has failed
--- this often, in at most this many calls.
+-- The rules that every list of calls follows: a disk that keeps the model continues to keep it, `failed` calls failed,
+-- and at most `most` moments passed.
 pub record Runs {D : Type 0} (m : DiskModel D) (old new : D) (most failed : ℕ) : Type 0 where
   pub model : m.keeps_model new ≡ m.keeps_model old
   pub failures : m.failures new ≡ m.failures old + failed

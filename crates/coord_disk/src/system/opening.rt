@@ -8,7 +8,7 @@ use std::path::Path;
 use std::rt::Files;
 use std::{fs, io};
 
-/// The file and its folder, under a lock that no other process has.
+/// Opens the file and its folder, under a lock that excludes other processes.
 pub fn open_locked<R: Files<File = File>>(rt: &R, path: &str) -> io::Result<SystemFile<File>> {
     refuse_other_kinds(rt, path)?;
     let file = match OpenOptions::new().read(true).write(true).open(rt, path) {
@@ -20,7 +20,7 @@ pub fn open_locked<R: Files<File = File>>(rt: &R, path: &str) -> io::Result<Syst
     Ok(SystemFile::over(file, Some(folder)))
 }
 
-/// Opens the file read-only, and its folder if the file is created here.
+/// Opens the file read-only; if it has to be created, opens its folder too.
 pub fn open_unlocked<R: Files<File = File>>(rt: &R, path: &str) -> io::Result<SystemFile<File>> {
     refuse_other_kinds(rt, path)?;
     match File::open(rt, path) {
@@ -33,8 +33,8 @@ pub fn open_unlocked<R: Files<File = File>>(rt: &R, path: &str) -> io::Result<Sy
     }
 }
 
-/// Refuses a path that is not a regular file, before it is opened: opening a pipe would wait for
-/// its other end.
+/// Refuses a path that is not a regular file. It checks before opening, because opening a pipe
+/// would wait for the pipe's other end.
 fn refuse_other_kinds<R: Files<File = File>>(rt: &R, path: &str) -> io::Result<()> {
     match fs::metadata(rt, path) {
         Ok(metadata) if !metadata.is_file() => Err(ErrorKind::InvalidInput.into()),
@@ -42,7 +42,7 @@ fn refuse_other_kinds<R: Files<File = File>>(rt: &R, path: &str) -> io::Result<(
     }
 }
 
-/// A new file. If a dangling link has its name, none is created.
+/// Creates a new file. It fails if a dangling symbolic link has this name.
 fn make<R: Files<File = File>>(rt: &R, path: &str) -> io::Result<File> {
     OpenOptions::new()
         .read(true)

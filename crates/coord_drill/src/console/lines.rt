@@ -1,4 +1,4 @@
-//! The lines of a drill's input.
+//! Carries out the lines of a drill's input.
 
 ghost use Rattle.std.specs.Prelude.{◌≡◌, ◌++◌, ◌<◌, ◌≤◌, ◌+◌, ◌-◌, ◌^◌, [], ◌∷◌, IfErr, IfOk, OnOk, Some, length, string_bytes};
 ghost use Rattle.std.specs.Option.{option_copied};
@@ -44,7 +44,7 @@ impl<D: CrashDisk> Console<D> {
         Ok(console)
     }
 
-    /// Carries out the complete line, prints its answer, and begins the next one.
+    /// Carries out the complete line, writes its answer, and begins the next line.
     pub(super) fn end_line<W: Write>(self, writer: &mut W) -> Result<Self, (Fault, D)>
         requires ready { IsReadyDrill self.drill }
         requires number { self.number < 2 ^ 64 - 1 }
@@ -67,7 +67,7 @@ impl<D: CrashDisk> Console<D> {
         }
     }
 
-    /// Carries out the complete line, with its answer as the text, and begins the next one.
+    /// Carries out the complete line, stores its answer as the text, and begins the next line.
     fn answer_line(self) -> Result<Self, (Fault, D)>
         requires ready { IsReadyDrill self.drill }
         requires number { self.number < 2 ^ 64 - 1 }
@@ -99,8 +99,8 @@ impl<D: CrashDisk> Console<D> {
     }
 }
 
-/// Carries out the request of line `number`, and appends its answer to a text. A skipped line
-/// or a bad line has no request. None means a line over the limit.
+/// Carries out the request of line `number`, and appends its answer to a text. A skipped line or a bad
+/// line makes no request. `line` is None if it was over the limit.
 fn respond<D: CrashDisk>(
     drill: Drill<D>,
     line: Option<&[u8]>,

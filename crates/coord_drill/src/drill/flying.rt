@@ -1,4 +1,4 @@
-//! Flights: settles pending steps, and prints their outputs.
+//! Settles pending steps in flights, and prints the outputs of these steps.
 
 ghost use Rattle.std.specs.Prelude.{◌≡◌, ◌≤◌, ◌-◌, ◌∷◌, ◌++◌, ℕ, List, [], None, Some, OnOk, IfOk, IfSome, IfNone, string_bytes, IfErr};
 ghost use Rattle.std.specs.List.{AllByRecursion};
@@ -33,7 +33,7 @@ enum Flown {
     Failed(CommitFault),
 }
 
-/// The result of a flight, and the driver, which has no flight out any more.
+/// The result of a flight, and the driver after it, which has no flight out.
 struct Landing<D: CrashDisk> {
     flown: Flown,
     driver: Driver<D>,
@@ -57,8 +57,8 @@ impl<D: CrashDisk> Drill<D> {
         }
     }
 
-    /// Settles the next pending steps in one flight, if a flight may leave. Prints the outputs of these steps,
-    /// or the fault of the commit.
+    /// Settles the next pending steps in one flight, if a flight may leave. Prints the outputs of these
+    /// steps, or the fault of the commit.
     pub(super) fn fly(self, text: &mut String) -> Result<Self, (Fault, D)>
         requires ready { IsReadyDrill self }
         ensures ready { IfOk result IsReadyDrill }
@@ -118,8 +118,8 @@ fn print_flown<D: CrashDisk>(
     }
 }
 
-/// Sends the next steps out, commits them, and takes the flight back. If memory runs out, it
-/// returns the disk.
+/// Sends the next steps out, commits them, and takes the flight back. If memory runs out, returns the
+/// disk.
 fn send_out<D: CrashDisk>(mut driver: Driver<D>) -> Result<Landing<D>, (Fault, D)>
     requires home { driver.flight ≡ None }
     ensures flown { IfOk result (λ r. FlownTo driver.ledger.log r.flown r.driver.ledger.log) }
@@ -176,7 +176,8 @@ fn land<D: CrashDisk>(mut driver: Driver<D>) -> Result<Landing<D>, (Fault, D)>
     }
 }
 
-/// Takes back the flight that is out. If memory for its releases runs out, the drill is lost.
+/// Takes back the flight that is out. If memory for its releases runs out, drops the driver and returns
+/// the disk.
 fn take_back<D: CrashDisk>(mut driver: Driver<D>) -> Result<(Releases, Driver<D>), (Fault, D)>
     ensures base { IfOk result (λ r. r.1.ledger.log.base ≡ driver.ledger.log.base) }
     ensures released { IfOk result (λ r. r.0 ≡ settling_releases driver.ledger.log
@@ -197,7 +198,7 @@ fn take_back<D: CrashDisk>(mut driver: Driver<D>) -> Result<(Releases, Driver<D>
     }
 }
 
-/// Drops a driver that ran out of memory.
+/// Drops a driver because memory ran out, and returns its disk with that fault.
 fn lost<D: CrashDisk>(driver: Driver<D>) -> (Fault, D)
     ensures fault { result.0 ≡ OutOfMemory }
     ensures disk { disk_held driver ≡ Some result.1 }
@@ -205,8 +206,7 @@ fn lost<D: CrashDisk>(driver: Driver<D>) -> (Fault, D)
     (Fault::OutOfMemory, driver.into_disk())
 }
 
-/// Collects the replies of the settled steps, and prints each before the outputs that its step
-/// released.
+/// Collects the replies of the settled steps, and prints each reply before the outputs of its step.
 #[tactic(auto, using(crate::proofs::does::Settled::looked_at))]
 fn print_settled<D: CrashDisk>(
     ledger: &Ledger<D>,
@@ -251,7 +251,8 @@ fn print_collected<D: CrashDisk>(
     Ok(())
 }
 
-/// Removes and returns the oldest ticket, if its step is settled: its number is at most `settled`.
+/// Removes and returns the oldest ticket if its step is settled, that is, if its number is at most
+/// `settled`.
 fn next_settled(tickets: &mut VecDeque<Ticket>, settled: u64) -> Option<Ticket>
     ensures some { IfSome result (λ ticket. (tickets.old.items ≡ ticket ∷ tickets.new.items) ×
         (ticket.step ≤ settled)) }
@@ -282,7 +283,7 @@ fn collected<D: CrashDisk>(ledger: &Ledger<D>, ticket: Ticket) -> Reply
     }
 }
 
-/// Prints the next releases, as long as they are of one step.
+/// Prints the next releases, as long as they belong to one step.
 pub(super) fn print_released(
     text: &mut String,
     version: Version,

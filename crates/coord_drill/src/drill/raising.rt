@@ -15,7 +15,7 @@ use coord_store::Store;
 use std::alloc::Global;
 
 impl<D: CrashDisk> Drill<D> {
-    /// Continues in version 2.
+    /// Starts again in version 2.
     pub(super) fn begin_version_2(self) -> Result<Self, (Fault, D)>
         requires ready { IsReadyDrill self }
         ensures ready { IfOk result IsReadyDrill }
@@ -48,7 +48,8 @@ impl<D: CrashDisk> Drill<D> {
     }
 }
 
-/// Migrates the store of a ledger at home to version 2, and continues over it. Pending steps are lost.
+/// Migrates a ledger's store to version 2, and makes a driver over it. No flight may be out. Pending
+/// steps are lost.
 fn raise<D: CrashDisk>(alloc: Global, driver: Driver<D>) -> Result<Driver<D>, (Fault, D)>
     requires home { driver.flight ≡ None }
     ensures home { IfOk result (λ new. new.flight ≡ None) }
@@ -66,7 +67,7 @@ fn raise<D: CrashDisk>(alloc: Global, driver: Driver<D>) -> Result<Driver<D>, (F
     Ok(driver)
 }
 
-/// Takes the store out of a ledger at home. Pending steps are lost.
+/// Takes the store out of a ledger. No flight may be out. Pending steps are lost.
 #[tactic(auto, using(crate::proofs::does::Raising::disk_home))]
 fn store_of<D: CrashDisk>(driver: Driver<D>) -> Store<D>
     requires home { driver.flight ≡ None }

@@ -24,7 +24,7 @@ use coord_view::print_view;
 use std::alloc::AllocError;
 
 impl<D: CrashDisk> Drill<D> {
-    /// Prints an answer that changes nothing.
+    /// Prints the answer to a request that changes nothing.
     pub(super) fn report(self, wanted: Asked, text: &mut String) -> Result<Self, (Fault, D)>
         requires ready { IsReadyDrill self }
         requires nothing { changes_nothing wanted ≡ true }
@@ -42,7 +42,7 @@ impl<D: CrashDisk> Drill<D> {
         }
     }
 
-    /// From now on accepted steps are not settled at once.
+    /// Stops settling accepted steps at once.
     pub(super) fn hold(self) -> Self
         requires ready { IsReadyDrill self }
         ensures ready { IsReadyDrill result }
@@ -55,7 +55,7 @@ impl<D: CrashDisk> Drill<D> {
     }
 }
 
-/// Prints an answer that changes nothing.
+/// Prints the answer to a request that changes nothing.
 #[tactic(auto, unfolding(crate::specs::Answered::asked_lines))]
 fn print_answer<D: CrashDisk>(
     ledger: &Ledger<D>,
@@ -76,7 +76,7 @@ fn print_answer<D: CrashDisk>(
     }
 }
 
-/// Prints the packets that a ledger sends again, all as of step 0.
+/// Prints the packets that a ledger sends again, with 0 as their step's number.
 #[tactic(auto, using(crate::proofs::does::Settled::resent_lines, crate::proofs::does::Settled::looked_at))]
 fn print_resent<D: CrashDisk>(ledger: &Ledger<D>, text: &mut String) -> Result<(), AllocError>
     ensures { OnOk result (string_bytes text.new ≡ string_bytes text.old ++ output_lines

@@ -1,20 +1,20 @@
--- The waiting packets in a map, each under its lane and kind.
+-- The waiting packets as a map, with the lane and kind of each as the key.
 use Rattle.std.specs.Prelude.{◌≡◌, List, [], ◌∷◌, Bool, true, false, ◌&&◌, ◌==◌}
 use Rattle.std.proofs.Math.Bool.{beq}
 use Rattle.coord_types.specs.declared.packets.Packet.{Packet}
 use Rattle.coord_types.specs.declared.packets.Packet.TheVariants.{Carried, Receipted}
 use Rattle.coord_engine.specs.declared.waiting.Slot.{Slot}
 
--- what a packet is kept under
+-- the key of a packet
 abbrev pub slot_of : Packet → Slot
 slot_of (Carried p) = record { from = p.from; to = p.to; is_receipt = false }
 slot_of (Receipted p) = record { from = p.from; to = p.to; is_receipt = true }
 
--- whether two are the same, as the map compares them
+-- whether two keys are equal, as the map compares them
 abbrev pub is_same_slot : Slot → Slot → Bool
 is_same_slot a b = (a.from == b.from) && ((a.to == b.to) && beq a.is_receipt b.is_receipt)
 
--- each packet is kept under its own lane and kind
+-- Each packet is stored under its own lane and kind.
 abbrev pub SlotsMatch : List (Slot × Packet) → Type 0
 SlotsMatch [] = Unit {0}
 SlotsMatch (e ∷ es) = (e.0 ≡ slot_of e.1) × SlotsMatch es

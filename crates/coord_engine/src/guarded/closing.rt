@@ -17,7 +17,7 @@ use coord_ledger::{Ledger, Seen};
 use coord_types::{Kind, Step};
 use std::sync::ledger::{Book, Ledger as Count, Share as Part};
 
-/// Takes all parts of the count together. Once they are together, the shares have as many notes as
+/// Joins all parts of the count. Once they are joined, the shares are known to have as many notes as
 /// steps were counted.
 fn gather<L: Count>(book: Book<L>, rest: Part<L>, shares: Vec<Share<L>>)
     requires parts { rest.parts + length shares.items ≡ L.parts }
@@ -34,7 +34,7 @@ fn gather<L: Count>(book: Book<L>, rest: Part<L>, shares: Vec<Share<L>>)
     book.audit(&mut all);
 }
 
-/// Returns the kinds from this place on.
+/// Returns the kinds from this index on.
 fn kinds_from(kinds: &[Kind], start: usize) -> &[Kind]
     requires { start ≤ length kinds.now }
     ensures { result.now ≡ drop start kinds.now }
@@ -42,7 +42,7 @@ fn kinds_from(kinds: &[Kind], start: usize) -> &[Kind]
     &kinds[start..]
 }
 
-/// Returns the steps from this place on.
+/// Returns the steps from this index on.
 pub fn steps_from(trail: &[Step], start: usize) -> &[Step]
     requires { start ≤ length trail.now }
     ensures { result.now ≡ drop start trail.now }
@@ -50,7 +50,7 @@ pub fn steps_from(trail: &[Step], start: usize) -> &[Step]
     &trail[start..]
 }
 
-/// Returns the parts of a ledger whose store is at home. It allocates nothing.
+/// Takes apart a ledger that has no flight out. Allocates nothing.
 fn left_of<D: Disk>(ledger: Ledger<D>) -> Closed<D>
     requires home { is_none ledger.disk ≡ false }
     ensures store { (ledger.disk ≡ Some result.store.disk) ×
@@ -71,8 +71,8 @@ fn left_of<D: Disk>(ledger: Ledger<D>) -> Closed<D>
 }
 
 impl<D: Disk, L: Origin> Guarded<D, L> {
-    /// Whether the shares noted every step accepted since the start, with the kind of its reply,
-    /// each share in order. That they noted nothing else follows from the count.
+    /// Tests whether the shares noted every step accepted since the engine was created, with the kind
+    /// of its reply, each share in order. The count implies that they noted nothing else.
     fn are_noted(&self, shares: &[Share<L>]) -> bool
         ensures { IsTrue result ↔ AreNoted shares.now
             (self.now.ledger.log.base.count + self.now.start)
@@ -88,10 +88,10 @@ impl<D: Disk, L: Origin> Guarded<D, L> {
         all_noted(shares, others, steps, kinds)
     }
 
-    /// Takes the ledger apart, if no flight is out, all shares are there, everything that callers
-    /// have seen is settled, and the shares noted exactly the steps accepted since the start, with
-    /// the kinds of the replies. It returns the authority of the history too, which has written the
-    /// settled steps. It allocates nothing.
+    /// Takes the ledger apart. Refuses unless no flight is out, all shares are returned, everything
+    /// that callers have seen is settled, and the shares noted exactly the steps accepted since the
+    /// engine was created, with the kinds of their replies. Returns the authority of the history too,
+    /// which has written the settled steps. Allocates nothing.
     pub fn close(
         self,
         shares: Vec<Share<L>>,
@@ -146,8 +146,8 @@ impl<D: Disk, L: Origin> Guarded<D, L> {
         Ok((left_of(ledger), writer))
     }
 
-    /// Takes the ledger apart, whatever the shares noted, and returns the authority of the history
-    /// too. It allocates nothing.
+    /// Takes the ledger apart, whatever the shares noted, and returns the authority of the history too.
+    /// Allocates nothing.
     fn abandon(self) -> (Closed<D>, LogAuthority)
         requires home { is_none self.ledger.disk ≡ false }
         ensures store { (self.ledger.disk ≡ Some result.0.store.disk) ×
@@ -175,8 +175,8 @@ impl<D: Disk, L: Origin> Guarded<D, L> {
         (left_of(ledger), writer)
     }
 
-    /// Takes the ledger apart in any case, unless a flight is out: like `close`; or, if `close`
-    /// refuses these shares, whatever they noted, with the reason. It allocates nothing.
+    /// Takes the ledger apart in any case, unless a flight is out. If `close` would refuse these
+    /// shares, the result has the reason instead of the shares. Allocates nothing.
     pub fn retire(
         self,
         shares: Vec<Share<L>>,

@@ -1,4 +1,4 @@
-//! Answers to tickets, and the reading of the history under the lock.
+//! Answers tickets, and lets tokens read the history, under the lock.
 
 ghost use Rattle.std.specs.Prelude.{◌≡◌};
 ghost use Rattle.coord_engine.specs.Calls.{CollectsAs};
@@ -14,9 +14,9 @@ use coord_types::Refusal;
 use std::mem::replace;
 
 impl<D: Disk, L: Origin> Guarded<D, L> {
-    /// Returns the reply to the ticket's step once it is settled. `Stranger` refuses a ticket of
-    /// another ledger once a step with its number is settled, and `Stopped` one whose step will not
-    /// be settled any more; any other has to wait.
+    /// Returns the reply to the ticket's step once the step is settled. `Stranger` refuses a ticket of
+    /// another ledger once a step with its number is settled. `Stopped` refuses a ticket whose step
+    /// will never be settled. Any other ticket has to wait.
     pub fn collect(&self, ticket: Ticket) -> Collected
         ensures { CollectsAs self.now.ledger ticket result }
     {
@@ -30,8 +30,7 @@ impl<D: Disk, L: Origin> Guarded<D, L> {
         }
     }
 
-    /// Makes a token read on, so that it has read all settled steps. They begin with its earlier
-    /// ones.
+    /// Makes a token read all settled steps. The prefix that it has then read extends its earlier one.
     pub fn read_on(&mut self, history: &MonotoneLog, reader: &mut LogPrefix)
         requires here { history.now ≡ L.history }
         requires own { reader.old.history ≡ L.history }

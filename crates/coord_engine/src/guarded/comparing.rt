@@ -1,4 +1,4 @@
-//! Compares the notes of shares with the accepted steps. It allocates nothing.
+//! Compares the notes of shares with the accepted steps. Nothing here allocates.
 
 ghost use Rattle.std.specs.Prelude.{◌≡◌, ◌↔◌, ◌+◌, ◌^◌, ◌<◌, get_or, length, All, Contains, IsTrue};
 ghost use Rattle.coord_engine.specs.Named.{IsAscending, all_notes, notes_of};
@@ -8,7 +8,7 @@ use coord_ledger::{Note, is_same_step};
 use coord_types::{Kind, Step};
 use std::sync::ledger::Ledger as Count;
 
-/// Whether each note is older than the next.
+/// Tests whether each note has a smaller step number than the next.
 fn is_ascending(notes: &[Note]) -> bool
     ensures { IsTrue result ↔ IsAscending notes.now }
 {
@@ -20,7 +20,7 @@ fn is_ascending(notes: &[Note]) -> bool
     true
 }
 
-/// Whether each share noted its steps in order.
+/// Tests whether each share noted its steps in order.
 pub fn all_ascending<L: Count>(shares: &[Share<L>]) -> bool
     ensures { IsTrue result ↔ All IsAscending shares.now }
 {
@@ -32,7 +32,7 @@ pub fn all_ascending<L: Count>(shares: &[Share<L>]) -> bool
     true
 }
 
-/// Whether these are the same note.
+/// Tests whether two notes are equal.
 #[tactic(auto, using(crate::proofs::Notes::same_note))]
 fn is_same(a: &Note, b: &Note) -> bool
     ensures { IsTrue result ↔ (a.now ≡ b.now) }
@@ -40,7 +40,7 @@ fn is_same(a: &Note, b: &Note) -> bool
     a.step == b.step && a.kind == b.kind && is_same_step(&a.what, &b.what)
 }
 
-/// Returns whether the note is one of these, which are in ascending order.
+/// Tests whether the note is one of these, which are in ascending order.
 fn has(notes: &[Note], note: &Note) -> bool
     requires { IsAscending notes.now }
     ensures { IsTrue result ↔ Contains notes.now note.now }
@@ -51,7 +51,7 @@ fn has(notes: &[Note], note: &Note) -> bool
     }
 }
 
-/// Whether some share has the note.
+/// Tests whether any share has the note.
 fn some_has<L: Count>(shares: &[Share<L>], note: &Note) -> bool
     requires { All IsAscending shares.now }
     ensures { IsTrue result ↔ Contains (all_notes shares.now) note.now }
@@ -64,7 +64,7 @@ fn some_has<L: Count>(shares: &[Share<L>], note: &Note) -> bool
     false
 }
 
-/// Returns the kind at this place.
+/// Returns the kind at this index.
 fn kind_at(kinds: &[Kind], place: usize) -> Kind
     requires { place < length kinds.now }
     ensures { result ≡ get_or kinds.now place result }
@@ -72,8 +72,8 @@ fn kind_at(kinds: &[Kind], place: usize) -> Kind
     kinds[place]
 }
 
-/// Whether each of these steps, which come after some others, was noted in some share with the kind
-/// of its reply.
+/// Tests whether some share noted each of these steps with the kind of its reply. The steps follow
+/// `others` earlier ones.
 pub fn all_noted<L: Count>(shares: &[Share<L>], others: u64, steps: &[Step], kinds: &[Kind]) -> bool
     requires ascending { All IsAscending shares.now }
     requires few { others + length steps.now < 2 ^ 64 }

@@ -18,7 +18,7 @@ use coord_types::{Refusal, Step};
 use std::alloc::AllocError;
 use std::marker::PhantomData;
 
-/// Returns this many of the first steps.
+/// Returns the first `count` steps.
 fn first_steps(steps: &[Step], count: usize) -> &[Step]
     requires { count ≤ length steps.now }
     ensures { result.now ≡ take count steps.now }
@@ -26,7 +26,7 @@ fn first_steps(steps: &[Step], count: usize) -> &[Step]
     &steps[..count]
 }
 
-/// Writes the settled steps of a ledger in the history, after those of earlier instances.
+/// Writes the settled steps of a ledger to the history, after those of earlier instances.
 pub(super) fn write_settled<D: Disk, L: Origin>(
     writer: &mut LogAuthority,
     history: &MonotoneLog,
@@ -49,7 +49,7 @@ impl<D: Disk, L: Origin> Guarded<D, L> {
         self.ledger.pending()
     }
 
-    /// Sends the next flight out, like the ledger. The flight has read the settled steps.
+    /// Sends the next flight out, like the ledger. The flight's token has read the settled steps.
     pub fn begin(&mut self, history: &MonotoneLog) -> Result<Option<OwnFlight<D, L>>, AllocError>
         requires here { history.now ≡ L.history }
         ensures nothing { keeps_store self.old.ledger ≡ true → (result ≡ Ok None) ×
@@ -78,9 +78,9 @@ impl<D: Disk, L: Origin> Guarded<D, L> {
         }
     }
 
-    /// Takes the flight that is out back, like the ledger. The token of its releases has read the
-    /// settled steps, its own among them. Waiting threads must be woken: for a reply, or since the
-    /// ledger has stopped.
+    /// Takes back the flight that is out, like the ledger. The token of its releases has read the
+    /// settled steps, including those of the flight. Waiting threads must be woken: a reply may be
+    /// ready, or the ledger has stopped.
     pub fn end(
         &mut self,
         history: &MonotoneLog,
@@ -119,8 +119,8 @@ impl<D: Disk, L: Origin> Guarded<D, L> {
         }
     }
 
-    /// Returns the packets that may have been lost, to be sent again as of step 0. No signal is
-    /// among them.
+    /// Returns the packets to be sent again because they may have been lost, with 0 as their step's
+    /// number. There is no signal among them.
     pub fn resend(&mut self, history: &MonotoneLog) -> Result<Released<L>, AllocError>
         requires here { history.now ≡ L.history }
         ensures again { IfOk result (λ releases. releases ≡ resent (settled_world self.old.ledger.log)) }

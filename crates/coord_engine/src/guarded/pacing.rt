@@ -1,8 +1,8 @@
 //! When a flight starts (`specs/Pacing.antt`).
 //!
-//! `in_hand` counts the released packets that a port or a worker has in hand, as far as is known: a
-//! port may lose a packet or carry it twice. `awaited` is the number of steps likely to be pending
-//! soon: an answered caller may come again or not. So both are only hints of when to start a
+//! `in_hand` counts the released packets that a port or a worker has in hand. The count may be wrong: a
+//! port may lose a packet or carry it twice. `awaited` is the number of steps that are likely to be
+//! pending soon; an answered caller may order again or not. So both are only hints for when to start a
 //! flight.
 
 ghost use Rattle.std.specs.Prelude.{◌≡◌, ◌+◌, ◌-◌, ◌^◌, min, take};
@@ -17,12 +17,12 @@ use crate::Origin;
 use coord_disk::Disk;
 use coord_types::{MAX_BATCH_STEPS, Step};
 
-/// The most steps that a flight waits for. If more are likely to come it waits for none: a flight
-/// of that many callers is well filled without a wait (some 50 of 64 are in each), and over a fast
-/// disk the wait costs more than the few missing steps.
+/// The maximum number of steps that a flight waits for. If more are likely to come, it waits for none:
+/// a flight of that many callers is well filled without a wait (about 50 of 64 are in each), and over a
+/// fast disk the wait costs more than the few missing steps.
 const MOST_AWAITED: u64 = 32;
 
-/// Shows that the count of packets in hand was lowered by one. Only `put_down` makes it.
+/// Proof that the count of packets in hand was lowered by one. Only `put_down` returns it.
 #[derive(Drop)]
 pub struct PutDown(());
 
@@ -36,7 +36,7 @@ fn count_orders(steps: &[Step]) -> usize
         .count()
 }
 
-/// Returns the first of these steps, as many as a flight takes.
+/// Returns the first of these steps, at most as many as a flight takes.
 fn next_steps(steps: &[Step]) -> &[Step]
     ensures { result.now ≡ take MAX_BATCH_STEPS steps.now }
 {
@@ -44,7 +44,7 @@ fn next_steps(steps: &[Step]) -> &[Step]
 }
 
 impl<D: Disk, L: Origin> Guarded<D, L> {
-    /// Counts this many more packets as handed over.
+    /// Counts this many more packets as passed to a port.
     pub fn raise_in_hand(&mut self, count: u64)
         ensures { self.new ≡ with_in_hand self.old (min (self.old.in_hand + count) (2 ^ 64 - 1)) }
     {
@@ -58,7 +58,7 @@ impl<D: Disk, L: Origin> Guarded<D, L> {
         self.in_hand = self.in_hand.saturating_sub(count);
     }
 
-    /// Counts a packet that was submitted, dropped, kept or lost.
+    /// Counts one packet as handled: it was submitted, dropped, kept or lost.
     pub fn put_down(&mut self) -> PutDown
         ensures { self.new ≡ with_in_hand self.old (self.old.in_hand - 1) }
     {
@@ -81,15 +81,15 @@ impl<D: Disk, L: Origin> Guarded<D, L> {
         steps_from(trail, trail.len() - self.ledger.pending())
     }
 
-    /// Counts the orders that leave with the next flight.
+    /// Records the number of orders in the next flight.
     pub fn count_leaving(&mut self)
         ensures { self.new ≡ with_awaited self.old (leaving_orders self.old) }
     {
         self.awaited = count_orders(next_steps(self.pending_steps())) as u64;
     }
 
-    /// Awaits the callers of a flight that came back, since they may order again, beside those
-    /// whose steps are pending; if they are many, nobody is awaited.
+    /// Waits from now on for the callers of a flight that returned, since they may order again, and for
+    /// the steps that are already pending; for none if there are too many.
     pub fn await_callers(&mut self)
         ensures { self.new ≡ with_callers_awaited self.old }
     {
@@ -104,35 +104,35 @@ impl<D: Disk, L: Origin> Guarded<D, L> {
         self.awaited = 0;
     }
 
-    /// Whether nothing will ever be flushed again.
+    /// Tests whether nothing will ever be flushed again.
     pub fn is_over(&self) -> bool
         ensures { result ≡ is_over self.now }
     {
         self.ledger.stopped() || (self.finishing && self.pending() == 0)
     }
 
-    /// Whether nothing can be flushed yet.
+    /// Tests whether nothing can be flushed yet.
     pub fn is_idle(&self) -> bool
         ensures { result ≡ is_idle self.now }
     {
         !self.is_over() && (self.pending() == 0 || self.ledger.is_out())
     }
 
-    /// Whether nothing is waited for.
+    /// Tests whether a flight need not wait for anything.
     fn is_gathered(&self) -> bool
         ensures { result ≡ is_gathered self.now }
     {
         self.in_hand == 0 && self.pending() as u64 >= self.awaited
     }
 
-    /// Whether a flight starts at once.
+    /// Tests whether a flight starts at once.
     pub fn starts_at_once(&self) -> bool
         ensures { result ≡ starts_at_once self.now }
     {
         self.is_gathered() || self.pending() >= MAX_BATCH_STEPS || self.finishing
     }
 
-    /// Whether a waiting flusher must be woken. `was_idle`: nothing could be flushed before.
+    /// Tests whether a waiting flusher must be woken. `was_idle`: nothing could be flushed before.
     pub fn wakes_flusher(&self, was_idle: bool) -> bool
         ensures { result ≡ wakes_flusher was_idle self.now }
     {

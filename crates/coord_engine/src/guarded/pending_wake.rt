@@ -1,19 +1,19 @@
-//! The wake-up that is owed to the threads that wait on an engine.
+//! A wake-up that is owed to the threads that wait on an engine.
 
 use std::sync::Condvar;
 
-/// The duty to wake callers or a flusher after a change for which they may wait. A method of
-/// `Guarded` that makes such a change returns it. It can't be dropped: its owner must wake them, on
-/// every path.
+/// The duty to wake callers or a flusher after a change that they may be waiting for. Each method of
+/// `Guarded` that makes such a change returns one. It can't be dropped: its owner has to wake the
+/// threads on every path.
 pub struct PendingWake(());
 
 impl PendingWake {
-    /// Returns one, for a change that was just made.
+    /// Returns the duty for a change that was just made.
     pub(super) fn new() -> Self {
         PendingWake(())
     }
 
-    /// Wakes all threads that wait on these two conditions, for replies and for steps.
+    /// Wakes all threads that wait on these two conditions: for replies, and for steps.
     pub(crate) fn wake_all(self, changed: &Condvar, work: &Condvar) {
         let PendingWake(()) = self;
         changed.notify_all();

@@ -5,6 +5,7 @@ use Rattle.coord_ledger.specs.machine.Consistent.{IsConsistent}
 use Rattle.coord_ledger.specs.machine.Machine.{Machine}
 use Rattle.coord_ledger.specs.promises.Headline.{IsSafe}
 
--- while a new flight of b steps is out, the world after the settled steps and the one after b more are both safe
+-- While a new flight of b steps is out, the world after the settled steps and the world after b more are both
+-- safe.
 abbrev pub CommitIsSafe : Type 0
 CommitIsSafe = (s : Machine) (b : ℕ) → IsConsistent s → s.flight ≡ Some (record { size = b; mark = New }) → IsSafe s s.log.settled × IsSafe s (s.log.settled + b)

@@ -27,23 +27,24 @@ use Rattle.coord_ledger.specs.promises.Headline.{CrashPrefix, IsSafe, SignalledO
 
 -- ---- the order of refusals
 
--- a client's last order that is repeated gets its reply
+-- A client's last order, sent again, gets its kept reply; any other step gets the given verdict.
 abbrev pub unless_repeat : World → Step → Result Verdict Refusal → Result Verdict Refusal
 unless_repeat front (Order client number command) verdict = or_repeat (get front.sessions client) number command verdict
 unless_repeat front (Take p) verdict = verdict
 unless_repeat front (Clear p) verdict = verdict
 
--- all tests of a step in one list: too many pending, no number left, and the step's own
+-- All tests of a step in one list: too many steps are pending, no number is left, and the step's own tests.
 abbrev pub judged_in_order : Log → Step → Result Verdict Refusal
 judged_in_order log s = refused_or (Fresh (kind (state (front_world log)) s)) ((is_full log, PendingFull) ∷ (is_exhausted (front_world log), Exhausted) ∷ against (front_world log) (settled_world log) s)
 
--- a step is refused by the first that applies: Stopped, unless it is a repeat by the first of these tests
+-- A step is refused by the first refusal that applies. `Stopped` comes first, and a repeat is refused by
+-- nothing else.
 abbrev pub SubmitOrder : Type 0
 SubmitOrder = (log : Log) (s : Step) → verdict log s ≡ (if has_stopped log then Err Stopped else unless_repeat (front_world log) s (judged_in_order log s))
 
 -- ---- logs
 
--- an accepted step, settled ones and a cut keep a log consistent
+-- A log stays consistent when a step is accepted, when steps are settled, and when a crash cuts it.
 pub record LogStays : Type 0 where
   pub accepted : (log : Log) (s : Step) → IsConsistentLog log → StepInRange s → is_full log ≡ false → IsFresh (front_world log) (settled_world log) s → IsConsistentLog (with_step log s)
   pub settled : (log : Log) (b : ℕ) → IsConsistentLog log → log.settled + b ≤ length log.trail → IsConsistentLog (with_settled log b)
@@ -54,13 +55,13 @@ pub record LogStays : Type 0 where
 abbrev pub HasAnswer : Type 0
 HasAnswer = (s : Machine) (e : Event) → (a : Answer) × IsOneOf a (answers s e)
 
--- the settled steps stay as they are
+-- The settled steps of the first machine are the first settled steps of the second.
 pub record KeepsSettled (s t : Machine) : Type 0 where
   pub base : t.log.base ≡ s.log.base
   pub settled : s.log.settled ≤ t.log.settled
   pub steps : take s.log.settled t.log.trail ≡ take s.log.settled s.log.trail
 
--- in each event, a crash too
+-- Each event, a crash too, keeps the settled steps.
 abbrev pub SettledStays : Type 0
 SettledStays = (s : Machine) (e : Event) (a : Answer) → IsConsistent s → IsOneOf a (answers s e) → KeepsSettled s (after s e a)
 
@@ -75,12 +76,13 @@ StaysConsistent = (s : Machine) (e : Event) (a : Answer) → EventInRange e → 
 abbrev pub RunIsConsistent : Type 0
 RunIsConsistent = (s : Machine) (events : List Event) (given : List Answer) → AllByRecursion EventInRange events → IsConsistent s → Answered s events given → IsConsistent (run s events given)
 
--- runs grow by one event at a time
+-- A run with one more event is the run, followed by that event.
 abbrev pub RunGoesOn : Type 0
 RunGoesOn = (s : Machine) (events : List Event) (given : List Answer) (e : Event) (a : Answer) → Answered s events given → IsOneOf a (answers (run s events given) e) →
     Answered s (events ++ e ∷ []) (given ++ a ∷ []) × (run s (events ++ e ∷ []) (given ++ a ∷ []) ≡ after (run s events given) e a)
 
--- whatever a crash may keep is legal, holds every step with visible output, and only accepted steps
+-- Every number of steps that a crash may keep gives a legal world, and includes each step with a visible
+-- output.
 abbrev pub KeptIsSafe : Type 0
 KeptIsSafe = (s : Machine) (n : ℕ) → IsConsistent s → IsOneOf n (kept s) → IsSafe s n
 
@@ -88,10 +90,11 @@ KeptIsSafe = (s : Machine) (n : ℕ) → IsConsistent s → IsOneOf n (kept s) �
 abbrev pub NoSignalTwice : Type 0
 NoSignalTwice = (s : Machine) → IsConsistent s → SignalledOnce s
 
--- a flight that returns at the end of a run does not change what a crash may keep
+-- The return of a flight at the end of a run does not change what a crash may keep.
 abbrev pub FinishKeepsKept : Type 0
 FinishKeepsKept = (s : Machine) → IsConsistent s → kept (finished s s.flight) ≡ kept s
 
--- if each image of a disk gives the world after steps that a crash may keep, the crash prefix holds
+-- The crash prefix holds if each image of a disk gives the world after a number of steps that a crash may
+-- keep.
 abbrev pub PrefixFromImages : Type 0
 PrefixFromImages = (s : Machine) (keeps_model : Bool) (present : Present) → IsConsistent s → ImagesGiveOneOf keeps_model present s.log (kept s) → CrashPrefix s keeps_model present

@@ -1,4 +1,5 @@
--- A base that moves: after a crash a ledger begins a new base, and answers as if it had kept the old one.
+-- A ledger's base moves: after a crash a ledger starts from a new base, and gives the answers that it would
+-- have given from the old one.
 use Rattle.std.specs.Prelude.{◌≡◌, ℕ, ◌≤◌, false}
 use Rattle.coord_ledger.specs.declared.events.Answer.{Answer}
 use Rattle.coord_ledger.specs.declared.events.Event.{Event}
@@ -16,14 +17,15 @@ rebased_machine s n = record s { log = rebased s.log n }
 abbrev pub RebasedIsConsistent : Type 0
 RebasedIsConsistent = (log : Log) (n : ℕ) → IsConsistentLog log → n ≤ log.settled → IsConsistentLog (rebased log n)
 
--- the machine with its base moved may give the same answers
+-- A machine may give the same answers after its base has moved.
 abbrev pub RebasedAnswersAlike : Type 0
 RebasedAnswersAlike = (s : Machine) (n : ℕ) (e : Event) → IsConsistent s → n ≤ s.log.settled → answers (rebased_machine s n) e ≡ answers s e
 
--- the machine with its base moved stays, after each event, the same machine with its base moved
+-- After each event except a crash, the machine with the moved base is still the first machine with its base
+-- moved.
 abbrev pub RebasedGoesOn : Type 0
 RebasedGoesOn = (s : Machine) (n : ℕ) (e : Event) (a : Answer) → IsConsistent s → n ≤ s.log.settled → is_crash e ≡ false → IsOneOf a (answers s e) → after (rebased_machine s n) e a ≡ rebased_machine (after s e a) n
 
--- after a crash that keeps n steps, the machine is a new one over their world
+-- After a crash that keeps n steps, the machine is a new one over the world after these steps.
 abbrev pub CrashReopens : Type 0
 CrashReopens = (s : Machine) (n : ℕ) → rebased_machine (crashed s n) n ≡ record (adopted (world_after s.log n)) { released = s.released; replied = s.replied }

@@ -1,4 +1,4 @@
--- How often a ledger releases signals between two moments at which every node of a part is Ready.
+-- The number of signals that a ledger releases between two moments at which every node of a part is Ready.
 use Rattle.std.specs.Prelude.{◌≡◌, ℕ, ◌+◌, ◌≤◌, ◌&&◌, Bool, true, List, ◌++◌, length, count_by, nat_le, nat_lt}
 use Rattle.coord_types.specs.declared.steps.Step.{Step}
 use Rattle.coord_world.specs.Facade.{fold}
@@ -14,14 +14,15 @@ use Rattle.coord_ledger.specs.machine.Machine.{Machine}
 abbrev pub is_signal_within : ℕ → ℕ → ℕ → Release → Bool
 is_signal_within a b v r = (nat_lt a r.step && nat_le r.step b) && is_signal_of v r.output
 
--- Everything that a ledger has ever released, crashes included, keeps the bounds between two moments of its settled
--- steps: the steps in between released at most as many signals of a node as resets were started there.
+-- All releases of a ledger, crashes included, keep the bounds between two moments of its settled steps:
+-- between them, each node gets at most as many signals as resets were started there.
 abbrev pub ReleasedBetween : Type 0
 ReleasedBetween = (s : Machine) (earlier between rest : List Step) (part : ℕ → Bool) → IsConsistent s → settled_steps s.log ≡ earlier ++ (between ++ rest) → IsReadyAgain s.log.base earlier between part →
     BoundSignals (fold s.log.base earlier) between part (λ v. count_by (is_signal_within (s.log.base.count + length earlier) (s.log.base.count + length earlier + length between) v) s.released)
 
--- While nodes and links come and go, as long as no link joins the part with the rest, the steps between have released no more signals of a
--- node of the part than resets were started and links dropped there, and its own resets answered Finished.
+-- The bound if nodes and links come and go, as long as no link joins the part with the rest: a node of the
+-- part gets at most as many signals as resets were started and links dropped there, plus its own resets that
+-- were answered Finished.
 abbrev pub ReleasedWithDrops : Type 0
 ReleasedWithDrops = (s : Machine) (earlier between rest : List Step) (part : ℕ → Bool) → IsConsistent s → settled_steps s.log ≡ earlier ++ (between ++ rest) → IsReadyApart s.log.base earlier between part →
     (v : ℕ) → part v ≡ true → count_by (is_signal_within (s.log.base.count + length earlier) (s.log.base.count + length earlier + length between) v) s.released ≤ most_signals (fold s.log.base earlier) between part v

@@ -1,4 +1,4 @@
--- A driver's content: the disk, with the ledger or with the flight, and how the calls change both.
+-- The content of a driver (a disk, held by the ledger or by its flight), and how the calls change it.
 use Rattle.std.specs.Prelude.{◌≡◌, ◌⊎◌, ℕ, List, [], Bool, true, false, Option, Some, None, length}
 use Rattle.std.specs.Option.{option_map}
 use Rattle.coord_disk.specs.Model.Present.{Present, IsImage}
@@ -22,7 +22,7 @@ use Rattle.coord_ledger.specs.promises.Broken.{IsGivenBack, wants_memory}
 use Rattle.coord_ledger.specs.promises.Headline.{CrashPrefix, EachMoment, Touches, is_crash}
 use Rattle.coord_ledger.specs.promises.Moments.{Reopens}
 
--- the driver's device has failed this often
+-- The device has failed this many times.
 abbrev pub HasFailed : {D : Type 0} → (D → ℕ) → Option D → ℕ → Type 0
 HasFailed failures disk n = option_map failures disk ≡ Some n
 
@@ -31,18 +31,18 @@ abbrev pub brought_home : {D : Type 0} → LedgerState D → Option (FlightState
 brought_home l None = l
 brought_home l (Some f) = taken_back l (length f.steps) f.mark f.disk
 
--- When the machine is simulated: at each event on a disk that keeps the model, and on every disk at each event except
--- a crash.
+-- When the driver is proved to follow the machine: at every event if the disk keeps the model, and otherwise
+-- at every event except a crash.
 abbrev pub IsPromised : Option Bool → Event → Type 0
 IsPromised model e = (model ≡ Some true) ⊎ (is_crash e ≡ false)
 
--- one of a disk's images gives this world
+-- A crash image of this disk gives this world.
 pub record AnImageGives (present : Present) (world : World) : Type 0 where
   pub image : List ℕ
   pub allowed : IsImage present image
   pub recovered : Recovered image world
 
--- a ledger that was created after a crash of this disk, over the world that one of its images encodes
+-- A ledger was created after a crash of this disk, over the world that one of the disk's images gives.
 pub record IsReopened {D : Type 0} (model : DiskModel D) (crashes : D → D → Type 0) (before : D) (l : LedgerState D) : Type 0 where
   pub world : World
   pub disk : D
@@ -51,30 +51,30 @@ pub record IsReopened {D : Type 0} (model : DiskModel D) (crashes : D → D → 
   pub from : model.keeps_model before ≡ true → AnImageGives (model.present before) world
   pub moments : model.keeps_model before ≡ true → Reopens model crashes (IsImage (model.present before)) before disk
 
--- one of a disk's images is refused with this fault
+-- A crash image of this disk is refused with this fault.
 pub record AnImageIsRefused (present : Present) (fault : StoreFault) : Type 0 where
   pub image : List ℕ
   pub allowed : IsImage present image
   pub refused : RefusesOpen image fault
 
--- the returned disk reads as one of the images of that disk, and gives a world
+-- The returned disk reads as one of the first disk's crash images, and gives a world.
 pub record IsOpenedOnce (present lost : Present) : Type 0 where
   pub allowed : IsImage present lost.read
   pub world : World
   pub recovered : Recovered lost.read world
 
--- Why no ledger was created after a crash of this disk: the store was opened and memory for the ledger ran out, or
--- the store was not opened.
+-- The reasons why no ledger was created after a crash of this disk: memory for the ledger ran out after the
+-- store was opened, or the store was not opened.
 abbrev pub IsReopenFault : Bool → Present → Present → RunFaultKind → Type 0
 IsReopenFault keeps_model present lost OutOfMemory = keeps_model ≡ true → IsOpenedOnce present lost
 IsReopenFault keeps_model present lost (Store fault) = IsOpenFault fault × (keeps_model ≡ true → AnImageIsRefused present fault)
 
--- why an event was not answered
+-- the reasons why an event was not answered
 abbrev pub IsEventFault : Option Bool → Event → RunFaultKind → Type 0
 IsEventFault model e OutOfMemory = wants_memory e ≡ true
 IsEventFault model e (Store fault) = (e ≡ Crash) × IsOpenFault fault × (model ≡ Some true → IsPassing fault)
 
--- the driver now has the result of an event on this disk
+-- The driver now holds a disk, which an event on the old disk has led to.
 pub record DiskAfter {D : Type 0} (model : DiskModel D) (crashes : D → D → Type 0) (found : Machine) (touches : Bool) (e : Event) (old : D) (now : Option D) : Type 0 where
   pub new : D
   pub holds : now ≡ Some new
@@ -86,12 +86,12 @@ abbrev pub DiskEffect : {D : Type 0} → DiskModel D → (D → D → Type 0) �
 DiskEffect {D} model crashes found touches e was now =
     (old : D) → was ≡ Some old → DiskAfter model crashes found touches e old now
 
--- An event was cut short, and this disk is returned instead of the one before.
+-- An event was cut short, and `lost` is the disk that is returned.
 abbrev pub IsLost : {D : Type 0} → DiskModel D → (D → D → Type 0) → Machine → Event → RunFaultKind → Option D → D → Type 0
 IsLost {D} model crashes s e kind was lost =
     (old : D) → was ≡ Some old → IsGivenBack model crashes (model.keeps_model old) s e kind old lost
 
--- whatever a crash between two events may leave of the disk that is held survives
+-- Whatever a crash between two events may leave of the driver's disk survives.
 abbrev pub DiskSurvives : {D : Type 0} → DiskModel D → Option D → Machine → Type 0
 DiskSurvives {D} model held s = (disk : D) → held ≡ Some disk → CrashPrefix s (model.keeps_model disk) (model.present disk)
 
@@ -104,7 +104,8 @@ pub record RunSoFar {D : Type 0} (model : DiskModel D) (crashes : D → D → Ty
   pub holds : disk_held d ≡ Some disk
   pub moments : EachMoment model crashes keeps_model (started start) events given first disk
 
--- A run of events may begin at this driver: from its ledger's disk on, it is a run without events.
+-- A run of events may begin at this driver: the run without events, which starts from its ledger's disk, has
+-- led to it.
 pub record MayBegin {D : Type 0} (model : DiskModel D) (crashes : D → D → Type 0) (d : DriverState D) : Type 0 where
   pub first : D
   pub home : d.ledger.disk ≡ Some first

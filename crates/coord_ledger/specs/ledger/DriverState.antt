@@ -1,4 +1,4 @@
--- A driver as contracts see it: a ledger, and the flight that is out of it.
+-- A driver as contracts see it: a ledger, and its flight if one is out.
 use Rattle.std.specs.Prelude.{◌≡◌, Bool, List, Option, Some, None, Result, Ok, Err}
 use Rattle.std.specs.Option.{option_map}
 use Rattle.coord_disk.specs.Model.DiskModel.{DiskModel}
@@ -16,7 +16,7 @@ pub record DriverState (D : Type 0) : Type 0 where
   pub ledger : LedgerState D
   pub flight : Option (FlightState D)
 
--- a ledger with its store at home
+-- the driver of a ledger that has no flight out
 abbrev pub at_home : {D : Type 0} → LedgerState D → DriverState D
 at_home l = record { ledger = l; flight = None }
 
@@ -27,25 +27,25 @@ disk_with disk (Some f) = Some f.disk
 abbrev pub disk_held : {D : Type 0} → DriverState D → Option D
 disk_held d = disk_with d.ledger.disk d.flight
 
--- whether it keeps the model
+-- whether the driver's disk keeps the disk model; None if the driver holds no disk
 abbrev pub model_held : {D : Type 0} → DiskModel D → DriverState D → Option Bool
 model_held model d = option_map model.keeps_model (disk_held d)
 
--- a driver that was just created, over this world
+-- The driver was just created, over the ledger's base world.
 pub record IsAnew {D : Type 0} (d : DriverState D) : Type 0 where
   pub world : World
   pub disk : D
   pub is : d ≡ at_home (ledger_over world disk)
 
--- ---- a call of the driver as the machine answers it
+-- ---- the machine's answer for each call of the driver
 
--- a submitted step
+-- the answer to a submitted step
 abbrev pub answer_to : Result Handed Refusal → Answer
 answer_to (Ok (handed.Accepted claim)) = answer.Accepted claim.step
 answer_to (Ok (handed.Repeated claim)) = answer.Repeated claim.step
 answer_to (Err refusal) = answer.Refused refusal
 
--- a flight that returns, or does not
+-- the answer when a flight is taken back, or is not
 abbrev pub finish_answer : {D : Type 0} → Result (Option (List Release)) Refusal → DriverState D → Answer
 finish_answer (Ok None) d = answer.NoFlight
 finish_answer (Ok (Some releases)) d = answer.Finished (settled_count d.ledger.log)

@@ -1,4 +1,4 @@
--- A flight that is out of its ledger, and the worlds that the images of a disk give.
+-- The flight of a ledger, and the worlds that the images of a disk give.
 use Rattle.std.specs.Prelude.{◌≡◌, ℕ, ◌+◌, Bool, true, List, length, take, Option, Some, None}
 use Rattle.coord_disk.specs.Model.Present.{Present, IsImage}
 use Rattle.coord_store.specs.Recovered.{Recovered}
@@ -7,17 +7,17 @@ use Rattle.coord_ledger.specs.machine.Answers.{IsOneOf}
 use Rattle.coord_ledger.specs.machine.Log.{Log, pending, settled_count, settled_world, world_after}
 use Rattle.coord_ledger.specs.machine.Machine.{FlightOut}
 
--- these bytes give the log's world after one of these numbers of steps
+-- These bytes give the log's world after one of these numbers of steps.
 pub record GivesOneOf (log : Log) (counts bytes : List ℕ) : Type 0 where
   pub steps : ℕ
   pub allowed : IsOneOf steps counts
   pub recovered : Recovered bytes (world_after log steps)
 
--- each image of a disk gives the log's world after one of these numbers of steps
+-- Each image of a disk gives the log's world after one of these numbers of steps.
 abbrev pub ImagesGiveOneOf : Bool → Present → Log → List ℕ → Type 0
 ImagesGiveOneOf keeps_model present log counts = keeps_model ≡ true → (image : List ℕ) → IsImage present image → GivesOneOf log counts image
 
--- the flight is the one that left this ledger: it has its number, its next steps and its world
+-- The flight left this ledger and is still out: its first number, steps and world are the ledger's next.
 pub record IsOut {D : Type 0} (l : LedgerState D) (f : FlightState D) : Type 0 where
   pub size : l.out ≡ Some (length f.steps)
   pub first : f.first ≡ settled_count l.log + 1
@@ -27,7 +27,7 @@ pub record IsOut {D : Type 0} (l : LedgerState D) (f : FlightState D) : Type 0 w
 abbrev pub flight_out : {D : Type 0} → FlightState D → FlightOut
 flight_out f = record { size = length f.steps; mark = f.mark }
 
--- the flight that a driver holds is the ledger's own; without one none is out
+-- The flight that a driver holds is its ledger's flight; if it holds none, none is out.
 abbrev pub HoldsFlight : {D : Type 0} → LedgerState D → Option (FlightState D) → Type 0
 HoldsFlight l None = l.out ≡ None
 HoldsFlight l (Some f) = IsOut l f

@@ -1,8 +1,8 @@
 -- A run of events follows the event machine: the invariant of a run.
 --
--- The machine keeps the base that it began with, and a crash cuts its trail. A ledger that is made after a crash has
--- a new base. So a run's driver agrees with the machine as seen from the world after some of the settled steps
--- (`Represents`), and the run's own lists are the machine's.
+-- The machine keeps the base that it began with, and a crash cuts its trail; but a ledger that is made after
+-- a crash has a new base. So the run's driver agrees with the machine as seen from the world after some of
+-- the settled steps (`Represents`), and the run's lists are equal to the machine's.
 use Rattle.std.specs.Prelude.{◌≡◌, List, [], ◌∷◌, Option, Some, None}
 use Rattle.coord_types.specs.declared.steps.Reply.{Reply}
 use Rattle.coord_ledger.specs.declared.events.Answer.{Answer}
@@ -15,7 +15,7 @@ use Rattle.coord_ledger.specs.machine.Answers.{IsOneOf, answers}
 use Rattle.coord_ledger.specs.machine.Log.{Log}
 use Rattle.coord_ledger.specs.machine.Machine.{Machine}
 
--- a ticket that was not collected is granted, and claims its reply
+-- A ticket that was not collected is granted by the log, and claims the reply that the machine has for it.
 abbrev pub HoldsTicket : Log → Option Claim → Option Reply → Type 0
 HoldsTicket log None None = Unit {0}
 HoldsTicket log None (Some reply) = ⊥
@@ -35,7 +35,7 @@ pub record Follows {D : Type 0} (r : Run D) (s : Machine) : Type 0 where
   pub seen : r.seen ≡ s.seen
   pub released : r.released.items ≡ s.released
 
--- the machine may answer an event so, and the run follows it there
+-- The machine may give this answer to an event, and then the run follows the machine after it.
 pub record FollowsTo {D : Type 0} (s : Machine) (e : Event) (a : Answer) (r : Run D) : Type 0 where
   pub allowed : IsOneOf a (answers s e)
   pub follows : Follows r (after s e a)

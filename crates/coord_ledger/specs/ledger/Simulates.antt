@@ -1,4 +1,4 @@
--- A driver as the event machine: what each of its calls makes of it.
+-- Each call of a driver simulates an event of the event machine.
 --
 -- A driver has the log and the flight of a machine. The tickets, the views and the outputs belong to its holder, so
 -- its calls are events of any machine with that log and flight. After a crash its log begins with the world that was
@@ -17,17 +17,17 @@ use Rattle.coord_ledger.specs.machine.Answers.{IsOneOf, answers}
 use Rattle.coord_ledger.specs.machine.Log.{world_after}
 use Rattle.coord_ledger.specs.machine.Machine.{Machine, adopted}
 
--- this machine with the log and the flight of a driver
+-- this machine, with its log and flight replaced by those of a driver
 abbrev pub machine_of : {D : Type 0} → DriverState D → Machine → Machine
 machine_of d m = record m { log = d.ledger.log; flight = option_map flight_out d.flight }
 
--- the machine that an event leaves, seen from the world that a crash has opened
+-- the machine after an event; after a crash its base is the opened world
 abbrev pub goes_to : Machine → Event → Answer → Machine
 goes_to s Crash (Opened count) = record (adopted (world_after s.log (count - s.log.base.count))) { released = s.released; replied = s.replied }
 goes_to s event answer = after s event answer
 
--- The driver carries out an event: its answer is one that the machine may give, it is then in the state that the
--- machine enters with that answer, and its flight is the ledger's own.
+-- The driver carries out an event: the machine may give this answer, the driver is then in the state that the
+-- machine enters with it, and its flight is still its ledger's.
 pub record Simulates {D : Type 0} (old : DriverState D) (e : Event) (a : Answer) (new : DriverState D) : Type 0 where
   pub allowed : (m : Machine) → IsOneOf a (answers (machine_of old m) e)
   pub leaves : (m : Machine) → machine_of new (goes_to (machine_of old m) e a) ≡ goes_to (machine_of old m) e a

@@ -32,7 +32,7 @@ releases_of outcomes = flat_map (λ r. map (release_of r.reply.step) r.outputs) 
 abbrev pub settling_releases : Log → ℕ → List Release
 settling_releases log b = releases_of (outs (settled_world log) (take b (pending log)))
 
--- the packets that a world sends again, as of step 0
+-- the packets that a world sends again, with 0 as their step's number
 abbrev pub resent : World → List Release
 resent w = map (release_of 0) (again w)
 
@@ -50,13 +50,14 @@ abbrev pub marked : Mark → Option FlightOut → Option FlightOut
 marked mark None = None
 marked mark (Some f) = Some (record { size = f.size; mark = mark })
 
--- a flight of b steps has returned: a committed one settles its steps, and a torn one leaves them in doubt
+-- the log after a flight of b steps has returned: a committed flight settles its steps, and a torn one leaves
+-- them in doubt
 abbrev pub log_back : Log → ℕ → Mark → Log
 log_back log b New = log
 log_back log b Good = with_settled log b
 log_back log b Torn = with_doubt log b
 
--- the releases after a flight of b steps has returned: if it was committed, the outputs of its steps too
+-- the releases after a flight of b steps has returned: a committed flight adds the outputs of its steps
 abbrev pub released_back : List Release → Log → ℕ → Mark → List Release
 released_back released log b New = released
 released_back released log b Good = released ++ settling_releases log b
@@ -74,7 +75,8 @@ spent [] i = []
 spent (t ∷ ts) zero = None ∷ ts
 spent (t ∷ ts) (suc i) = t ∷ spent ts i
 
--- the trail is cut to its first n steps; everything else except the releases is gone
+-- the machine after a crash that keeps n steps: the trail is cut to them, and only the releases remain of the
+-- rest
 abbrev pub crashed : Machine → ℕ → Machine
 crashed s n = record s { log = cut_to s.log n; flight = None; tickets = []; seen = 0 }
 

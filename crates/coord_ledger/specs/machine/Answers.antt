@@ -1,5 +1,5 @@
--- The possible answers to each event. If there are several, memory, the device or the crash chooses, and the answer
--- says what was chosen.
+-- The possible answers to each event. If there is more than one, memory, the device or the crash decides, and
+-- the answer shows which was chosen.
 use Rattle.std.specs.Prelude.{◌≡◌, ◌⊎◌, ℕ, zero, suc, ◌+◌, ◌==◌, ◌||◌, nat_le, min, Bool, List, [], ◌∷◌, map, length, is_some, Option, Some, None, Result, Ok, Err, if◌then◌else◌}
 use Rattle.coord_types.specs.declared.limits.TheConstants.{MAX_BATCH_STEPS}
 use Rattle.coord_types.specs.declared.refusals.Refusal.{Refusal}
@@ -24,17 +24,17 @@ abbrev pub IsOneOf : {A : Type 0} → A → List A → Type 0
 IsOneOf x [] = ⊥
 IsOneOf x (y ∷ ys) = (x ≡ y) ⊎ IsOneOf x ys
 
--- a fresh step gets the next number, and a repeat that of its step
+-- A fresh step gets the next number, and a repeat the number of its step.
 abbrev pub to_submit : ℕ → Result Verdict Refusal → List Answer
 to_submit number (Ok (Fresh kind)) = Accepted number ∷ Refused OutOfMemory ∷ []
 to_submit number (Ok (Repeat reply)) = Repeated reply.step ∷ []
 to_submit number (Err refusal) = Refused refusal ∷ []
 
--- how many steps the next flight takes
+-- the number of steps that the next flight takes
 abbrev pub next_size : Log → ℕ
 next_size log = min MAX_BATCH_STEPS (length (pending log))
 
--- no flight leaves: the ledger has stopped, a flight is out, or nothing is pending
+-- whether no flight can leave: the ledger has stopped, a flight is out, or nothing is pending
 abbrev pub cannot_flush : Bool → Log → Bool
 cannot_flush is_out log = has_stopped log || is_out || (length (pending log) == 0)
 
@@ -46,8 +46,8 @@ to_commit New = Committed ∷ Failed fault.Device ∷ Failed fault.OutOfMemory �
 to_commit Good = Failed fault.Again ∷ []
 to_commit Torn = Failed fault.Stopped ∷ []
 
--- The settled count. A committed flight adds its steps to it; memory can run out only there, for the releases of its
--- steps.
+-- The settled count after the flight. A committed flight adds its steps to it. Only such a flight can run out
+-- of memory, for its releases.
 abbrev pub to_finish : ℕ → ℕ → Mark → List Answer
 to_finish count size New = Finished count ∷ []
 to_finish count size Good = Finished (count + size) ∷ Refused OutOfMemory ∷ []
@@ -63,7 +63,7 @@ ticket [] i = None
 ticket (t ∷ ts) zero = t
 ticket (t ∷ ts) (suc i) = ticket ts i
 
--- the reply comes once its step is settled
+-- The reply is returned only once its step is settled.
 abbrev pub to_collect : ℕ → Option Reply → List Answer
 to_collect count None = NoTicket ∷ []
 to_collect count (Some reply) = (if nat_le reply.step count then Collected reply else Waiting) ∷ []
@@ -71,19 +71,20 @@ to_collect count (Some reply) = (if nat_le reply.step count then Collected reply
 abbrev pub to_show : Machine → List Answer
 to_show s = if has_stopped s.log then Refused Stopped ∷ [] else Shown (shown (accepted_count s.log) (settled_world s.log)) ∷ Refused OutOfMemory ∷ []
 
--- How many steps a crash may keep, if d are settled and a flight of b more is out, with this mark.
+-- the numbers of steps that a crash may keep, if d are settled and a flight of b more is out with this mark
 abbrev pub kept_with : ℕ → ℕ → Mark → List ℕ
 kept_with d b New = d ∷ []
 kept_with d b Good = (d + b) ∷ []
 kept_with d b Torn = d ∷ (d + b) ∷ []
 
--- how many steps a crash may keep if d are settled, and a flight is out, or steps are in doubt, or neither
+-- the numbers of steps that a crash may keep, if d are settled: with a flight out, with steps in doubt, or
+-- with neither
 abbrev pub kept_by : ℕ → Option FlightOut → Option ℕ → List ℕ
 kept_by d None None = d ∷ []
 kept_by d None (Some b) = d ∷ (d + b) ∷ []
 kept_by d (Some f) doubt = kept_with d f.size f.mark
 
--- how many steps of the trail a crash may keep
+-- the numbers of steps of the trail that a crash may keep
 abbrev pub kept : Machine → List ℕ
 kept s = kept_by s.log.settled s.flight s.log.doubt
 

@@ -1,4 +1,4 @@
--- The invariant of the event machine, whenever each event got a possible answer.
+-- The invariant of the event machine, as long as each event gets a possible answer.
 use Rattle.std.specs.Prelude.{ℕ, ◌+◌, ◌≤◌, List, length, Option, Some, None}
 use Rattle.std.specs.List.{AllByRecursion}
 use Rattle.coord_types.specs.declared.limits.TheConstants.{MAX_BATCH_STEPS, MAX_PENDING}
@@ -24,29 +24,29 @@ pub record IsConsistentLog (log : Log) : Type 0 where
   pub few : length (pending log) ≤ MAX_PENDING
   pub fresh : AllFresh (settled_world log) (settled_world log) (pending log)
 
--- a flight with this many of the pending steps may be out
+-- The log has enough pending steps for a flight of this size.
 pub record FitsOut (log : Log) (size : ℕ) : Type 0 where
   pub some : 1 ≤ size
   pub most : size ≤ MAX_BATCH_STEPS
   pub within : log.settled + size ≤ length log.trail
 
--- a flight that may be out, if there is one
+-- The flight, if one is out, has enough pending steps.
 abbrev pub FlightFits : Log → Option FlightOut → Type 0
 FlightFits log None = Unit {0}
 FlightFits log (Some f) = FitsOut log f.size
 
--- the steps in doubt are pending, and no flight is out then
+-- The steps in doubt, if there are any, are pending, and no flight is out.
 abbrev pub DoubtFits : Log → Option FlightOut → Option ℕ → Type 0
 DoubtFits log flight None = Unit {0}
 DoubtFits log None (Some b) = log.settled + b ≤ length log.trail
 DoubtFits log (Some f) (Some b) = ⊥
 
--- a ticket has the reply to an accepted step, or one that the base keeps
+-- A ticket has the reply to an accepted step, or a reply that the base keeps.
 abbrev pub TicketFits : World → List Step → Option Reply → Type 0
 TicketFits base steps None = Unit {0}
 TicketFits base steps (Some reply) = IsReplyOf base steps reply
 
--- all releases and collected replies are those of settled steps
+-- All releases and collected replies belong to settled steps.
 pub record IsReturned (log : Log) (released : List Release) (replied : List Reply) : Type 0 where
   pub released_settled : AllByRecursion (λ r. r.step ≤ settled_count log) released
   pub once : IsPartOf (released_first released) (releases_of (outs log.base (settled_steps log)))

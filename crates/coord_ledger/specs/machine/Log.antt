@@ -1,4 +1,4 @@
--- The steps accepted since a base, how many of them are settled, and how many are in doubt.
+-- The steps accepted since a base world, with the numbers of settled steps and of steps in doubt.
 use Rattle.std.specs.Prelude.{ℕ, ◌+◌, ◌-◌, Bool, List, [], ◌∷◌, ◌++◌, length, map, take, drop, Option, Some, None, is_some}
 use Rattle.coord_types.specs.declared.steps.Kind.{Kind}
 use Rattle.coord_types.specs.declared.steps.Step.{Step}
@@ -7,8 +7,8 @@ use Rattle.coord_world.specs.Facade.{World, fold, outs}
 pub record Log : Type 0 where
   pub base : World
   pub trail : List Step  -- the accepted steps since the base
-  pub settled : ℕ  -- how many of them are settled
-  pub doubt : Option ℕ  -- it has stopped, and this many steps after the settled ones are on disk, or none of them
+  pub settled : ℕ  -- the number of settled steps
+  pub doubt : Option ℕ  -- after a stop: this many steps after the settled ones are all on disk, or none of them is
 
 -- the kinds of the replies to these steps
 abbrev pub kinds_of : World → List Step → List Kind
@@ -43,26 +43,26 @@ pending log = drop log.settled log.trail
 abbrev pub has_stopped : Log → Bool
 has_stopped log = is_some log.doubt
 
--- no step since this world
+-- a log without steps, over this world
 abbrev pub log_over : World → Log
 log_over w = record { base = w; trail = []; settled = 0; doubt = None }
 
--- one more step is accepted
+-- the log after one more step is accepted
 abbrev pub with_step : Log → Step → Log
 with_step log s = record log { trail = log.trail ++ s ∷ [] }
 
--- the next b steps are settled
+-- the log after the next b steps are settled
 abbrev pub with_settled : Log → ℕ → Log
 with_settled log b = record log { settled = log.settled + b }
 
--- it is unknown whether the next b steps are on disk: the ledger stops
+-- the log after a stop: it is unknown whether the next b steps are on disk
 abbrev pub with_doubt : Log → ℕ → Log
 with_doubt log b = record log { doubt = Some b }
 
--- the first n steps alone, all of them settled, and none in doubt
+-- the log of the first n steps alone, all settled and none in doubt
 abbrev pub cut_to : Log → ℕ → Log
 cut_to log n = record { base = log.base; trail = take n log.trail; settled = n; doubt = None }
 
--- the same steps seen from the world after the first n of them
+-- the same log, with the world after its first n steps as its base
 abbrev pub rebased : Log → ℕ → Log
 rebased log n = record log { base = world_after log n; trail = drop n log.trail; settled = log.settled - n }

@@ -14,15 +14,15 @@ pub record FlightOut : Type 0 where
 pub record Machine : Type 0 where
   pub log : Log
   pub flight : Option FlightOut
-  pub tickets : List (Option Reply)  -- in the order in which they were given; None once one was collected
-  pub seen : ℕ  -- the settled count that was shown last
-  pub released : List Release  -- all that ever was released, in order
-  pub replied : List Reply  -- all that ever was collected, in order
+  pub tickets : List (Option Reply)  -- in the order of their issue; None for a collected one
+  pub seen : ℕ  -- the settled count of the last view
+  pub released : List Release  -- all releases ever, in order
+  pub replied : List Reply  -- all replies ever collected, in order
 
 -- a log without a flight or releases
 abbrev pub machine_over : Log → Machine
 machine_over log = record { log = log; flight = None; tickets = []; seen = 0; released = []; replied = [] }
 
--- a ledger that was just made of a store of this world
+-- a ledger that was just created over a store with this world
 abbrev pub adopted : World → Machine
 adopted w = machine_over (log_over w)

@@ -6,7 +6,7 @@ use Rattle.coord_ledger.specs.machine.After.{after}
 use Rattle.coord_ledger.specs.machine.Answers.{IsOneOf, answers}
 use Rattle.coord_ledger.specs.machine.Machine.{Machine}
 
--- each event has an answer that it may have
+-- Each event got a possible answer.
 abbrev pub Answered : Machine → List Event → List Answer → Type 0
 Answered s [] [] = Unit {0}
 Answered s [] (a ∷ given) = ⊥

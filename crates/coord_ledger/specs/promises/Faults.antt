@@ -1,4 +1,4 @@
--- Why a run ends early, and how often the device has failed in it.
+-- The reasons why a run ends early, and the number of device failures in it.
 use Rattle.std.specs.Prelude.{ℕ, ◌+◌, List, [], ◌∷◌}
 use Rattle.coord_store.specs.Faults.{failed_in as failed_in_commit}
 use Rattle.coord_store.specs.Refused.{failed_in as failed_in_opening}
@@ -13,12 +13,12 @@ abbrev pub run_fault_number : RunFaultKind → ℕ
 run_fault_number OutOfMemory = 1
 run_fault_number (Store fault) = 2
 
--- the number of device failures in the opening that ends a run with this fault
+-- the number of device failures in the failed opening that ended a run with this fault; 0 if memory ran out
 abbrev pub failed_in_run : RunFaultKind → ℕ
 failed_in_run OutOfMemory = 0
 failed_in_run (Store fault) = failed_in_opening fault
 
--- how often the device has failed in an event with this answer: only that of a commit says so
+-- the number of device failures in an event with this answer; only the answer to a commit reports one
 abbrev pub failed_at : Event → Answer → ℕ
 failed_at Commit (Failed fault) = failed_in_commit fault
 failed_at event answer = 0

@@ -1,22 +1,24 @@
--- The headline: the promise for a run of events, wherever it is stopped.
+-- The headline: the promise for a run of events, no matter when it is stopped.
 --
--- Wherever a run is stopped, before, within or after any write, `open` on whatever the disk may then hold gives the
--- world after a prefix of the accepted steps, none skipped and none in part; that prefix holds every step whose reply,
--- packet or signal had been released; and every link predicate holds in that world.
+-- Stop a run at any point: before, within or after any write. Whatever the disk then holds, `open` gives the
+-- world after a prefix of the accepted steps, none skipped and none in part. That prefix includes every step
+-- whose reply, packet or signal had been released, and every link predicate holds in that world.
 --
--- A run is a list of events with its answers. `Survives` is the sentence for one image of the disk, `CrashPrefix` for
--- all images of a disk between two events, and `EachMoment` for each moment of a run, also within its events: the
--- effect of the run on its disk is stated event by event, each from the disk that the event before it left. A commit
--- leaves at each of its moments only images of the world before it or after it. A crash takes one of the disk's
--- images, and the opening after it leaves only images of that. No other event touches the disk. So at every moment
--- inside every event of every run, whatever the disk may hold survives.
+-- A run is a list of events with its answers. `Survives` states this for one image of the disk, `CrashPrefix`
+-- for all images of a disk between two events, and `EachMoment` for each moment of a run, also within its
+-- events. `EachMoment` states the effect of the run on its disk event by event, each starting from the disk
+-- that the previous event left. At each of its moments a commit leaves only images of the world before it or
+-- after it. A crash takes one of the disk's images, and the opening after it leaves only images of that one.
+-- No other event touches the disk. So at every moment inside every event of every run, whatever the disk may
+-- hold survives.
 --
--- `Completed` has these and the other promises for a run: its answers are the event machine's, its releases and
--- collected replies are those of the kept steps, and it says which ledger is left. `Broken.antt` has the promises for
--- a run that ends early: its moments, its answers and releases until then, the disk that is returned, and the reason.
+-- `Completed` has these and the other promises for a run: its answers are the event machine's, its releases
+-- and collected replies belong to kept steps, and the remaining ledger agrees with the machine. `Broken.antt`
+-- has the promises for a run that ends early: its moments, its answers and releases until then, the disk that
+-- is returned, and the reason.
 --
--- `model` has the ghost members of the disk's type, which say what its disks may hold, and `crashes` says which disks a
--- crash may leave.
+-- `model` has the ghost members of the disk's type, which define what its disks may hold. `crashes` defines
+-- which disks a crash may leave.
 use Rattle.std.specs.Prelude.{◌≡◌, ◌⊎◌, ℕ, ◌≤◌, ◌==◌, ◌&&◌, Bool, true, false, List, [], ◌∷◌, map, take, count_by, Some, None}
 use Rattle.std.specs.List.{AllByRecursion}
 use Rattle.coord_disk.specs.Model.Present.{Present, IsImage}
@@ -44,14 +46,15 @@ use Rattle.coord_ledger.specs.machine.Runs.{Answered, run}
 use Rattle.coord_ledger.specs.promises.Moments.{LeavesWithin, touches_disk}
 use Rattle.coord_ledger.specs.promises.Parts.{IsPartOf, released_first}
 
--- ---- wherever it is stopped
+-- ---- at any stopping point
 
--- each resent packet was sent by one of these steps, or is in the base's resend list
+-- Each resent packet was sent by one of these steps, or is in the base's resend list.
 abbrev pub IsAgainOf : World → List Step → Release → Type 0
 IsAgainOf base steps r = r.step ≡ 0 → IsReleased base steps r.output
 
--- Every link predicate holds in the world after the first n steps of the trail. They include every step with a
--- released or collected output, also the step that sent a resent packet first, and only accepted steps.
+-- Every link predicate holds in the world after the first n steps of the trail. These n steps were all
+-- accepted, and include each step with a released or collected output, and each step that first sent a resent
+-- packet.
 pub record IsSafe (s : Machine) (n : ℕ) : Type 0 where
   pub legal : Legal (world_after s.log n)
   pub released : AllByRecursion (λ r. r.step ≤ (world_after s.log n).count) s.released
@@ -59,28 +62,28 @@ pub record IsSafe (s : Machine) (n : ℕ) : Type 0 where
   pub replied : AllByRecursion (λ r. r.step ≤ (world_after s.log n).count) s.replied
   pub accepted : (world_after s.log n).count ≤ accepted_count s.log
 
--- these bytes give the world after the first steps of the trail, as many as a crash may keep
+-- These bytes give the world after the first n steps of the trail, for an n that a crash may keep.
 pub record Survives (s : Machine) (bytes : List ℕ) : Type 0 where
   pub steps : ℕ
   pub allowed : IsOneOf steps (kept s)
   pub recovered : Recovered bytes (world_after s.log steps)
   pub safe : IsSafe s steps
 
--- crash prefix: so does whatever a disk that keeps the model may hold
+-- Crash prefix: if the disk keeps the model, whatever it may hold after a crash survives.
 abbrev pub CrashPrefix : Machine → Bool → Present → Type 0
 CrashPrefix s keeps_model present = keeps_model ≡ true → (image : List ℕ) → IsImage present image → Survives s image
 
 -- ---- at each moment
 
--- The machine as a crash inside an event finds it. While a commit is in progress its steps are on disk or not, as
--- after a failure of the device in it.
+-- The machine as a crash inside an event finds it. A crash inside a commit finds its steps in doubt, as after
+-- a failure of the device.
 abbrev pub found_by_crash : Machine → Event → Answer → Machine
 found_by_crash s Commit Committed = after s Commit (Failed fault.Device)
 found_by_crash s Commit (Failed fault.Device) = after s Commit (Failed fault.Device)
 found_by_crash s event answer = s
 
--- The effect of an event on the disk: none if it doesn't touch it; and at each moment since it began, a crash that
--- then finds this machine leaves only what survives.
+-- The effect of an event on the disk. An event that doesn't touch the disk leaves it unchanged. At each
+-- moment of the event, a crash that then finds this machine leaves only what survives.
 pub record Touches {D : Type 0} (model : DiskModel D) (crashes : D → D → Type 0) (keeps_model : Bool) (found : Machine) (touches : Bool) (e : Event) (old new : D) : Type 0 where
   pub untouched : touches ≡ false → new ≡ old
   pub inside : keeps_model ≡ true → LeavesWithin model crashes e (Survives found) old new
@@ -97,11 +100,11 @@ EachMoment {D} model crashes keeps_model s (e ∷ es) (a ∷ given) first last =
 
 -- ---- releases
 
--- the releases of steps are a sublist of the outputs of the settled steps, in order, no item twice
+-- The releases of steps are a sublist of the outputs of the settled steps: in order, and no item twice.
 abbrev pub ReleasedOnce : Machine → Type 0
 ReleasedOnce s = IsPartOf (released_first s.released) (releases_of (outs s.log.base (settled_steps s.log)))
 
--- each resent packet was sent by a settled step, or is in the base's resend list
+-- Each resent packet was sent by a settled step, or is in the base's resend list.
 abbrev pub IsTrulyAgain : Log → Release → Type 0
 IsTrulyAgain log = IsAgainOf log.base (settled_steps log)
 
@@ -112,15 +115,16 @@ AgainTruly s = AllByRecursion (IsTrulyAgain s.log) s.released
 abbrev pub is_signal : ℕ → ℕ → Release → Bool
 is_signal n u r = (r.step == n) && is_signal_of u r.output
 
--- no step's signal was released twice
+-- No step's signal was released twice.
 abbrev pub SignalledOnce : Machine → Type 0
 SignalledOnce s = (n u : ℕ) → 1 ≤ n → count_by (is_signal n u) s.released ≤ 1
 
--- a reply to one of these steps, or one that the world before them has for a client's last order
+-- This is a reply to one of these steps, or the reply that the world before them keeps for a client's last
+-- order.
 abbrev pub IsReplyOf : World → List Step → Reply → Type 0
 IsReplyOf w steps reply = IsOneOf reply (map (λ q. q.reply) (outs w steps)) ⊎ ((client : ℕ) × ((last : Session) × ((get w.sessions client ≡ Some last) × (last.reply ≡ reply))))
 
--- each reply that was collected is one to a settled step, or one that the base keeps for a client's last order
+-- Each collected reply is the reply to a settled step, or one that the base keeps for a client's last order.
 abbrev pub RepliedTruly : Machine → Type 0
 RepliedTruly s = AllByRecursion (IsReplyOf s.log.base (settled_steps s.log)) s.replied
 
@@ -130,7 +134,7 @@ abbrev pub is_crash : Event → Bool
 is_crash Crash = true
 is_crash event = false
 
--- the promise for a run on a disk that keeps the model, and without crashes on every disk
+-- P is promised for a run on a disk that keeps the model, and for a run without crashes on any disk.
 abbrev pub Promised : Bool → List Event → Type 0 → Type 0
 Promised keeps_model events Promise = (keeps_model ≡ true) ⊎ AllByRecursion (λ e. is_crash e ≡ false) events → Promise
 
@@ -138,16 +142,16 @@ Promised keeps_model events Promise = (keeps_model ≡ true) ⊎ AllByRecursion 
 abbrev pub ended : Machine → Machine
 ended s = finished s s.flight
 
--- a ledger at home that agrees with the machine, seen from the world after some settled steps
+-- A ledger with its store agrees with the machine, seen from the world after some settled steps.
 pub record IsLeft {D : Type 0} (s : Machine) (l : LedgerState D) : Type 0 where
   pub by : ℕ
   pub within : by ≤ s.log.settled
   pub log : l.log ≡ rebased s.log by
   pub home : l.out ≡ None
 
--- A run from a ledger at home, on a disk that it has led from one state to another: the answers are the machine's,
--- these are the releases, wherever it is stopped, after an event or at any moment inside one, the headline holds, and
--- this ledger is left. `run_events` ensures this when it returns a trace and a ledger.
+-- A run from a ledger with its store, which led its disk from one state to another. The answers are the
+-- machine's, and these are the releases. The headline holds wherever the run is stopped, after an event or at
+-- any moment inside one. This ledger remains. `run_events` ensures this when it returns a trace and a ledger.
 pub record Completed {D : Type 0} (model : DiskModel D) (crashes : D → D → Type 0) (start : Machine) (events : List Event) (given : List Answer) (released : List Release) (left : LedgerState D) (keeps_model : Bool) (first last : D) : Type 0 where
   pub answered : Answered start events given
   pub released_is : released ≡ (run start events given).released

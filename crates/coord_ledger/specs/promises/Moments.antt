@@ -9,7 +9,7 @@ use Rattle.coord_ledger.specs.declared.events.Answer.TheVariants.{Committed, Fai
 use Rattle.coord_ledger.specs.declared.events.Event.{Event}
 use Rattle.coord_ledger.specs.declared.events.Event.TheVariants.{Commit, Crash}
 
--- an attempted commit and a crash touch the disk, and nothing else does
+-- whether an event with this answer touches the disk: only an attempted commit and a crash do
 abbrev pub touches_disk : Event → Answer → Bool
 touches_disk Commit Committed = true
 touches_disk Commit (Failed fault.Device) = true
@@ -17,8 +17,8 @@ touches_disk Commit (Failed fault.OutOfMemory) = true
 touches_disk Crash answer = true
 touches_disk event answer = false
 
--- A crash has chosen one of the disk's images, and at each moment of the opening after it a crash left only images of
--- the chosen one. These have P.
+-- A crash has chosen one of the disk's images. At each moment of the opening after it, a crash would leave
+-- only images of the chosen one, and P holds for all of these.
 pub record Reopens {D : Type 0} (model : DiskModel D) (crashes : D → D → Type 0) (P : List ℕ → Type 0) (old new : D) : Type 0 where
   pub taken : D
   pub crash : crashes old taken
@@ -27,7 +27,7 @@ pub record Reopens {D : Type 0} (model : DiskModel D) (crashes : D → D → Typ
   pub opening : LeavesOnly model taken new (IsImage (model.present taken))
   pub each : (bytes : List ℕ) → IsImage (model.present taken) bytes → P bytes
 
--- at each moment since an event began a crash left only images that have P
+-- At each moment since an event began, a crash would leave only images for which P holds.
 abbrev pub LeavesWithin : {D : Type 0} → DiskModel D → (D → D → Type 0) → Event → (List ℕ → Type 0) → D → D → Type 0
 LeavesWithin model crashes Crash P old new = Reopens model crashes P old new
 LeavesWithin model crashes event P old new = LeavesOnly model old new P

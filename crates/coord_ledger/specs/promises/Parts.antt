@@ -2,7 +2,7 @@
 use Rattle.std.specs.Prelude.{◌≡◌, ◌⊎◌, ◌==◌, not, List, [], ◌∷◌, filter}
 use Rattle.coord_ledger.specs.declared.release.Release.{Release}
 
--- a list without some of its items
+-- The first list is the second without some of its items, in the same order.
 abbrev pub IsPartOf : {A : Type 0} → List A → List A → Type 0
 IsPartOf [] ys = Unit {0}
 IsPartOf (x ∷ xs) [] = ⊥

@@ -12,7 +12,7 @@ use coord_disk::{CrashDisk, Disk};
 use coord_store::Store;
 use std::alloc::Global;
 
-/// Crashes a disk, and makes a ledger over what it then holds. A refusal returns the disk.
+/// Crashes a disk, and makes a ledger over its content after the crash. A refusal returns the disk.
 fn reopen<D: CrashDisk>(alloc: Global, disk: D) -> Result<Ledger<D>, (RunFaultKind, D)>
     ensures opened { IfOk result (IsReopened D.model D.crashes
         disk) }
@@ -32,7 +32,7 @@ fn reopen<D: CrashDisk>(alloc: Global, disk: D) -> Result<Ledger<D>, (RunFaultKi
     adopt(alloc, opened)
 }
 
-/// Makes a ledger over a store that was just opened. If it runs out of memory, it returns the disk.
+/// Makes a ledger over a store that was just opened. If memory runs out, returns the disk.
 fn adopt<D: CrashDisk>(alloc: Global, store: Store<D>) -> Result<Ledger<D>, (RunFaultKind, D)>
     requires { has_stopped store ≡ false }
     ensures adopted { IfOk result (λ ledger. ledger ≡ ledger_over store.world store.disk) }
@@ -46,8 +46,8 @@ fn adopt<D: CrashDisk>(alloc: Global, store: Store<D>) -> Result<Ledger<D>, (Run
 }
 
 impl<D: CrashDisk> Driver<D> {
-    /// Crashes the disk and opens it again; the flight is gone. Returns the count of the opened
-    /// world, and the new driver; or the fault, and the disk.
+    /// Crashes the disk and opens it again; the flight is lost. Returns the number of steps of the
+    /// opened world, and the new driver; or the fault, and the disk.
     pub fn crash(self, alloc: Global) -> Result<(u64, Self), (RunFaultKind, D)>
         ensures simulates { model_held D.model self ≡ Some true →
             IfOk result (λ opened. Simulates self Crash (Opened opened.0) opened.1) }

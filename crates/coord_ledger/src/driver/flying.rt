@@ -9,8 +9,8 @@ use coord_disk::{CrashDisk, Disk};
 use coord_types::Refusal;
 
 impl<D: CrashDisk> Driver<D> {
-    /// Sends a flight out, unless one is out already. Returns `Begun`, `Nothing`, or `Refused` for
-    /// out of memory.
+    /// Sends a flight out, unless one is out already. Returns `Begun`, `Nothing`, or `Refused` if
+    /// memory runs out.
     pub fn begin(&mut self) -> Answer
         ensures simulates { Simulates self.old Begin result self.new }
         ensures log { self.new.ledger.log ≡ self.old.ledger.log }
@@ -30,7 +30,7 @@ impl<D: CrashDisk> Driver<D> {
         }
     }
 
-    /// Commits the flight that is out. Returns `Committed`, `Failed`, or `NoFlight`.
+    /// Commits the flight that is out. Returns `Committed`, `Failed` or `NoFlight`.
     pub fn commit(&mut self) -> Answer
         ensures simulates { Simulates self.old Commit result self.new }
         ensures ledger { self.new.ledger ≡ self.old.ledger }
@@ -53,7 +53,7 @@ impl<D: CrashDisk> Driver<D> {
     }
 
     /// Takes back the flight that is out, and returns its releases, or None if no flight is out. If
-    /// it runs out of memory the flight stays out.
+    /// memory runs out, the flight stays out.
     pub fn finish(&mut self) -> Result<Option<Releases>, Refusal>
         ensures simulates { Simulates self.old Finish (finish_answer result self.new) self.new }
         ensures base { self.new.ledger.log.base ≡ self.old.ledger.log.base }
@@ -75,7 +75,7 @@ impl<D: CrashDisk> Driver<D> {
     }
 }
 
-/// Puts a flight into a driver that has none.
+/// Stores a flight in a driver that has none.
 fn put<D: CrashDisk>(place: &mut Option<Flight<D>>, flight: Flight<D>)
     requires { place.old ≡ None }
     ensures { place.new ≡ Some flight }

@@ -1,4 +1,4 @@
-//! Crashes of the disk in a run.
+//! Crashes the disk in a run.
 
 ghost use Rattle.std.specs.Prelude.{◌≡◌, ◌+◌, true, ℕ, IfErr, IfOk, MatchResult};
 ghost use Rattle.coord_ledger.specs.Facade.{Crash, DiskEffect, Follows, FollowsTo, HasFailed, IsConsistent, IsCutShort, IsEventFault, IsLost, IsPromised, Machine, disk_held, failed_in_run, model_held};
@@ -11,7 +11,7 @@ use coord_disk::{CrashDisk, Disk};
 use std::alloc::Global;
 
 impl<D: CrashDisk> Run<D> {
-    /// Crashes the disk and opens it again. Tickets and the flight are gone.
+    /// Crashes the disk and opens it again. Tickets and the flight are lost.
     pub fn crash(self, alloc: Global) -> Result<(Answer, Self), Broken<D>>
         ensures answered { (s : Machine) → IsConsistent s → Follows self s →
             IsPromised (model_held D.model self.driver) Crash

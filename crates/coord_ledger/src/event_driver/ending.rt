@@ -1,4 +1,4 @@
-//! The end of a run.
+//! Ends a run.
 
 ghost use Rattle.std.specs.Prelude.{◌≡◌, List, None, IfErr, IfOk, IsSomeAnd, MatchResult, Some};
 ghost use Rattle.coord_ledger.specs.declared.trace.RunFaultKind.TheVariants.{OutOfMemory};
@@ -11,7 +11,8 @@ use crate::{Ledger, Release, RunFaultKind};
 use coord_disk::{CrashDisk, Disk};
 
 impl<D: CrashDisk> Run<D> {
-    /// Takes back the flight that is out, and drops its releases and the remaining tickets.
+    /// Takes back the flight that is out, and drops its releases and the remaining tickets. Returns the
+    /// releases of the run, and the ledger.
     pub fn end(self) -> Result<(Vec<Release>, Ledger<D>), Broken<D>>
         ensures ran { (start : LedgerState D) → (first : D) → (events : List What) →
             (given : List Reaction) → (after : D)

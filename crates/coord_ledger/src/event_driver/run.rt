@@ -10,7 +10,7 @@ use coord_types::{Refusal, Step};
 use std::alloc::AllocError;
 
 /// The driver of a ledger, the tickets, the last view, and the releases. They agree with the event
-/// machine (`Follows`, specs/ledger/Follows.antt).
+/// machine (`Follows`, `specs/ledger/Follows.antt`).
 pub struct Run<D: CrashDisk> {
     pub driver: Driver<D>,
     pub tickets: Vec<Option<Ticket>>,
@@ -51,7 +51,7 @@ impl<D: CrashDisk> Run<D> {
         self.driver.begin()
     }
 
-    /// Takes back the flight that is out, and keeps its releases.
+    /// Takes back the flight that is out, and appends its releases to the run's.
     pub fn finish(&mut self) -> Result<Answer, AllocError>
         ensures answered { (s : Machine) → IsConsistent s → Follows self.old s →
             IfOk result (λ answer. FollowsTo s Finish answer self.new) }
@@ -69,7 +69,7 @@ impl<D: CrashDisk> Run<D> {
         }
     }
 
-    /// Collects a ticket.
+    /// Collects the reply for the ticket with this index.
     pub fn collect(&mut self, index: usize) -> Answer
         ensures answered { (s : Machine) → IsConsistent s → Follows self.old s →
             FollowsTo s (Collect index) result self.new }

@@ -1,4 +1,4 @@
-//! Replies to settled steps.
+//! Returns the replies to settled steps.
 
 ghost use Rattle.std.specs.Prelude.{◌≡◌, ◌↔◌, ◌<◌, false, true, length, slice_get, IfErr, IfOk, IsTrue, Some};
 ghost use Rattle.coord_ledger.specs.ledger.State.{IsCollectable, IsKeptBy, reply_of};
@@ -10,7 +10,7 @@ use coord_disk::Disk;
 use coord_types::{Kind, Reply, Step};
 use coord_world::World;
 
-/// Whether a world keeps the ticket's reply for the ticket's order.
+/// Tests whether a world keeps the ticket's reply for the ticket's order.
 fn is_kept(world: &World, ticket: &Ticket) -> bool
     ensures { IsTrue result ↔ IsKeptBy world.now ticket.now }
 {
@@ -25,7 +25,7 @@ fn is_kept(world: &World, ticket: &Ticket) -> bool
     }
 }
 
-/// Whether this place of a trail has the ticket's step.
+/// Tests whether the trail has the ticket's step at this place.
 fn is_step_at(trail: &[Step], place: usize, ticket: &Ticket) -> bool
     requires { place < length trail.now }
     ensures { IsTrue result ↔ (slice_get trail.now place ≡ Some ticket.now.what) }
@@ -33,7 +33,7 @@ fn is_step_at(trail: &[Step], place: usize, ticket: &Ticket) -> bool
     is_same_step(&trail[place], &ticket.what)
 }
 
-/// Whether this place has the ticket's kind of reply.
+/// Tests whether this list has the ticket's kind of reply at this place.
 fn is_kind_at(kinds: &[Kind], place: usize, ticket: &Ticket) -> bool
     requires { place < length kinds.now }
     ensures { IsTrue result ↔ (slice_get kinds.now place ≡ Some ticket.now.kind) }
@@ -41,7 +41,7 @@ fn is_kind_at(kinds: &[Kind], place: usize, ticket: &Ticket) -> bool
     kinds[place] == ticket.kind
 }
 
-/// Whether this place of a trail has the ticket's step, and the same place of the kinds its kind.
+/// Tests whether the trail has the ticket's step at this place, and `kinds` its kind of reply.
 fn stands_at(trail: &[Step], kinds: &[Kind], place: usize, ticket: &Ticket) -> bool
     requires in_trail { place < length trail.now }
     requires in_kinds { place < length kinds.now }
@@ -54,7 +54,7 @@ fn stands_at(trail: &[Step], kinds: &[Kind], place: usize, ticket: &Ticket) -> b
     is_kind_at(kinds, place, ticket)
 }
 
-/// Returns the reply if the ticket's step is settled, and otherwise the ticket.
+/// Returns the reply if the ticket's step is settled, and the ticket otherwise.
 fn replied(ticket: Ticket, settled: bool) -> Result<Reply, Ticket>
     ensures settled { IfOk result (λ reply. (reply ≡ reply_of ticket) × (settled ≡ true)) }
     ensures waiting { IfErr result (λ back. (back ≡ ticket) × (settled ≡ false)) }
@@ -68,8 +68,8 @@ fn replied(ticket: Ticket, settled: bool) -> Result<Reply, Ticket>
 }
 
 impl<D: Disk> Ledger<D> {
-    /// Whether the settled part of the trail has the ticket's step, whose number is above the
-    /// base's count, with the ticket's kind of reply.
+    /// Tests whether the settled part of the trail has the ticket's step, with the ticket's kind of
+    /// reply. The step's number must be above the base's count.
     fn is_settled(&self, ticket: &Ticket) -> bool
         requires { self.now.log.base.count < ticket.now.step }
         ensures { IsTrue result ↔ IsCollectable self.now.log ticket.now }
@@ -81,7 +81,7 @@ impl<D: Disk> Ledger<D> {
         stands_at(&self.trail, &self.kinds, place, ticket)
     }
 
-    /// Whether the ticket's step is settled here, with the ticket's kind of reply.
+    /// Tests whether the ticket's step is settled in this ledger, with the ticket's kind of reply.
     fn is_collectable(&self, ticket: &Ticket) -> bool
         ensures { IsTrue result ↔ IsCollectable self.now.log ticket.now }
     {
@@ -92,8 +92,8 @@ impl<D: Disk> Ledger<D> {
         }
     }
 
-    /// Returns the reply to the ticket's step, once the step is settled; before that, and for a
-    /// ticket of another ledger, the ticket. It also answers after a stop.
+    /// Returns the reply to the ticket's step once the step is settled. Before that, or if the ticket
+    /// belongs to another ledger, returns the ticket. A stopped ledger answers too.
     pub fn collect(&self, ticket: Ticket) -> Result<Reply, Ticket>
         ensures settled { IfOk result (λ reply. (reply ≡ reply_of ticket) ×
             IsCollectable self.now.log ticket) }

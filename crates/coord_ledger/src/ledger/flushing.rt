@@ -15,7 +15,7 @@ use coord_world::World;
 use std::alloc::AllocError;
 use std::mem::replace;
 
-/// The next `size` steps after the settled ones.
+/// Returns the next `size` steps after the settled ones.
 fn next_steps(trail: &[Step], done: usize, size: usize) -> &[Step]
     requires { done + size ≤ length trail.now }
     ensures { result.now ≡ take size (drop done trail.now) }
@@ -24,7 +24,8 @@ fn next_steps(trail: &[Step], done: usize, size: usize) -> &[Step]
 }
 
 impl<D: Disk> Ledger<D> {
-    /// The world after these next steps: the front world, if they are all pending steps.
+    /// Returns the world after these next steps. If they are all pending steps, it is a copy of the
+    /// front world.
     fn world_behind(&self, steps: &[Step]) -> Result<World, AllocError>
         requires { steps.now ≡ take (length steps.now) (pending self.now.log) }
         ensures { IfOk result (λ world. world ≡ fold (settled_world self.now.log) steps.now) }
@@ -42,7 +43,7 @@ impl<D: Disk> Ledger<D> {
         }
     }
 
-    /// The next steps that are not settled, at most 256, and the world after them.
+    /// Returns the next unsettled steps, at most 256, and the world after them.
     fn next_flown(&self) -> Result<(Vec<Step>, World), AllocError>
         ensures steps { IfOk result (λ flown. flown.0.items ≡
             take MAX_BATCH_STEPS (pending self.now.log)) }
@@ -60,7 +61,7 @@ impl<D: Disk> Ledger<D> {
         }
     }
 
-    /// Sends the store out with the next steps, which lead to this world.
+    /// Sends the store out with the next steps. `later` is the world after them.
     fn send_out(&mut self, steps: Vec<Step>, later: World) -> Flight<D>
         requires home { is_some self.old.disk ≡ true }
         requires going { self.old.log.doubt ≡ None }
@@ -89,7 +90,7 @@ impl<D: Disk> Ledger<D> {
     }
 
     /// Sends the store out with the next unsettled steps, at most 256. Returns None if nothing is
-    /// pending, a flight is out or the ledger has stopped.
+    /// pending, a flight is out, or the ledger has stopped.
     pub fn begin_flush(&mut self) -> Result<Option<Flight<D>>, AllocError>
         ensures nothing { keeps_store self.old ≡ true → (result ≡ Ok None) × (self.new ≡ self.old) }
         ensures begun { keeps_store self.old ≡ false →
@@ -112,7 +113,7 @@ impl<D: Disk> Ledger<D> {
         Ok(Some(self.send_out(steps, later)))
     }
 
-    /// Whether a flight is the one that is out.
+    /// Tests whether a flight is the one that this ledger has sent out.
     fn is_own(&self, flight: &Flight<D>) -> bool
         ensures { IsTrue result ↔ IsOut self.now flight.now }
     {
@@ -128,7 +129,7 @@ impl<D: Disk> Ledger<D> {
         are_same(&flight.steps, next_steps(&self.trail, self.done, self.out))
     }
 
-    /// The settled world after a committed flight, and the releases of its steps.
+    /// Returns the settled world after a committed flight, and the releases of its steps.
     fn settled_by(&self, flight: &Flight<D>) -> Result<(World, Vec<Release>), AllocError>
         requires own { IsOut self.now flight.now }
         requires good { flight.now.mark ≡ Mark.Good }
@@ -146,7 +147,7 @@ impl<D: Disk> Ledger<D> {
         }
     }
 
-    /// Takes back the ledger's own flight, which was torn or never committed.
+    /// Takes back the ledger's own flight, which was torn or was never committed.
     fn take_back(&mut self, flight: Flight<D>)
         requires own { IsOut self.old flight }
         requires uncommitted { flight.mark ≢ Mark.Good }
@@ -159,8 +160,8 @@ impl<D: Disk> Ledger<D> {
         }
     }
 
-    /// Takes back the ledger's own flight, which was committed: its steps are settled, and lead to
-    /// this world.
+    /// Takes back the ledger's own flight, which was committed: its steps are now settled, and
+    /// `settled` is the world after them.
     fn take_settled(&mut self, flight: Flight<D>, settled: World)
         requires own { IsOut self.old flight }
         requires good { flight.mark ≡ Mark.Good }
@@ -174,7 +175,7 @@ impl<D: Disk> Ledger<D> {
         drop(replace(&mut self.settled, settled));
     }
 
-    /// Takes back the ledger's own flight. If memory runs out it returns the flight.
+    /// Takes back the ledger's own flight. If memory runs out, returns the flight.
     fn land(&mut self, flight: Flight<D>) -> Result<Releases, Flight<D>>
         requires { IsOut self.old flight }
         ensures own { IsOut self.old flight }
@@ -198,12 +199,12 @@ impl<D: Disk> Ledger<D> {
         }
     }
 
-    /// Takes back the flight that is out, with its store. A good flight settles its steps and
-    /// returns their releases. An uncommitted one settles nothing. A torn one settles nothing
-    /// either, and the ledger stops.
+    /// Takes back the ledger's flight, with its store. A committed flight settles its steps, and their
+    /// releases are returned. A flight that was not committed settles nothing. A torn flight settles
+    /// nothing either, and the ledger stops.
     ///
-    /// A flight is refused as `Stranger` if it is not the one that left: its first number, its
-    /// steps and the world before them are compared. A refusal returns the flight.
+    /// `Stranger` refuses a flight that this ledger has not sent out: the numbers and steps of both and
+    /// the worlds before them are compared. A refusal returns the flight.
     pub fn end_flush(&mut self, flight: Flight<D>) -> Result<Releases, (Refusal, Flight<D>)>
         ensures own { OnOk result (IsOut self.old flight) }
         ensures taken { OnOk result (self.new ≡

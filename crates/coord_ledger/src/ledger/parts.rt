@@ -1,4 +1,4 @@
-//! The ledger's trail, and the ledger taken apart.
+//! Reads a ledger's trail, and takes the ledger apart.
 
 ghost use Rattle.std.specs.Prelude.{◌≡◌, ◌+◌, ◌≤◌, is_none, is_some, length, None, Some, IfErr, IfOk, IfSome};
 ghost use Rattle.coord_store.specs.Kept.{has_stopped};
@@ -11,14 +11,14 @@ use coord_types::{Kind, Step};
 use coord_world::World;
 
 impl<D: Disk> Ledger<D> {
-    /// The steps accepted since the base.
+    /// Returns the steps accepted since the base.
     pub fn trail(&self) -> &[Step]
         ensures { result.now ≡ self.now.log.trail }
     {
         &self.trail
     }
 
-    /// The kinds of the replies to the steps of the trail.
+    /// Returns the kinds of the replies to the steps of the trail.
     #[tactic(auto, using(crate::proofs::follows::Kept::kinds_within))]
     pub fn kinds(&self) -> &[Kind]
         ensures kinds { result.now ≡ kinds_of self.now.log.base self.now.log.trail }
@@ -27,15 +27,15 @@ impl<D: Disk> Ledger<D> {
         &self.kinds
     }
 
-    /// How many steps are accepted and not settled.
+    /// Returns the number of accepted steps that are not settled.
     pub fn pending(&self) -> usize
         ensures { result ≡ length (pending self.now.log) }
     {
         self.trail.len() - self.done
     }
 
-    /// Takes the ledger apart into its store, base, trail and settled count, unless the store is
-    /// out with a flight. It allocates nothing.
+    /// Takes the ledger apart into its store, base, trail and settled count. While a flight carries the
+    /// store, returns the ledger. Allocates nothing.
     pub fn into_parts(self) -> Result<(Store<D>, World, Vec<Step>, u64), Self>
         ensures home { IfOk result (λ parts. self.disk ≡ Some parts.0.disk) }
         ensures world { IfOk result (λ parts. parts.0.world ≡ settled_world self.log) }
@@ -72,7 +72,7 @@ impl<D: Disk> Ledger<D> {
         }
     }
 
-    /// Whether the store is out with a flight.
+    /// Tests whether a flight carries the store.
     pub fn is_out(&self) -> bool
         ensures out { result ≡ is_some self.now.out }
         ensures disk { result ≡ is_none self.now.disk }
@@ -80,9 +80,9 @@ impl<D: Disk> Ledger<D> {
         self.store.is_none()
     }
 
-    /// Does nothing. Its contract is the invariant of the type: the log is consistent, with the
-    /// steps that are out and those in doubt; while steps are out the store is out with them; a
-    /// stopped ledger has its store.
+    /// Does nothing. Its contract states the invariant of the type: the log is consistent with the
+    /// steps in flight and the steps in doubt; while steps are in flight, the store is away with them;
+    /// a stopped ledger has its store.
     pub fn lemma_log_is_consistent(&self)
         ensures log { IsConsistentLog self.now.log }
         ensures out { IfSome self.now.out (FitsOut self.now.log) }

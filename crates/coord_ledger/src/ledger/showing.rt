@@ -1,4 +1,4 @@
-//! Resending and showing.
+//! Resends packets, and shows the settled world.
 
 ghost use Rattle.std.specs.Prelude.{◌≡◌, ◌<◌, ◌≤◌, Err, is_some, false, true, IfOk, MatchResult, OnErr};
 ghost use Rattle.coord_types.specs.declared.refusals.Refusal.TheVariants.{OutOfMemory, Stopped, Behind};
@@ -14,8 +14,8 @@ use coord_view::{View, view_of};
 use std::alloc::AllocError;
 
 impl<D: Disk> Ledger<D> {
-    /// The packets that may have been lost, to be sent again as of step 0: those of the settled
-    /// world.
+    /// Returns the packets that the settled world has to send again because they may have been lost,
+    /// with 0 as their step's number.
     pub fn resend(&self) -> Result<Releases, AllocError>
         ensures { IfOk result (λ releases. releases ≡ resent (settled_world self.now.log)) }
     {
@@ -25,9 +25,9 @@ impl<D: Disk> Ledger<D> {
         Ok(Releases::of(rows))
     }
 
-    /// Shows the settled world to a caller who has not seen a later one; what the caller has seen
-    /// becomes the settled count. The first of these that applies refuses it: `Stopped`, `Behind`
-    /// (with the settled count), `OutOfMemory`.
+    /// Returns a view of the settled world to a caller who has not seen a later one, and raises the
+    /// caller's seen count to the settled count. Refuses with the first of these that applies:
+    /// `Stopped`, `Behind` (with the settled count), `OutOfMemory`.
     pub fn show(&self, seen: &mut Seen) -> Result<View, Refusal>
         ensures stopped { is_some self.now.log.doubt ≡ true → result ≡ Err Refusal.Stopped }
         ensures behind { is_some self.now.log.doubt ≡ false → settled_count self.now.log < seen.old →

@@ -16,7 +16,7 @@ use coord_world::{StepOutcome, Verdict};
 use std::alloc::AllocError;
 
 impl<D: Disk> Ledger<D> {
-    /// The ledger's answer to a step, assuming there is memory.
+    /// Returns the ledger's verdict about a step, as if memory never ran out.
     fn judge(&self, step: &Step) -> Result<Verdict, Refusal>
         ensures { result ≡ verdict self.now.log step.now }
     {
@@ -33,7 +33,7 @@ impl<D: Disk> Ledger<D> {
         verdict
     }
 
-    /// Accepts a fresh step, whose reply will have this kind, and returns the reply.
+    /// Accepts a fresh step whose reply has this kind, and returns the reply.
     fn accept(&mut self, step: Step, kind: Kind) -> Result<Reply, AllocError>
         requires { verdict self.old.log step ≡ Ok (Verdict.Fresh kind) }
         ensures accepted { IfOk result (λ _. self.new ≡ with_accepted self.old step) }
@@ -53,7 +53,7 @@ impl<D: Disk> Ledger<D> {
     }
 
     /// Submits a step like [`Ledger::submit`], with the same refusals, and also returns whether the
-    /// step is new: a client's last order, sent again, is not a step.
+    /// step is new. A client's last order, sent again, is not new.
     pub fn hand_in(&mut self, step: Step) -> Result<Handed, Refusal>
         ensures { HandedTo self.old step result self.new }
     {
@@ -66,12 +66,12 @@ impl<D: Disk> Ledger<D> {
         }
     }
 
-    /// Accepts a step, and returns a ticket for its reply. A client's last order, sent again, is
-    /// not a step: its ticket is for the kept reply.
+    /// Accepts a step, and returns a ticket for its reply. A client's last order, sent again, is not a
+    /// step: its ticket is for the kept reply.
     ///
-    /// It refuses with the first that applies of `Stopped`, `PendingFull` (1,024 steps are not
-    /// settled; a repeat comes before it), `Exhausted`, the step's own refusals in the order of
-    /// `World::judge`, and `OutOfMemory`.
+    /// Refuses with the first of these that applies: `Stopped`; `PendingFull` if 1,024 steps are not
+    /// settled (but a repeat is answered); `Exhausted`; the step's own refusals in the order of
+    /// `World::judge`; `OutOfMemory`.
     pub fn submit(&mut self, step: Step) -> Result<Ticket, Refusal>
         ensures fresh { (kind : Sort) → verdict self.old.log step ≡ Ok (Verdict.Fresh kind) →
             MatchResult result (λ ticket.

@@ -1,4 +1,4 @@
-//! Commits.
+//! Commits steps.
 
 ghost use Rattle.std.specs.Prelude.{◌≡◌, ◌↔◌, ◌≤◌, None, length, IsTrue, IfOk, IfSome};
 ghost use Rattle.std.specs.List.{AllByRecursion};
@@ -20,7 +20,7 @@ use coord_types::Step;
 use coord_world::World;
 use std::alloc::{AllocError, Global};
 
-/// The world after fresh steps, and the body of their batch.
+/// Returns the world after fresh steps, and the body of their batch.
 fn next_batch(
     alloc: Global,
     world: &World,
@@ -50,8 +50,8 @@ fn next_batch(
 }
 
 impl<D: Disk> Store<D> {
-    /// Whether a commit may have these steps: each is fresh after those before it, and the
-    /// settled world is the one before all of them.
+    /// Tests whether these steps may be committed: each is fresh after those before it, with the world
+    /// before all of them as the settled one.
     pub fn takes(&self, steps: &[Step]) -> Result<bool, AllocError>
         ensures { IfOk result (λ takes. IsTrue takes ↔
             AllFresh self.now.world self.now.world steps.now) }
@@ -68,12 +68,12 @@ impl<D: Disk> Store<D> {
         }
     }
 
-    /// Commits 1 to 256 steps, each fresh after those before it, with the world before all of them
-    /// as the settled one. It takes four calls of the device, or eight if it has to make
-    /// room by a checkpoint first.
+    /// Commits 1 to 256 steps. Each must be fresh after those before it, with the world before all of
+    /// them as the settled one. The commit takes four device calls, or eight if a checkpoint has to
+    /// make room first.
     ///
-    /// After `OutOfMemory` that checkpoint may have been made. After `Device` each later call returns
-    /// `Stopped`, and opening the device shows which of the two worlds it holds.
+    /// After `OutOfMemory` the checkpoint may already have been made. After `Device` each later call
+    /// returns `Stopped`; opening the device shows which of the two worlds it holds.
     pub fn commit(&mut self, steps: &[Step]) -> Result<(), CommitFault>
         requires some { (1 ≤ length steps.now) × (length steps.now ≤ MAX_BATCH_STEPS) }
         requires numbered { AllByRecursion IsNumbered steps.now }
@@ -87,9 +87,8 @@ impl<D: Disk> Store<D> {
         }
     }
 
-    /// Commits steps like `commit`, and returns the world before them. If the caller has
-    /// already computed the world after them, it passes it, and no world is copied; otherwise it is
-    /// computed here.
+    /// Commits steps like `commit`, and returns the world before them. A caller that has already
+    /// computed the world after them passes it as `made`, which saves a copy of the world.
     pub fn commit_to(&mut self, steps: &[Step], made: Option<World>) -> Result<World, CommitFault>
         requires some { (1 ≤ length steps.now) × (length steps.now ≤ MAX_BATCH_STEPS) }
         requires numbered { AllByRecursion IsNumbered steps.now }

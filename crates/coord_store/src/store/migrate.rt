@@ -17,11 +17,11 @@ use coord_disk::{Disk, Takable};
 use coord_world::World;
 
 impl<D: Disk + Takable> Store<D> {
-    /// Migrates a store of version 1 to version 2. Its world does not change, and each distance is 0. Each
-    /// node must be Ready. A store of version 2 is unchanged, without a call of the device. It takes
-    /// at most four calls of the device.
+    /// Migrates a store of version 1 to version 2, with at most four device calls. Each node must be
+    /// Ready. Its world stays the same, and each distance is 0. A store of version 2 is left as it is,
+    /// without a device call.
     ///
-    /// After `Device` each later call returns `Stopped`, and opening the device shows which version it
+    /// After `Device` each later call returns `Stopped`; opening the device shows which version it
     /// holds.
     pub fn migrate(&mut self) -> Result<(), StoreFault>
         ensures changes { Changes D.model (risen self.old.world) Device self.old self.new result }
@@ -30,7 +30,7 @@ impl<D: Disk + Takable> Store<D> {
         ensures quiet { OnOk result ((self.old.world.version ≡ 2) ⊎ IsQuiet self.old.world) }
         ensures runs { Runs D.model self.old.disk self.new.disk 4 (failures_in result) }
 
-        // When it is refused, in this order.
+        // The refusals, in the order in which they are tried.
         ensures stopped { IsErrOf result StoreFault.Stopped ↔ (has_stopped self.old ≡ true) }
         ensures fault { IfErr result (RefusesMigration self.old.world) }
     {

@@ -1,4 +1,4 @@
--- The world of some rows.
+-- The world that some rows describe.
 use Rattle.std.specs.Prelude.{◌≡◌, ℕ, ◌-◌, ◌==◌, List, [], ◌∷◌, map, slice_index_or, if◌then◌else◌}
 use Rattle.coord_types.specs.NodeSet as set
 use Rattle.coord_types.specs.Facade.{IsNode, NodeSet, NodeState}
@@ -11,27 +11,27 @@ use Rattle.coord_world.specs.protocol.Rows.{Rows}
 use Rattle.coord_world.specs.declared.rows.parts.NodeRow.{NodeRow}
 use Rattle.coord_world.specs.declared.rows.parts.ClientRow.{ClientRow}
 
--- these, and the other ends of u's links
+-- the set `near` together with the other ends of u's links
 abbrev pub near_with : ℕ → NodeSet → List LinkRow → NodeSet
 near_with u near [] = near
 near_with u near (r ∷ rs) = near_with u (if u == r.a then set.insert near r.b else (if u == r.b then set.insert near r.a else near)) rs
 
--- the neighbours of node k, at index k - 1
+-- the neighbours of node u: the set at index u - 1
 abbrev pub near_in : List NodeSet → ℕ → NodeSet
 near_in near u = slice_index_or near (u - 1) set.empty
 
--- these are the neighbours that the links give
+-- each node's set has exactly the neighbours that these links give it
 abbrev pub AreNear : List LinkRow → List NodeSet → Type 0
 AreNear links near = (u : ℕ) → IsNode u → near_in near u ≡ near_with u set.empty links
 
--- a row's node, with these neighbours
+-- the state in a node's row, with these neighbours
 abbrev pub state_with : (ℕ → NodeSet) → NodeRow → NodeState
 state_with near r = record { group = r.group; mode = r.mode; parent = r.parent; pend = r.pend; neighbours = near r.id; epoch = r.epoch; confirmed = r.confirmed; distance = r.distance }
 
 abbrev pub entry_with : (ℕ → NodeSet) → NodeRow → ℕ × NodeState
 entry_with near r = (r.id, state_with near r)
 
--- a row's node; its neighbours are those that the links give it
+-- the state in a node's row, with the neighbours that the links give it
 abbrev pub state_of : List LinkRow → NodeRow → NodeState
 state_of links = state_with (λ u. near_with u set.empty links)
 

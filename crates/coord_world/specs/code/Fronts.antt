@@ -1,4 +1,5 @@
--- The new fronts of a step, lane by lane: only a message that the step sends, or a front that it clears, makes one.
+-- The new fronts of a step, lane by lane. A lane gets a new front only if the step sends a message on it while it is
+-- empty, or clears its front.
 use Rattle.std.specs.Prelude.{◌≡◌, ℕ, ◌-◌, ◌^◌, ◌<◌, nat_lt, List, [], ◌∷◌, ◌++◌, Option, Some, None, if◌then◌else◌}
 use Rattle.coord_types.specs.Facade.{behind_front, is_nil}
 use Rattle.coord_types.specs.declared.messages.Msg.{Msg}
@@ -13,11 +14,11 @@ use Rattle.coord_node.specs.Rules.{lost, request, sends_of, transition}
 use Rattle.coord_world.specs.protocol.NumberedWorld.{Links, World, lane_at, state}
 use Rattle.coord_world.specs.protocol.Outputs.{front_packet}
 
--- one more than the lane's base fits into the program's number type
+-- the number after the lane's base fits into a u64
 abbrev pub HasNumber : (ℕ × ℕ) × Lane → Type 0
 HasNumber e = e.1.base < 2 ^ 64 - 1
 
--- one more than the base of each lane fits into the program's number type
+-- for each lane, the number after its base fits into a u64
 abbrev pub AreNumbered : Links → Type 0
 AreNumbered links = (u v : ℕ) (l : Lane) → lane_at links u v ≡ Some l → l.base < 2 ^ 64 - 1
 
@@ -26,22 +27,22 @@ abbrev pub packets_of : ℕ × ℕ → Lane → List Msg → List Output
 packets_of k l [] = []
 packets_of k l (m ∷ ms) = Sent (front_packet k l m) ∷ []
 
--- a message becomes the front of a lane that is empty
+-- the packet of a message that is sent on a lane, if the lane is empty, so the message becomes its front
 abbrev pub front_sent : Option Lane → ℕ × ℕ → Msg → List Output
 front_sent None k m = []
 front_sent (Some l) k m = if is_nil l.queue then Sent (front_packet k l m) ∷ [] else []
 
--- the fronts that u's messages become
+-- the packets of u's messages that become fronts
 abbrev pub fronts_sent : Links → ℕ → List (ℕ × Msg) → List Output
 fronts_sent links u [] = []
 fronts_sent links u (s ∷ ss) = front_sent (lane_at links u s.0) (u, s.0) s.1 ++ fronts_sent links u ss
 
--- when a front is cleared, the message after it becomes the front
+-- the packet of the message after a lane's front, which becomes the front when that is cleared
 abbrev pub front_behind : Option Lane → ℕ × ℕ → List Output
 front_behind None k = []
 front_behind (Some l) k = packets_of k (cleared l) (behind_front l.queue)
 
--- the lower of a link's two ends has the lower lanes
+-- the outputs of both ends of a link, those of the lesser end first
 abbrev pub by_lesser : ℕ → ℕ → List Output → List Output → List Output
 by_lesser a b of_a of_b = if nat_lt a b then of_a ++ of_b else of_b ++ of_a
 

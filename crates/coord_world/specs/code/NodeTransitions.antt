@@ -13,18 +13,18 @@ use Rattle.coord_world.specs.declared.step.node_transition.NodeTransition.{NodeT
 use Rattle.coord_world.specs.protocol.NumberedWorld.{Links, World, lane_at, state}
 use Rattle.coord_world.specs.code.Sends.{sent_lanes}
 
--- the node step is u's transition d
+-- the program's record is the transition d of node u
 pub record IsTransitionOf (node_transition : NodeTransition) (u : ℕ) (d : Transition) : Type 0 where
   pub id : node_transition.id ≡ u
   pub state : node_transition.node ≡ d.state
   pub sends : node_transition.effects.sends.items ≡ sends_of d
   pub finished : node_transition.effects.finished ≡ d.finished
 
--- the world after node u has entered the state r and sent these
+-- the world after node u has entered the state r and sent these messages
 abbrev pub node_changed : World → ℕ → NodeState → List (ℕ × Msg) → World
 node_changed w u r sends = record w { nodes = insert w.nodes u r; links = sent_lanes u sends w.links }
 
--- the signal of a node step that finished
+-- the signal of a transition, if it finished a reset
 abbrev pub signal_of : NodeTransition → List Output
 signal_of node_transition = if node_transition.effects.finished then Signalled node_transition.id node_transition.node.epoch ∷ [] else []
 

@@ -1,5 +1,5 @@
--- A comparison of worlds that computes: they are the same where they are stored as the same. The laws of a comparison need
--- a test that computes; the code compares the rows of the tables.
+-- An equality test of worlds that computes: two worlds are the same if their stored forms are the same. The laws of a
+-- comparison need such a test; the code compares the rows of the tables.
 use Rattle.std.specs.Prelude.{◌≡◌, ◌==◌, ◌&&◌, Bool, true, false}
 use Rattle.std.proofs.Common.{refl, ap, ap₂, subst}
 use Rattle.std.specs.Bool.{Decides}
@@ -7,7 +7,7 @@ use Rattle.std.specs.Cmp.{unsigned_Decides}
 use base.Stored.{Gv, gnil, gnum, gcons}
 use Rattle.coord_world.specs.protocol.NumberedWorld.{World, world_code}
 
--- of one form, with the same numbers
+-- whether both stored values have the same form and the same numbers
 unfoldable pub same_stored : Gv → Gv → Bool
 same_stored gnil gnil = true
 same_stored (gnum m) (gnum n) = m == n
@@ -44,7 +44,7 @@ stored_self gnil = refl
 stored_self (gnum m) = (unsigned_Decides m m).1 refl
 stored_self (gcons a b) = ap₂ (λ p q. p && q) (stored_self a) (stored_self b)
 
--- the test for the same world holds exactly of equal worlds
+-- the test returns true if and only if the worlds are equal
 pub same_world_decides : (v w : World) → Decides (same_world v w) (v ≡ w)
 unfolding same_world
 same_world_decides v w = (

@@ -1,4 +1,4 @@
--- Parents without a cycle: the purpose of distances.
+-- Chains of parents have no cycle: this is the purpose of distances.
 use Rattle.std.specs.Prelude.{◌≡◌, ℕ, false, List, [], ◌∷◌, Some}
 use Rattle.coord_world.specs.protocol.Legal.{Legal}
 use Rattle.coord_world.specs.protocol.Links.{is_ready, readies}
@@ -12,11 +12,11 @@ pub record IsAbove (w : World) (u v : ℕ) : Type 0 where
   pub parent : (state w v).parent ≡ Some u
   pub unreleased : readies ((view w).in_transit u v) ≡ 0
 
--- a path down from u to v: each of these nodes is below the one before it
+-- a path from u to v in which each node is the parent of the next one, by `IsAbove`
 abbrev pub IsChain : World → ℕ → List ℕ → ℕ → Type 0
 IsChain w u [] v = u ≡ v
 IsChain w u (x ∷ path) v = IsAbove w u x × IsChain w x path v
 
--- no node is below itself in a legal world of version 2
+-- in a legal world of version 2, such a path never returns to its first node
 abbrev pub NoParentCycle : Type 0
 NoParentCycle = (w : World) (u : ℕ) (path : List ℕ) → InRange w → Legal w → w.version ≡ 2 → IsChain w u path u → path ≡ []

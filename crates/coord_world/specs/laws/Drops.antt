@@ -21,8 +21,8 @@ abbrev pub drops_in : (ℕ → Bool) → Step → Bool
 drops_in part (Order c n (Drop a b)) = part a
 drops_in part s = false
 
--- steps in turn that begin with every node of a part Ready, and never link a node of it with one outside: otherwise nodes and links may
--- come and go
+-- Steps in turn that begin with every node of the part Ready and never link a node of the part with a node outside it.
+-- They may add and remove nodes and links otherwise
 pub record BeginsApart (w : World) (steps : List Step) (part : ℕ → Bool) : Type 0 where
   pub in_range : InRange w
   pub legal : Legal w
@@ -31,11 +31,11 @@ pub record BeginsApart (w : World) (steps : List Step) (part : ℕ → Bool) : T
   pub kept_apart : All (KeepsApart part) steps
   pub ready_before : PartReady w part
 
--- the resets that were started in the part, the links of it that were dropped, and the resets of v that were answered Finished
+-- how often resets were started in the part, links of it were dropped, and resets of v were answered Finished, in total
 abbrev pub most_signals : World → List Step → (ℕ → Bool) → ℕ → ℕ
 most_signals w steps part v = count_by part (started w steps) + count_by (drops_in part) steps + count_by (λ u. u == v) (finished_at w steps)
 
--- at any time, each node of the part was signalled no more often than that
+-- at any time, each node of the part was signalled at most that often
 abbrev pub NoMoreWithDrops : Type 0
 NoMoreWithDrops = (w : World) (steps : List Step) (part : ℕ → Bool) → BeginsApart w steps part → (v : ℕ) → part v ≡ true →
     signals_of v (outs w steps) ≤ most_signals w steps part v

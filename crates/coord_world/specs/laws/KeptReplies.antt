@@ -9,13 +9,13 @@ use Rattle.coord_world.specs.protocol.Next.{fold}
 use Rattle.coord_world.specs.protocol.NumberedWorld.{World}
 use Rattle.coord_world.specs.protocol.Outputs.{outs}
 
--- a step that isn't an order of client c
+-- the step is not an order of client c
 abbrev pub IsNotBy : ℕ → Step → Type 0
 IsNotBy c (Order d n x) = d ≢ c
 IsNotBy c (Take p) = Unit {0}
 IsNotBy c (Clear p) = Unit {0}
 
--- the session after client c's last order among these steps: its number, its command, and its reply from the outputs
+-- the last order of client c among these steps, with its number, its command, and the reply that it was given
 pub record IsLastOrder (base : World) (steps : List Step) (c : ℕ) (o : Session) : Type 0 where
   pub before : List Step
   pub rest : List Step
@@ -25,7 +25,8 @@ pub record IsLastOrder (base : World) (steps : List Step) (c : ℕ) (o : Session
   pub replied : slice_get (outs base steps) (length before) ≡ Some (record { reply = o.reply; outputs = given })
   pub step : o.reply.step ≡ base.count + length before + 1
 
--- the kept-reply law: the fold keeps the session of a client's last order, or that of the base if the steps have no order of the client
+-- the kept-reply law: the world after the steps keeps the reply to a client's last order, or the reply that the base
+-- keeps if the steps have no order of the client
 abbrev pub KeptReplyLaw : Type 0
 KeptReplyLaw = (base : World) (steps : List Step) (c : ℕ) →
     ((o : Session) × ((get (fold base steps).sessions c ≡ Some o) × IsLastOrder base steps c o))

@@ -1,4 +1,4 @@
--- The laws of steps, over the definitions alone.
+-- The laws of single steps, over the definitions alone.
 use Rattle.std.specs.Prelude.{◌≡◌, ℕ, ◌≤◌, Some, length}
 use Rattle.coord_link.specs.declared.lane.TheConstants.{PLACES}
 use Rattle.std.specs.List.{AllByRecursion}
@@ -26,11 +26,12 @@ NextKeepsRanges = (w settled : World) (s : Step) → StepInRange s → InRange w
 abbrev pub NextKeepsLegal : Type 0
 NextKeepsLegal = (w settled : World) (s : Step) → InRange w → Legal w → IsFresh w settled s → Legal (next w s)
 
--- a step's effect on the view is the ideal step, if each lane has taken at most one message more than it cleared
+-- a step changes the view as the ideal step does, if on each lane at most one message is taken and not yet cleared
 abbrev pub ViewOfNext : Type 0
 ViewOfNext = (w settled : World) (s : Step) → ((u v : ℕ) (l : Lane) → lane_at w.links u v ≡ Some l → Counts l) → IsFresh w settled s → view (next w s) ≡ ideal_next (view w) s
 
--- in a legal world at most 3 messages are in transit on a lane, and a queue has at most 4, of which at most 2 are Aborts
+-- In a legal world, a lane has at most 3 messages in transit, and its queue has at most 4 messages, of which at most 2
+-- are Aborts
 pub record IsShort (l : Lane) : Type 0 where
   pub on_way : length (transit l) ≤ 3
   pub queued : length l.queue ≤ PLACES
@@ -39,7 +40,7 @@ pub record IsShort (l : Lane) : Type 0 where
 abbrev pub LanesAreShort : Type 0
 LanesAreShort = (w : World) (u v : ℕ) (l : Lane) → InRange w → Legal w → lane_at w.links u v ≡ Some l → IsShort l
 
--- the rows of a world in its ranges fit together
+-- the rows of a world in its ranges satisfy the conditions of `RowsFit`
 abbrev pub RowsOfWorldFit : Type 0
 RowsOfWorldFit = (w : World) → InRange w → RowsFit (rows_of w)
 

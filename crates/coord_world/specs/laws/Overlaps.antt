@@ -1,4 +1,4 @@
--- Overlapping resets: any number of them are started in one list of steps, and their waves merge where they meet.
+-- Overlapping resets: any number of resets are started in one list of steps, and their waves merge where they meet.
 use Rattle.std.specs.Prelude.{◌≡◌, ℕ, ◌+◌, ◌<◌, ◌≤◌, ◌==◌, Bool, true, false, List, [], ◌∷◌, ◌++◌, All, count_by}
 use Rattle.coord_types.specs.declared.messages.Mode.TheVariants.{Ready}
 use Rattle.coord_types.specs.declared.steps.Command.TheVariants.{Reset}
@@ -14,12 +14,13 @@ use Rattle.coord_world.specs.protocol.Outputs.{outs}
 use Rattle.coord_world.specs.protocol.Ranges.{InRange}
 use Rattle.coord_world.specs.laws.Waves.{Connected, changes_topology, signals_of, started}
 
--- if a reset of node u is accepted, whatever the reply, and u is Ready at the end, then u was signalled by that step or a later one. Nodes and links may come and go
+-- If a reset of node u is accepted, whatever the reply, and u is Ready at the end of the steps, then u is signalled by
+-- that step or a later one. The steps may add and remove nodes and links
 abbrev pub AskedIsSignalled : Type 0
 AskedIsSignalled = (w : World) (steps before rest : List Step) (c n u : ℕ) → InRange w → Legal w → InTurn w steps →
     steps ≡ before ++ Order c n (Reset u) ∷ rest → (state (fold w steps) u).mode ≡ Ready → 1 ≤ signals_of u (outs (fold w before) (Order c n (Reset u) ∷ rest))
 
--- no link leads from a node of the part to one outside it
+-- no link joins a node of the part with a node outside it
 abbrev pub IsPart : World → (ℕ → Bool) → Type 0
 IsPart w part = (a b : ℕ) → is_linked w a b ≡ true → part a ≡ part b
 
@@ -27,7 +28,7 @@ IsPart w part = (a b : ℕ) → is_linked w a b ≡ true → part a ≡ part b
 abbrev pub PartReady : World → (ℕ → Bool) → Type 0
 PartReady w part = (v : ℕ) → part v ≡ true → (state w v).mode ≡ Ready
 
--- steps in turn that begin with every node of a part Ready, and add or remove no node and no link
+-- steps in turn that begin with every node of the part Ready, and add or remove no node and no link
 pub record BeginsReady (w : World) (steps : List Step) (part : ℕ → Bool) : Type 0 where
   pub in_range : InRange w
   pub legal : Legal w
@@ -36,17 +37,19 @@ pub record BeginsReady (w : World) (steps : List Step) (part : ℕ → Bool) : T
   pub is_part : IsPart w part
   pub ready_before : PartReady w part
 
--- if every node of the part is Ready at the end, each node that is connected with one where a reset was started was signalled at least once
+-- if every node of the part is Ready at the end, each node that is connected with the node of a started reset is
+-- signalled at least once
 abbrev pub OnceOrMore : Type 0
 OnceOrMore = (w : World) (steps : List Step) (part : ℕ → Bool) → BeginsReady w steps part → PartReady (fold w steps) part →
     All (λ u. part u ≡ true → (v : ℕ) → Connected w u v → 1 ≤ signals_of v (outs w steps)) (started w steps)
 
--- at any time, no node of the part that has a link was signalled more often than resets were started in the part
+-- at any time, a node of the part that has a link was signalled at most as often as resets were started in the part
 abbrev pub NoMoreThanStarted : Type 0
 NoMoreThanStarted = (w : World) (steps : List Step) (part : ℕ → Bool) → BeginsReady w steps part →
     (v x : ℕ) → part v ≡ true → is_linked w v x ≡ true → signals_of v (outs w steps) ≤ count_by part (started w steps)
 
--- so if exactly one reset was started in the part, each node that is connected with its initiator was signalled exactly once
+-- if exactly one reset was started in the part, each node that is connected with its initiator is signalled exactly
+-- once
 abbrev pub OnceIfOneStarted : Type 0
 OnceIfOneStarted = (w : World) (steps : List Step) (part : ℕ → Bool) → BeginsReady w steps part → PartReady (fold w steps) part → count_by part (started w steps) ≡ 1 →
     All (λ u. part u ≡ true → (v : ℕ) → Connected w u v → signals_of v (outs w steps) ≡ 1) (started w steps)
@@ -61,17 +64,19 @@ abbrev pub finished_at : World → List Step → List ℕ
 finished_at w [] = []
 finished_at w (s ∷ ss) = finished_by (reply w s).kind s ++ finished_at (next w s) ss
 
--- a node of the part that has no link was signalled exactly as often as its resets were answered Finished
+-- a node of the part that has no link is signalled exactly as often as its resets are answered Finished
 abbrev pub AloneAsFinished : Type 0
 AloneAsFinished = (w : World) (steps : List Step) (part : ℕ → Bool) → BeginsReady w steps part →
     (v : ℕ) → part v ≡ true → ((x : ℕ) → is_linked w v x ≡ false) → signals_of v (outs w steps) ≡ count_by (λ u. u == v) (finished_at w steps)
 
--- if every node of the part is Ready at the end, then of the nodes that are connected with each other all were signalled or none was
+-- if every node of the part is Ready at the end, either all or none of the nodes that are connected with each other are
+-- signalled
 abbrev pub AllOrNone : Type 0
 AllOrNone = (w : World) (steps : List Step) (part : ℕ → Bool) → BeginsReady w steps part → PartReady (fold w steps) part →
     (u v : ℕ) → part u ≡ true → Connected w u v → 1 ≤ signals_of u (outs w steps) → 1 ≤ signals_of v (outs w steps)
 
--- so each node that is connected with one whose reset was accepted, whatever the reply, was signalled at least once
+-- each node that is connected with a node of the part whose reset was accepted, whatever the reply, is signalled at
+-- least once
 abbrev pub AskedReachesAll : Type 0
 AskedReachesAll = (w : World) (steps before rest : List Step) (part : ℕ → Bool) (c n u : ℕ) → BeginsReady w steps part → PartReady (fold w steps) part →
     steps ≡ before ++ Order c n (Reset u) ∷ rest → part u ≡ true → (v : ℕ) → Connected w u v → 1 ≤ signals_of v (outs w steps)
@@ -81,7 +86,8 @@ abbrev pub EpochsCountSignals : Type 0
 EpochsCountSignals = (w : World) (steps : List Step) → InRange w → Legal w → InTurn w steps → All (λ s. changes_topology s ≡ false) steps →
     (v : ℕ) → (state (fold w steps) v).epoch ≡ (state w v).epoch + signals_of v (outs w steps)
 
--- so if every node of the part is Ready at the end, then of the nodes that are connected with each other all have entered a new epoch or none has
+-- if every node of the part is Ready at the end, either all or none of the nodes that are connected with each other
+-- enter a new epoch
 abbrev pub EpochsRiseTogether : Type 0
 EpochsRiseTogether = (w : World) (steps : List Step) (part : ℕ → Bool) → BeginsReady w steps part → PartReady (fold w steps) part →
     (u v : ℕ) → part u ≡ true → Connected w u v → (state w u).epoch < (state (fold w steps) u).epoch → (state w v).epoch < (state (fold w steps) v).epoch

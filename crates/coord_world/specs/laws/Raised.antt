@@ -1,4 +1,4 @@
--- A world of version 1 in which every node is Ready, migrated to version 2.
+-- The migration to version 2 of a world of version 1 in which every node is Ready.
 use Rattle.std.specs.Prelude.{◌≡◌}
 use Rattle.coord_world.specs.laws.Waves.{AllReady}
 use Rattle.coord_world.specs.protocol.Legal.{Legal}
@@ -6,11 +6,11 @@ use Rattle.coord_world.specs.protocol.NumberedWorld.{World}
 use Rattle.coord_world.specs.protocol.Outputs.{again}
 use Rattle.coord_world.specs.protocol.Ranges.{InRange}
 
--- only the version changes: all distances of version 1 are 0
+-- the world after the migration: only the version changes, because all distances of version 1 are 0
 abbrev pub raised : World → World
 raised w = record w { version = 2 }
 
--- a migrated world is legal and in its ranges, and sends the same packets again
+-- a migrated world is legal and in its ranges, and has the same resend list
 pub record RaisesWell (w : World) : Type 0 where
   pub in_range : InRange (raised w)
   pub legal : Legal (raised w)

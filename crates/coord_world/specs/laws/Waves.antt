@@ -1,4 +1,4 @@
--- A wave of resets: who is connected with whom, where resets start, and who is signalled.
+-- A wave: which nodes are connected, where resets start, and which nodes are signalled.
 use Rattle.std.specs.Prelude.{◌≡◌, ◌⊎◌, ℕ, ◌==◌, Bool, true, false, List, [], ◌∷◌, ◌++◌, All, sum_by, count_by}
 use Rattle.coord_types.specs.declared.messages.Mode.TheVariants.{Ready}
 use Rattle.coord_types.specs.declared.outputs.Output.{Output}
@@ -38,17 +38,18 @@ changes_topology (Order c n (Confirm u e)) = false
 changes_topology (Take p) = false
 changes_topology (Clear p) = false
 
--- the node at which a step with a reply of this kind starts a reset
+-- the node at which a step with a reply of this kind starts a reset, or an empty list
 abbrev pub started_by : Kind → Step → List ℕ
 started_by Started (Order c n (Reset u)) = u ∷ []
 started_by k s = []
 
--- the nodes at which these steps are answered Started, in order
+-- the nodes at which resets are started by these steps, in order
 abbrev pub started : World → List Step → List ℕ
 started w [] = []
 started w (s ∷ ss) = started_by (reply w s).kind s ++ started (next w s) ss
 
--- a list of steps that has one wave, from u: it begins and ends where every node is Ready, keeps all nodes and links, and starts just one reset
+-- the steps are one wave from u: they begin and end with every node Ready, add or remove no node and no link, and start
+-- exactly one reset, at u
 pub record IsWave (w : World) (steps : List Step) (u : ℕ) : Type 0 where
   pub in_range : InRange w
   pub legal : Legal w
@@ -64,17 +65,18 @@ is_signal_of v (Receipted p) = false
 is_signal_of v (Signalled u e) = u == v
 is_signal_of v (Sent p) = false
 
--- the number of signals of node v in the outputs of steps
+-- the number of signals of node v among the outputs of steps
 abbrev pub signals_of : ℕ → List StepOutcome → ℕ
 signals_of v given = sum_by (λ r. count_by (is_signal_of v) r.outputs) given
 
--- a signal is of a node that is connected with u, or comes with the reply Finished
+-- a signal is of a node that is connected with u, or its step is answered Finished
 abbrev pub IsExplained : World → ℕ → Kind → Output → Type 0
 IsExplained w u k (Receipted p) = Unit {0}
 IsExplained w u k (Signalled v e) = Connected w u v ⊎ (k ≡ Finished)
 IsExplained w u k (Sent p) = Unit {0}
 
--- each node that is connected with u is signalled exactly once, and any other signal comes with the reply Finished
+-- each node that is connected with u is signalled exactly once, and any other signal is of a step that is answered
+-- Finished
 pub record SignalsOnce (w : World) (steps : List Step) (u : ℕ) : Type 0 where
   pub once : (v : ℕ) → Connected w u v → signals_of v (outs w steps) ≡ 1
   pub others : All (λ r. All (IsExplained w u r.reply.kind) r.outputs) (outs w steps)

@@ -1,4 +1,4 @@
--- Runs from the empty world with known results.
+-- Worked runs from the empty world.
 use Rattle.std.specs.Prelude.{◌≡◌, ℕ, true, List, [], ◌∷◌, ◌++◌, count_by, map, Result, Ok}
 use Rattle.coord_types.specs.declared.messages.Msg.{Msg}
 use Rattle.coord_types.specs.declared.messages.Msg.TheVariants as msg
@@ -25,7 +25,7 @@ use Rattle.coord_world.specs.laws.Drops.{BeginsApart, drops_in}
 abbrev pub order : ℕ → Command → Step
 order n x = Order 1 n x
 
--- packets of the lane from u to v, by incarnation and number
+-- the step in which the packet on the lane from u to v with this incarnation, number and message arrives
 abbrev pub take : ℕ → ℕ → ℕ → ℕ → Msg → Step
 take u v i n m = Take (record { from = u; to = v; inc = i; number = n; msg = m })
 
@@ -38,23 +38,23 @@ data_out u v i n m = Sent (record { from = u; to = v; inc = i; number = n; msg =
 abbrev pub receipt_out : ℕ → ℕ → ℕ → ℕ → Output
 receipt_out u v i n = Receipted (record { from = u; to = v; inc = i; number = n })
 
--- the outputs of step n
+-- the outcome of step n: its reply and its outputs
 abbrev pub gives : ℕ → Kind → List Output → StepOutcome
 gives n k os = record { reply = record { step = n; kind = k }; outputs = os }
 
--- the replies to these steps, if each one before it is settled
+-- the verdict on each of these steps, if all steps before it are settled
 abbrev pub verdicts : World → List Step → List (Result Verdict Refusal)
 verdicts w [] = []
 verdicts w (s ∷ ss) = accepts w w s ∷ verdicts (next w s) ss
 
--- in a world of this version each step is accepted, with the reply and the outputs that are given
+-- in the empty world of this version each step is fresh, and the replies and outputs are the given ones
 abbrev pub IsRunIn : ℕ → List Step → List StepOutcome → Type 0
 IsRunIn version steps given = (verdicts (no_world version) steps ≡ map (λ r. Ok (Fresh r.reply.kind)) given) × (outs (no_world version) steps ≡ given)
 
 abbrev pub IsRun : List Step → List StepOutcome → Type 0
 IsRun = IsRunIn 1
 
--- two nodes are linked, and one of them is reset
+-- two nodes are added and linked; in `one_reset`, one of them is then reset
 abbrev pub two_linked : List Step
 two_linked = order 1 (Add 1 1) ∷ order 2 (Add 2 1) ∷ order 3 (Join 1 2) ∷ []
 
@@ -74,7 +74,7 @@ StoredRun =
     ∷ gives 8 Taken (receipt_out 1 2 3 2 ∷ Signalled 2 1 ∷ []) ∷ []
     )
 
--- that reset is one wave from node 1
+-- that reset is a single wave from node 1
 abbrev pub StoredWave : Type 0
 StoredWave = IsWave (fold (no_world 1) two_linked) one_reset 1
 
@@ -101,7 +101,8 @@ TwoInitiators =
     ∷ gives 13 Taken (receipt_out 1 2 3 3 ∷ []) ∷ []
     )
 
--- a list of steps from two linked nodes that begins and ends with both Ready, with starts at these nodes and this many signals of each
+-- steps over two linked nodes that begin and end with both Ready; resets are started at these nodes, in order, and each
+-- node is signalled this often
 pub record IsOverlap (steps : List Step) (at : List ℕ) (times : ℕ) : Type 0 where
   pub begins : BeginsReady (fold (no_world 1) two_linked) steps (λ _. true)
   pub ends : PartReady (fold (fold (no_world 1) two_linked) steps) (λ _. true)
@@ -115,17 +116,17 @@ two_starts =
     order 4 (Reset 1) ∷ order 5 (Reset 2) ∷ take 1 2 3 1 (msg.Abort 0) ∷ take 2 1 3 1 (msg.Abort 0) ∷ clear 1 2 3 1 ∷ clear 2 1 3 1
     ∷ take 1 2 3 2 msg.Ack ∷ take 2 1 3 2 msg.Ack ∷ []
 
--- one end starts another reset before the other one is Ready, and the two waves continue one after the other
+-- one end starts another reset before the other end is Ready again, and the second wave follows the first
 abbrev pub start_again : List Step
 start_again =
     order 4 (Reset 1) ∷ take 1 2 3 1 (msg.Abort 0) ∷ take 2 1 3 1 msg.Ack ∷ order 5 (Reset 1) ∷ clear 1 2 3 1 ∷ take 1 2 3 2 msg.Ready
     ∷ clear 1 2 3 2 ∷ take 1 2 3 3 (msg.Abort 0) ∷ clear 2 1 3 1 ∷ take 2 1 3 2 msg.Ack ∷ clear 1 2 3 3 ∷ take 1 2 3 4 msg.Ready ∷ []
 
--- of two starts a node is signalled once, or twice
+-- if two resets are started, a node may be signalled once or twice
 abbrev pub Overlaps : Type 0
 Overlaps = IsOverlap two_starts (1 ∷ 2 ∷ []) 1 × IsOverlap start_again (1 ∷ 1 ∷ []) 2
 
--- a path of three nodes, of which two start resets that meet, and the first is signalled
+-- a path of three nodes; the first two start resets whose waves meet, and the first node is signalled
 abbrev pub path_linked : List Step
 path_linked = order 1 (Add 1 1) ∷ order 2 (Add 2 1) ∷ order 3 (Add 3 1) ∷ order 4 (Join 1 2) ∷ order 5 (Join 2 3) ∷ []
 
@@ -134,13 +135,13 @@ two_meet =
     order 6 (Reset 1) ∷ order 7 (Reset 2) ∷ take 2 1 4 1 (msg.Abort 0) ∷ take 1 2 4 1 (msg.Abort 0) ∷ clear 1 2 4 1 ∷ take 1 2 4 2 msg.Ack
     ∷ clear 2 1 4 1 ∷ take 2 1 4 2 msg.Ack ∷ []
 
--- then the last one starts a reset too, which meets that of the second
+-- after `two_meet`, the last node starts a reset too, whose wave meets that of the second
 abbrev pub third_meets : List Step
 third_meets =
     order 8 (Reset 3) ∷ take 2 3 5 1 (msg.Abort 0) ∷ take 3 2 5 1 (msg.Abort 0) ∷ clear 2 3 5 1 ∷ take 2 3 5 2 msg.Ack ∷ clear 3 2 5 1
     ∷ take 3 2 5 2 msg.Ack ∷ []
 
--- so not every node that is connected with the node of a start is signalled after that start
+-- not every node that is connected with the node of a started reset is signalled after that start
 pub record NotAllAfterEach : Type 0 where
   pub begins : BeginsReady (fold (no_world 1) path_linked) (two_meet ++ third_meets) (λ _. true)
   pub ends : PartReady (fold (fold (no_world 1) path_linked) (two_meet ++ third_meets)) (λ _. true)
@@ -152,7 +153,8 @@ pub record NotAllAfterEach : Type 0 where
 abbrev pub triangle_linked : List Step
 triangle_linked = order 1 (Add 1 1) ∷ order 2 (Add 2 1) ∷ order 3 (Add 3 1) ∷ order 4 (Join 1 2) ∷ order 5 (Join 1 3) ∷ order 6 (Join 2 3) ∷ []
 
--- the first node starts a reset, and another one once it is signalled; the second one has passed both on to the third
+-- the first node starts a reset, and another one once it is signalled; the second node has passed both waves on to the
+-- third
 abbrev pub starts_twice : List Step
 starts_twice =
     order 7 (Reset 1) ∷ take 1 2 4 1 (msg.Abort 0) ∷ take 2 3 6 1 (msg.Abort 0) ∷ take 1 3 5 1 (msg.Abort 0)
@@ -166,15 +168,15 @@ passed_on =
     ∷ take 2 3 6 2 msg.Ready ∷ clear 2 3 6 2 ∷ take 2 3 6 3 (msg.Abort 0) ∷ clear 3 1 5 2 ∷ take 3 1 5 3 msg.Ack
     ∷ clear 3 1 5 3 ∷ take 3 1 5 4 msg.Ready ∷ []
 
--- then the link of the first two is dropped: the first one is signalled again, and the wave of the second reaches it through the
--- third
+-- after `passed_on`, the link of the first two nodes is dropped: the first node is signalled again, and the wave of the
+-- second node reaches it through the third
 abbrev pub comes_back : List Step
 comes_back =
     order 9 (Drop 1 2) ∷ clear 3 1 5 4 ∷ take 3 1 5 5 (msg.Abort 0) ∷ clear 1 3 5 4 ∷ take 1 3 5 5 msg.Ready
     ∷ clear 1 3 5 5 ∷ take 1 3 5 6 msg.Ack ∷ clear 3 2 6 1 ∷ take 3 2 6 2 msg.Ack ∷ clear 2 3 6 3 ∷ take 2 3 6 4 msg.Ready
     ∷ clear 3 1 5 5 ∷ take 3 1 5 6 msg.Ready ∷ []
 
--- so a node is signalled as often as resets were started and links dropped, more often than resets were started
+-- a node is signalled as often as resets were started and links dropped, which is more often than resets were started
 pub record DropsCount : Type 0 where
   pub begins : BeginsApart (fold (no_world 1) triangle_linked) (starts_twice ++ (passed_on ++ comes_back)) (λ _. true)
   pub ends : PartReady (fold (fold (no_world 1) triangle_linked) (starts_twice ++ (passed_on ++ comes_back))) (λ _. true)
@@ -182,7 +184,7 @@ pub record DropsCount : Type 0 where
   pub drops : count_by (drops_in (λ _. true)) (starts_twice ++ (passed_on ++ comes_back)) ≡ 1
   pub first : signals_of 1 (outs (fold (no_world 1) triangle_linked) (starts_twice ++ (passed_on ++ comes_back))) ≡ 3
 
--- the first link of a path of three nodes is dropped while the wave goes out
+-- the first link of a path of three nodes is dropped while the wave spreads
 abbrev pub DropInAbort : Type 0
 DropInAbort =
     IsRun
@@ -202,7 +204,7 @@ DropInAbort =
     ∷ gives 12 Taken (receipt_out 2 3 5 2 ∷ Signalled 3 1 ∷ []) ∷ []
     )
 
--- a link is dropped after the acknowledgement has come back over it
+-- a link is dropped after the acknowledgement has returned over it
 abbrev pub DropInConverge : Type 0
 DropInConverge =
     IsRun
@@ -219,7 +221,7 @@ DropInConverge =
     ∷ gives 10 Done (Signalled 1 1 ∷ Signalled 2 1 ∷ []) ∷ []
     )
 
--- the same path in version 2: the wave goes out with distances, and the node that loses its parent keeps its own
+-- the same path in version 2: the wave spreads with distances, and the node that loses its parent keeps its distance
 abbrev pub wave_with_distances : List Step
 wave_with_distances =
     order 1 (Add 1 1) ∷ order 2 (Add 2 1) ∷ order 3 (Add 3 1) ∷ order 4 (Join 1 2) ∷ order 5 (Join 2 3) ∷ order 6 (Reset 1)
@@ -241,7 +243,8 @@ pub record Distances : Type 0 where
   pub child : (state (fold (no_world 2) wave_with_distances) 3).distance ≡ 2
   pub signalled : (state (fold (no_world 2) wave_with_distances) 1).distance ≡ 0
 
--- both ends of a path of three nodes start a reset in version 2: the node between them takes the first wave alone, and all three are signalled
+-- both ends of a path of three nodes start a reset in version 2; the node between them takes only the first wave, and
+-- all three nodes are signalled
 abbrev pub TwoInitiatorsWithDistances : Type 0
 TwoInitiatorsWithDistances =
     IsRunIn

@@ -1,5 +1,5 @@
--- Which steps a world accepts, and why it refuses the others: a list of tests, each with its refusal, read from the
--- front, so the text shows the exact order of refusals.
+-- The steps that a world accepts, and the reason for each refusal: a list of tests, each with its refusal. The refusal
+-- is that of the first test that holds, so the list states the order of refusals.
 use Rattle.std.specs.Prelude.{◌≡◌, ℕ, ◌+◌, ◌==◌, ◌&&◌, ◌||◌, not, nat_le, nat_lt, Bool, false, true, [], ◌∷◌, ◌++◌, Option, Some, None, Result, Ok, if◌then◌else◌}
 use Rattle.coord_types.specs.NodeSet as set
 use Rattle.coord_types.specs.Table.{get, has, len}
@@ -23,15 +23,15 @@ use Rattle.coord_world.specs.protocol.NumberedWorld.{World, lane_at, state, is_l
 abbrev pub is_unknown : World → ℕ → Bool
 is_unknown w u = not (has w.nodes u)
 
--- a node has its most links
+-- whether a node has the maximum number of links
 abbrev pub is_full : NodeState → Bool
 is_full r = nat_le MAX_DEGREE (set.len r.neighbours)
 
--- a world has its most links
+-- whether a world has the maximum number of links
 abbrev pub has_all_links : World → Bool
 has_all_links w = nat_le MAX_LINKS (len w.links)
 
--- only the front world judges a command
+-- the tests of a command; they depend only on the front world
 abbrev pub against_command : World → Command → Tests
 against_command w (Add u g) = (has w.nodes u, NodeExists) ∷ []
 against_command w (Remove u) = (is_unknown w u, UnknownNode) ∷ (not (is_empty (state w u).neighbours), HasLinks) ∷ []
@@ -46,21 +46,21 @@ abbrev pub of_incarnation : ℕ → Option Lane → Option Lane
 of_incarnation i None = None
 of_incarnation i (Some l) = if l.inc == i then Some l else None
 
--- the lane from u to v, if it has this incarnation
+-- the lane from u to v, if its incarnation is i
 abbrev pub lane : World → ℕ → ℕ → ℕ → Option Lane
 lane w u v i = of_incarnation i (lane_at w.links u v)
 
--- whether a settled lane has given out the data packet with this number
+-- whether a lane of the settled world has released the data packet with this number
 abbrev pub has_sent : Option Lane → ℕ → Bool
 has_sent None n = false
 has_sent (Some l) n = (n == l.base + 1) && not (is_nil l.queue)
 
--- whether a settled lane has given out the receipt with this number
+-- whether a lane of the settled world has released the receipt with this number
 abbrev pub has_receipted : Option Lane → ℕ → Bool
 has_receipted None n = false
 has_receipted (Some l) n = nat_le n l.got
 
--- a packet is judged by its lane in the front world, and then by its lane in the settled one
+-- the tests of a data packet: first by its lane in the front world, then by its lane in the settled world
 abbrev pub against_data : Option Lane → Option Lane → DataPacket → Tests
 against_data None settled p = (true, NoLink) ∷ []
 against_data (Some l) settled p = against_take l p.number p.msg ++ (not (has_sent settled p.number), NotReleased) ∷ []
@@ -69,12 +69,13 @@ abbrev pub against_receipt : Option Lane → Option Lane → ReceiptPacket → T
 against_receipt None settled p = (true, NoLink) ∷ []
 against_receipt (Some l) settled p = against_clear l p.number ++ (not (has_receipted settled p.number), NotReleased) ∷ []
 
--- a client's numbers begin with 1
+-- the number of a client's last order; 0 if it has none
 abbrev pub last_number : Option Session → ℕ
 last_number None = 0
 last_number (Some s) = s.number
 
--- the number is not the last one or the next one; or it is the last one, with another command
+-- the tests of the number of an order that is not a repeat. OutOfTurn: it is 0, or another number than the last and the
+-- next one; NumberReused: it is the last number
 abbrev pub against_number : ℕ → ℕ → Tests
 against_number last n = (not (n == last + 1) && (not (n == last) || (n == 0)), OutOfTurn) ∷ (n == last, NumberReused) ∷ []
 
@@ -86,21 +87,21 @@ against front settled (Clear p) = against_receipt (lane front p.from p.to p.inc)
 abbrev pub is_exhausted : World → Bool
 is_exhausted w = nat_le MAX_STEPS w.count
 
--- a step that isn't a repeat
+-- the verdict on a step that is not a repeat
 abbrev pub judged : World → World → Step → Result Verdict Refusal
 judged front settled s = refused_or (Fresh (kind (state front) s)) ((is_exhausted front, Exhausted) ∷ against front settled s)
 
--- a repeat of a client's last order is answered with its reply
+-- a repeat of the client's last order is answered with the kept reply; any other order gets this verdict
 abbrev pub or_repeat : Option Session → ℕ → Command → Result Verdict Refusal → Result Verdict Refusal
 or_repeat None n x verdict = verdict
 or_repeat (Some o) n x verdict = if (o.number == n) && same_command o.command x then Ok (Repeat o.reply) else verdict
 
--- acceptance: the verdict of the front world on a step, given the settled world
+-- acceptance: the verdict on a step of a front world, given the settled world
 abbrev pub accepts : World → World → Step → Result Verdict Refusal
 accepts front settled (Order c n x) = or_repeat (get front.sessions c) n x (judged front settled (Order c n x))
 accepts front settled (Take p) = judged front settled (Take p)
 accepts front settled (Clear p) = judged front settled (Clear p)
 
--- a step that a world accepts, over some settled world
+-- the front world accepts this step, given the settled world, and it is not a repeat
 abbrev pub IsFresh : World → World → Step → Type 0
 IsFresh front settled s = accepts front settled s ≡ Ok (Fresh (kind (state front) s))

@@ -1,4 +1,5 @@
--- The predicates B to H over the two ends of a link and the messages in transit between them, each a test. Predicate A, over a lane, is in the lane machine.
+-- The predicates B to H over the two ends of a link and the messages in transit between them, each as a test. Predicate
+-- A, over a lane, is in coord_link's lane machine.
 use Rattle.std.specs.Prelude.{◌≡◌, ℕ, ◌+◌, ◌==◌, nat_le, Bool, true, false, ◌&&◌, ◌||◌, not, List, [], ◌∷◌, if◌then◌else◌}
 use Rattle.coord_types.specs.NodeSet as set
 use Rattle.coord_types.specs.Facade.{Ideal, NodeState}
@@ -8,8 +9,8 @@ use Rattle.coord_types.specs.declared.messages.Msg.{Msg}
 use Rattle.coord_types.specs.declared.messages.Msg.TheVariants as msg
 use Rattle.coord_node.specs.Rules.{carries, is_parent}
 
--- one end of a link: whether it awaits the other end, whether that is its parent, its distance, and the distance that an Abort
--- from it carries
+-- One end of a link: its node's mode, whether the node awaits the other end's acknowledgement, whether the other end is
+-- its parent, its distance, and the distance that its Aborts carry
 pub record End : Type 0 where
   pub mode : Mode
   pub awaits : Bool
@@ -17,7 +18,7 @@ pub record End : Type 0 where
   pub distance : ℕ
   pub carries : ℕ
 
--- a link as one end sees it
+-- a link as one end sees it: both ends, and the messages in transit in each direction
 pub record Link : Type 0 where
   pub here : End
   pub there : End
@@ -54,14 +55,14 @@ readies (msg.Abort k ∷ ms) = readies ms
 readies (msg.Ack ∷ ms) = readies ms
 readies (msg.Ready ∷ ms) = 1 + readies ms
 
--- the number of Readies after an Abort
+-- the number of Readies after the first Abort
 abbrev pub readies_behind : List Msg → ℕ
 readies_behind [] = 0
 readies_behind (msg.Abort k ∷ ms) = readies ms
 readies_behind (msg.Ack ∷ ms) = readies_behind ms
 readies_behind (msg.Ready ∷ ms) = readies_behind ms
 
--- how many Aborts carry another distance than this one
+-- the number of Aborts that carry a distance other than n
 abbrev pub strays : ℕ → List Msg → ℕ
 strays n [] = 0
 strays n (msg.Abort k ∷ ms) = one (not (k == n)) + strays n ms
@@ -83,15 +84,16 @@ is_ready Ready = true
 is_ready Abort = false
 is_ready Converge = false
 
--- an end that owes the other one an acknowledgement
+-- whether an end owes the other end an acknowledgement
 abbrev pub owes_ack : End → Bool
 owes_ack e = is_abort e.mode && e.child
 
--- an end that waits for the other one's Ready
+-- whether an end waits for the other end's Ready
 abbrev pub waits_for_ready : End → Bool
 waits_for_ready e = is_converge e.mode && e.child
 
--- B: an awaited acknowledgement is in exactly one place, and no other exists: in the Abort in transit, at the end that owes it, or in the Ack in transit back
+-- B: an awaited acknowledgement is in exactly one place: as the Abort in transit, at the other end that owes it, or as
+-- the Ack in transit back. If none is awaited, there is none in these places
 abbrev pub has_ack_in_one_place : Link → Bool
 has_ack_in_one_place l = (aborts l.out + one (owes_ack l.there) + acks l.back) == one l.here.awaits
 
@@ -103,7 +105,7 @@ has_one_ready_at_most l = nat_le (readies l.out) 1
 abbrev pub has_readies_first : Link → Bool
 has_readies_first l = readies_behind l.out == 0
 
--- E: if the other end waits for this end's Ready, it is in transit, or this end is not Ready
+-- E: if the other end waits for this end's Ready, a Ready is in transit to it, or this end is not Ready
 abbrev pub has_ready_for_child : Link → Bool
 has_ready_for_child l = not (waits_for_ready l.there) || not (readies l.out == 0) || not (is_ready l.here.mode)
 
@@ -111,16 +113,18 @@ has_ready_for_child l = not (waits_for_ready l.there) || not (readies l.out == 0
 abbrev pub has_one_parent_at_most : Link → Bool
 has_one_parent_at_most l = not (l.here.child && l.there.child)
 
--- G: if this end isn't Ready, the other isn't its parent and no Abort is in transit, then no Ready is
+-- G: a Ready is in transit only if this end is Ready, or the other end is its parent, or an Abort is in transit on the
+-- same lane
 abbrev pub has_no_early_ready : Link → Bool
 has_no_early_ready l = is_ready l.here.mode || l.here.child || not (aborts l.out == 0) || (readies l.out == 0)
 
--- H: each Abort in transit carries the distance that this end sends; the other end has that distance if it is in this end's wave and no Ready is in transit to it.
--- In version 1, where all distances are 0, it always holds
+-- H: each Abort in transit carries the distance that this end sends. If this end is the parent of the other end, which
+-- is in a reset, and no Ready is in transit to it, the other end has that distance. In version 1 all distances are 0,
+-- so H always holds
 abbrev pub has_right_distances : Link → Bool
 has_right_distances l = (strays l.here.carries l.out == 0) && (is_ready l.there.mode || not l.there.child || not (readies l.out == 0) || (l.there.distance == l.here.carries))
 
--- B to H, as the sender of `out` sees them
+-- B to H, as seen by the end that sends `out`
 pub record LegalLink (l : Link) : Type 0 where
   pub ack_in_one_place : has_ack_in_one_place l ≡ true
   pub one_ready_at_most : has_one_ready_at_most l ≡ true

@@ -1,7 +1,7 @@
--- The effect of each step on a numbered world. A step is prepared, and then nodes act: first the changes before any
--- node acts, then a list of transitions, each computed from the world before the step, then the session and the count.
--- The order of the list is the order of the signals. Both transitions of a drop are computed from the world before it,
--- since its two ends differ.
+-- The effect of each step on a numbered world: first the changes that come before any node acts, then a list of
+-- transitions, each computed from the world before the step, then the session and the step count. The signals are in
+-- the order of this list. The two transitions of a drop belong to different nodes, so both can be computed from the
+-- world before it.
 use Rattle.std.specs.Prelude.{ℕ, ◌+◌, ◌==◌, List, [], ◌∷◌, if◌then◌else◌}
 use Rattle.coord_types.specs.Table.{insert, remove}
 use Rattle.coord_types.specs.NodeState.{NodeState, new_node}
@@ -15,24 +15,24 @@ use Rattle.coord_tables.specs.Links.{change_lane, change_lanes, joined, parted}
 use Rattle.coord_node.specs.Facade.{Transition, added, kind, transitions, with_neighbour}
 use Rattle.coord_world.specs.protocol.NumberedWorld.{World, state}
 
--- a change of only the lane from u to v
+-- applies f to the lane from u to v
 abbrev pub on_lane : World → ℕ → ℕ → (Lane → Lane) → World
 on_lane w u v f = record w { links = change_lane w.links u v f }
 
 abbrev pub with_state : World → ℕ → NodeState → World
 with_state w u r = record w { nodes = insert w.nodes u r }
 
--- node u makes a transition: its state changes, and its messages join its lanes
+-- node u makes a transition: its state changes, and its messages are appended to its lanes
 abbrev pub with_transition : World → ℕ → Transition → World
 with_transition w u d = record w { nodes = insert w.nodes u d.state; links = change_lanes (λ k l. if k.0 == u then sent (added d k.1) l else l) w.links }
 
--- transitions, one after the other
+-- these transitions, one after the other
 abbrev pub with_transitions : World → List (ℕ × Transition) → World
 with_transitions w [] = w
 with_transitions w (d ∷ ds) = with_transitions (with_transition w d.0 d.1) ds
 
--- the changes of a command before any node acts on it; the incarnation of a link is the number of the step that makes
--- it
+-- the changes of a command that come before any node acts; the incarnation of a new link is the number of the step that
+-- makes it
 abbrev pub with_command : World → Command → World
 with_command w (Add u g) = with_state w u (new_node g)
 with_command w (Remove u) = record w { nodes = remove w.nodes u }
@@ -53,7 +53,7 @@ prepared w (Clear p) = on_lane w p.from p.to cleared
 abbrev pub reply : World → Step → Reply
 reply w s = record { step = w.count + 1; kind = kind (state w) s }
 
--- an order becomes its client's last one; packets don't change the sessions
+-- records an order as its client's last one; packets do not change the sessions
 abbrev pub with_reply : World → Reply → Step → World
 with_reply w r (Order c n x) = record w { sessions = insert w.sessions c (record { number = n; command = x; reply = r }) }
 with_reply w r (Take p) = w
@@ -63,7 +63,7 @@ with_reply w r (Clear p) = w
 abbrev pub next : World → Step → World
 next w s = record (with_reply (with_transitions (prepared w s) (transitions w.version (state w) s)) (reply w s) s) { count = w.count + 1 }
 
--- the world after steps, one after the other
+-- the world after these steps, one after the other
 abbrev pub fold : World → List Step → World
 fold w [] = w
 fold w (s ∷ ss) = fold (next w s) ss

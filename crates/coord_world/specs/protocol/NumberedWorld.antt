@@ -12,7 +12,7 @@ use Rattle.coord_link.specs.LaneMachine.{Lane, transit}
 pub use Rattle.coord_tables.specs.Links.{Lanes, Links, is_lane, lane_at, lanes_in_order, links_code}
 pub use Rattle.coord_tables.specs.Pairs.{pair_cmp, pair_cmp_total}
 
--- its version, how many steps were taken, the nodes, the links by their ends, and each client's last order
+-- the version, the number of steps taken, the nodes, the links by their ends, and each client's last order
 pub record World : Type 0 where
   pub version : ℕ
   pub count : ℕ
@@ -20,7 +20,7 @@ pub record World : Type 0 where
   pub links : Links
   pub sessions : Table nat_cmp_total Session
 
--- the world of a version before any step
+-- the world of this version before any step
 abbrev pub no_world : ℕ → World
 no_world version = record { version = version; count = 0; nodes = table.empty; links = table.empty; sessions = table.empty }
 
@@ -39,7 +39,7 @@ abbrev pub transit_or_none : Option Lane → List Msg
 transit_or_none None = []
 transit_or_none (Some l) = transit l
 
--- the ideal world of a numbered one: each lane becomes the list of its messages in transit
+-- the ideal world that a numbered world represents: each lane becomes the list of its messages in transit
 abbrev pub view : World → Ideal
 view w = record { version = w.version; state = state w; linked = is_linked w; in_transit = λ u v. transit_or_none (lane_at w.links u v) }
 

@@ -1,4 +1,4 @@
--- The ranges of a world, the invariant of its type: they hold for every world, legal or not.
+-- The ranges of a world. They are the invariant of its type, and hold for every world, legal or not.
 use Rattle.std.specs.Prelude.{◌≡◌, ℕ, ◌==◌, ◌≤◌, Bool, true, false, List, Some, length, if◌then◌else◌}
 use Rattle.coord_link.specs.declared.lane.TheConstants.{PLACES}
 use Rattle.std.specs.List.{AllByRecursion}
@@ -28,14 +28,14 @@ pub record NodeInRange (count u : ℕ) (r : NodeState) : Type 0 where
   pub confirmed : r.confirmed ≤ count
   pub degree : set.len r.neighbours ≤ MAX_DEGREE
 
--- an incarnation is the number of a step
+-- an incarnation is the number of a step, and a lane's other numbers are at most the number of steps
 pub record LaneInRange (count : ℕ) (l : Lane) : Type 0 where
   pub made : 1 ≤ l.inc
   pub inc : l.inc ≤ count
   pub base : l.base ≤ count
   pub got : l.got ≤ count
 
--- the greatest distance in a world of this version with this many steps
+-- the greatest distance in a world with this version and number of steps
 abbrev pub farthest : ℕ → ℕ → ℕ
 farthest version count = if version == 1 then 0 else count
 
@@ -43,12 +43,12 @@ farthest version count = if version == 1 then 0 else count
 abbrev pub CarryWithin : ℕ → List Msg → Type 0
 CarryWithin n ms = AllByRecursion (λ m. carried m ≤ n) ms
 
--- a node has a distance that the version allows, 0 if it is Ready
+-- a node has a distance that the version allows, and 0 if it is Ready
 pub record IsDistant (version count : ℕ) (r : NodeState) : Type 0 where
   pub within : r.distance ≤ farthest version count
   pub ready : r.mode ≡ Ready → r.distance ≡ 0
 
--- the kinds that a command may be answered with
+-- whether a command can be answered with this kind of reply
 abbrev pub answers : Command → Kind → Bool
 answers (Reset u) Started = true
 answers (Reset u) Finished = true
@@ -67,8 +67,8 @@ pub record SessionInRange (count c : ℕ) (s : Session) : Type 0 where
   pub replied_by : s.reply.step ≤ count
   pub answered : answers s.command s.reply.kind ≡ true
 
--- a node's neighbours are those that it has lanes to; a link has its lesser end first, and has two lanes, of one
--- incarnation, between two nodes of one group
+-- The ranges of a world. A node's neighbours are exactly the nodes to which it has lanes; a link has its lesser end
+-- first, and two lanes with one incarnation, between two nodes of one group
 pub record InRange (w : World) : Type 0 where
   pub first : 1 ≤ w.version
   pub last : w.version ≤ MAX_VERSIONS

@@ -1,4 +1,4 @@
--- A world as lists of rows, and which lists are those of a world.
+-- A world as lists of rows, and the conditions under which such lists are the rows of a world.
 use Rattle.std.specs.Prelude.{◌≡◌, ℕ, ◌+◌, ◌≤◌, ◌<◌, ◌==◌, ◌||◌, Bool, true, List, [], ◌∷◌, map, length, Option, Some, None, if◌then◌else◌}
 use Rattle.coord_link.specs.declared.lane.TheConstants.{PLACES}
 use Rattle.std.specs.Ordering.{nat_cmp}
@@ -23,7 +23,7 @@ pub record Rows : Type 0 where
   pub links : List LinkRow
   pub clients : List ClientRow
 
--- the rows of the program's record
+-- the lists in the program's record
 abbrev pub listed : Parts → Rows
 listed p = record { version = p.version; count = p.count; nodes = p.nodes.items; links = p.links.items; clients = p.clients.items }
 
@@ -43,7 +43,7 @@ rows_of w = record {
   clients = map client_row (entries w.sessions);
 }
 
--- each row with its key
+-- the rows, each with its key
 abbrev pub by_id : List NodeRow → List (ℕ × NodeRow)
 by_id = map (λ r. (r.id, r))
 
@@ -63,7 +63,7 @@ pub record NodeRowFits (count : ℕ) (r : NodeRow) : Type 0 where
   pub epoch : r.epoch ≤ count
   pub confirmed : r.confirmed ≤ count
 
--- the group of the node with this number, if it is listed
+-- the group of a node, if the node has a row
 abbrev pub group_in : Option NodeRow → Option ℕ
 group_in None = None
 group_in (Some r) = Some r.group
@@ -71,7 +71,7 @@ group_in (Some r) = Some r.group
 abbrev pub group_of : List NodeRow → ℕ → Option ℕ
 group_of nodes u = group_in (find nat_cmp u (by_id nodes))
 
--- both ends are listed, in one group
+-- both ends of a link have rows, in one group
 pub record HasEnds (nodes : List NodeRow) (r : LinkRow) : Type 0 where
   pub group : ℕ
   pub first : group_of nodes r.a ≡ Some group
@@ -89,22 +89,22 @@ pub record LinkRowFits (count : ℕ) (nodes : List NodeRow) (r : LinkRow) : Type
 abbrev pub is_end : ℕ → LinkRow → Bool
 is_end u r = (u == r.a) || (u == r.b)
 
--- how many links a node is an end of
+-- the number of links of a node
 abbrev pub degree : ℕ → List LinkRow → ℕ
 degree u [] = 0
 degree u (r ∷ rs) = if is_end u r then 1 + degree u rs else degree u rs
 
--- a row's distance
+-- the distance in a node's row is in range
 pub record RowIsDistant (version count : ℕ) (r : NodeRow) : Type 0 where
   pub within : r.distance ≤ farthest version count
   pub ready : r.mode ≡ Ready → r.distance ≡ 0
 
--- the messages of a row's lanes
+-- the distances that the messages in a link's row carry are in range
 pub record LanesCarryWithin (n : ℕ) (r : LinkRow) : Type 0 where
   pub forth : CarryWithin n r.forth.queue
   pub back : CarryWithin n r.back.queue
 
--- the conditions on lists of rows to be those of a world
+-- these lists are the rows of a world
 pub record RowsFit (rows : Rows) : Type 0 where
   pub first : 1 ≤ rows.version
   pub last : rows.version ≤ MAX_VERSIONS

@@ -1,4 +1,4 @@
-//! How the rows of a world are put together.
+//! Makes the tables of a world from its rows.
 
 ghost use Rattle.std.specs.Prelude.{◌≡◌, true, IfOk, map};
 ghost use Rattle.std.specs.Ordering.{nat_cmp};
@@ -16,7 +16,7 @@ use coord_types::{Client, NodeId, Session};
 use std::alloc::{AllocError, Global};
 
 impl Tables {
-    /// The world that has these rows.
+    /// Returns the tables with these rows.
     pub fn assemble(alloc: Global, parts: Parts) -> Result<Tables, AllocError>
         requires { RowsFit (listed parts) }
         ensures { IfOk result (λ tables. tables ≡ assembled (listed parts)) }
@@ -42,7 +42,7 @@ impl Tables {
     }
 }
 
-/// The nodes of these rows, with these neighbours.
+/// Returns the nodes in these rows, with these neighbours.
 fn node_table(alloc: Global, rows: Vec<NodeRow>, near: &Neighbours) -> Result<NodeTable, AllocError>
     requires { is_sorted nat_cmp (by_id rows.items) ≡ true }
     ensures { IfOk result (λ nodes. nodes ≡
@@ -52,7 +52,7 @@ fn node_table(alloc: Global, rows: Vec<NodeRow>, near: &Neighbours) -> Result<No
     NodeTable::from_sorted(alloc, &nodes)
 }
 
-/// Each client's last order.
+/// Returns each client's last order.
 fn session_table(alloc: Global, rows: Vec<ClientRow>) -> Result<SessionTable, AllocError>
     requires { is_sorted nat_cmp (by_client rows.items) ≡ true }
     ensures { IfOk result (λ sessions. sessions ≡ table.from_sorted (map client_entry rows.items)) }

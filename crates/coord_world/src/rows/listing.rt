@@ -1,4 +1,4 @@
-//! How a world is listed as rows.
+//! Lists a world as rows.
 
 ghost use Rattle.std.specs.Prelude.{◌≡◌, IfOk, map};
 ghost use Rattle.coord_world.specs.protocol.Rows.{client_row, listed, node_row, rows_of};
@@ -10,7 +10,7 @@ use coord_types::{Client, NodeId, Session};
 use std::alloc::{AllocError, Global};
 
 impl Tables {
-    /// The rows of the world.
+    /// Returns the rows of the world.
     pub fn list(&self, alloc: Global) -> Result<Parts, AllocError>
         ensures { IfOk result (λ parts. listed parts ≡ rows_of self.now) }
     {

@@ -1,21 +1,21 @@
-//! The rows of a world, as they are listed and stored.
+//! The rows of a world, as they are stored.
 
 use coord_tables::LinkRow;
 use coord_types::{Client, Group, Mode, NodeId, NodeSet, Session, Version};
 
-/// A node's row: its state, but for its neighbours, which the links give.
+/// A node's row: its state except its neighbours, which the links give.
 #[derive(Clone, Copy, Debug)]
 pub struct NodeRow {
     pub id: NodeId,
     pub group: Group,
     pub mode: Mode,
     pub parent: Option<NodeId>,
-    /// The neighbours whose acknowledgement is awaited.
+    /// The neighbours from which the node awaits an acknowledgement.
     pub pend: NodeSet,
     pub epoch: u64,
     pub confirmed: u64,
-    /// The number of links between the node and the one that began its reset; 0 if it is Ready, and
-    /// in version 1.
+    /// The number of links between the node and the node that began its reset; 0 for a Ready node,
+    /// and in version 1.
     pub distance: u64,
 }
 
@@ -26,16 +26,16 @@ pub struct ClientRow {
     pub session: Session,
 }
 
-/// All that a world has. Contracts see its rows as `specs/protocol/Rows.antt` lists them.
+/// All parts of a world. Contracts see them as the rows of `specs/protocol/Rows.antt`.
 #[derive(Drop, Debug)]
 pub struct Parts {
     pub version: Version,
-    /// How many steps were taken.
+    /// The number of steps that the world has taken.
     pub count: u64,
-    /// By ascending `id`.
+    /// In ascending order of `id`.
     pub nodes: Vec<NodeRow>,
-    /// By ascending `a`, and then `b`.
+    /// In ascending order of `a`, and then of `b`.
     pub links: Vec<LinkRow>,
-    /// By ascending `client`.
+    /// In ascending order of `client`.
     pub clients: Vec<ClientRow>,
 }

@@ -1,4 +1,4 @@
-//! The world after a step, and the resend list.
+//! Carries out a step, and lists the packets to resend.
 
 ghost use Rattle.std.specs.Prelude.{◌≡◌, ◌++◌, IfOk, OnOk, OnErr};
 ghost use Rattle.coord_node.specs.Steps.{transitions, transitions_ordered};
@@ -16,7 +16,8 @@ use coord_types::{Client, Command, Kind, Output, Reply, Session, Step};
 use std::alloc::{AllocError, Global};
 
 impl Tables {
-    /// Takes a step, and returns its outputs. It allocates before it changes anything.
+    /// Carries out a step, and returns its reply and outputs. It allocates before it changes
+    /// anything.
     pub fn apply(&mut self, alloc: Global, step: &Step) -> Result<StepOutcome, AllocError>
         requires { IsReadyFor self.old step.now }
         ensures world { OnOk result (self.new ≡ next self.old step.now) }
@@ -31,7 +32,7 @@ impl Tables {
         Ok(StepOutcome { reply, outputs })
     }
 
-    /// Does all of a step but counting it.
+    /// Carries out a step, but does not count it. Returns its outputs.
     fn execute(
         &mut self,
         alloc: Global,
@@ -81,8 +82,8 @@ impl Tables {
         }
     }
 
-    /// Carries an order out, and makes it its client's last one. The order is passed in parts,
-    /// since the toolchain finds no proof for a `Command` passed by value to a generic call.
+    /// Carries out an order, and records it as its client's last one. The order is passed in parts,
+    /// because the toolchain has no proof for a `Command` passed by value to a generic call.
     fn order(
         &mut self,
         alloc: Global,

@@ -1,4 +1,4 @@
-//! How a step is carried out in place, once all memory that it needs is there.
+//! Carries out a step in place, once all memory that it needs is allocated.
 
 ghost use Rattle.std.specs.Prelude.{◌≡◌, ◌≢◌, ◌<◌, ◌-◌, ◌^◌, ◌∷◌, [], ◌++◌, length, None, IsSome, IfOk, OnOk, OnErr};
 ghost use Rattle.std.specs.Option.{ForSome};
@@ -26,7 +26,7 @@ use coord_types::{Client, Command, DataPacket, NodeId, Output};
 use std::alloc::{AllocError, Global};
 
 impl Tables {
-    /// Carries a client's order out, and gives its signals and the new fronts.
+    /// Carries out a client's order, and returns its signals and new fronts.
     pub fn obey(
         &mut self,
         alloc: Global,
@@ -53,7 +53,7 @@ impl Tables {
         Ok(Vec::new(alloc))
     }
 
-    /// A node takes the data packet that came.
+    /// Handles a data packet that arrived at its receiver, and returns the outputs.
     pub fn deliver(&mut self, alloc: Global, packet: &DataPacket) -> Result<Vec<Output>, AllocError>
         requires taken { ForSome (lane_at self.old.links packet.now.from packet.now.to) (λ l. l.got < 2 ^ 64 - 1) }
         requires acts { CanApply self.old packet.now.to
@@ -84,7 +84,7 @@ impl Tables {
         self.carry_out(node_transition);
         Ok(outputs)
     }
-    /// A reset is asked for at a node.
+    /// Requests a reset of a node, and returns the outputs.
     fn reset(&mut self, alloc: Global, id: NodeId) -> Result<Vec<Output>, AllocError>
         requires acts { CanApply self.old id (request self.old.version (state self.old id)) self.old.links }
         requires numbered { AreNumbered self.old.links }
@@ -103,7 +103,7 @@ impl Tables {
         Ok(outputs)
     }
 
-    /// The link of two nodes vanishes, first at `a` and then at `b`.
+    /// Drops the link of two nodes, first at `a` and then at `b`, and returns the outputs.
     fn drop_link(&mut self, alloc: Global, a: NodeId, b: NodeId) -> Result<Vec<Output>, AllocError>
         requires linked { IsSome (lane_at self.old.links a b) }
         requires first { CanApply self.old a (lost (state self.old a) b)
@@ -134,7 +134,7 @@ impl Tables {
         Ok(outputs)
     }
 
-    /// The lanes of a link vanish, with all that is on them.
+    /// Removes the lanes of a link, with all messages on them.
     fn drop_lanes(&mut self, a: NodeId, b: NodeId)
         requires { IsSome (lane_at self.old.links a b) }
         ensures { self.new ≡ with_command self.old (Command.Drop a b) }
@@ -142,7 +142,7 @@ impl Tables {
         self.links.part(a, b);
     }
 
-    /// Two nodes are linked, by two empty lanes.
+    /// Links two nodes by two empty lanes.
     fn join(&mut self, alloc: Global, a: NodeId, b: NodeId) -> Result<(), AllocError>
         requires one { IsSome (table.get self.old.nodes a) }
         requires other { IsSome (table.get self.old.nodes b) }
@@ -163,7 +163,7 @@ impl Tables {
         Ok(())
     }
 
-    /// An epoch of a node is confirmed.
+    /// Records that an epoch of a node is confirmed.
     fn confirm(&mut self, id: NodeId, epoch: u64)
         requires { IsSome (table.get self.old.nodes id) }
         ensures { self.new ≡ with_command self.old (Command.Confirm id epoch) }
@@ -173,7 +173,7 @@ impl Tables {
         self.nodes.replace(id, node);
     }
 
-    /// Notes on a lane that its front was taken.
+    /// Records on a lane that the other end has taken its front.
     fn take_front(&mut self, from: NodeId, to: NodeId)
         requires { ForSome (lane_at self.old.links from to) (λ l.
             l.got < 2 ^ 64 - 1) }
@@ -182,7 +182,7 @@ impl Tables {
         self.links.take(from, to);
     }
 
-    /// Clears the front of a lane.
+    /// Clears the front of a lane, and returns the packet of its new front, if any.
     pub fn clear_front(
         &mut self,
         alloc: Global,

@@ -1,4 +1,4 @@
-//! Which steps a world takes, and why it refuses the others.
+//! Judges steps: which ones a world accepts, and why it refuses the others.
 
 ghost use Rattle.std.specs.Prelude.{◌≡◌, Some};
 ghost use Rattle.coord_link.specs.LaneMachine.{refused_or};
@@ -15,7 +15,7 @@ use coord_types::{
 };
 
 impl Tables {
-    /// Whether a step is taken, repeated or refused.
+    /// Returns whether a step is fresh or a repeat, or else the first refusal that applies.
     pub fn judge(&self, settled: &Tables, step: &Step) -> Result<Verdict, Refusal>
         ensures { result ≡ accepts self.now settled.now step.now }
     {
@@ -26,7 +26,8 @@ impl Tables {
         }
     }
 
-    /// Whether an order is taken, repeated or refused, in the client's own turn.
+    /// Returns whether an order is fresh or a repeat, by the numbers of its client's orders, or
+    /// else the first refusal that applies.
     #[tactic(auto, using(coord_types::proofs::Commands::same_is, coord_types::proofs::Commands::same_self))]
     fn judge_order(
         &self,
@@ -55,7 +56,7 @@ impl Tables {
         self.judge_fresh(command)
     }
 
-    /// What a command in its turn is answered, or why it is refused.
+    /// Returns the verdict on a command whose number is the client's next one.
     #[tactic(auto, using(crate::proofs::Acceptance::passes, crate::proofs::Acceptance::refuses))]
     fn judge_fresh(&self, command: &Command) -> Result<Verdict, Refusal>
         ensures { result ≡ refused_or (Verdict.Fresh (kind_ordered (state self.now) command.now))
@@ -156,7 +157,7 @@ impl Tables {
         Ok(())
     }
 
-    /// How a command will be answered.
+    /// Returns the kind of the reply that a command will get.
     #[tactic(auto, using(coord_types::proofs::Sets::node_sets))]
     pub fn kind_of(&self, command: &Command) -> Kind
         ensures { result ≡ kind_ordered (state self.now) command.now }
@@ -219,7 +220,7 @@ impl Tables {
     }
 }
 
-/// Whether a lane has given out the data packet with this number.
+/// Tests whether a lane of the settled world has released the data packet with this number.
 fn has_sent(lane: &Lane, number: u64) -> bool
     ensures { result ≡ has_sent (Some lane.now) number }
 {

@@ -1,4 +1,4 @@
-//! What a node does in a step.
+//! The transition of a node in a step.
 
 ghost use Rattle.std.specs.Prelude.{◌<◌, ◌-◌, ◌^◌, IsSome, IfOk};
 ghost use Rattle.coord_types.specs.Table as table;
@@ -21,7 +21,7 @@ pub struct NodeTransition {
 }
 
 impl Tables {
-    /// What a node does when a reset is asked for.
+    /// Returns the transition of a node at which a reset is requested.
     pub fn requested(&self, alloc: Global, id: NodeId) -> Result<NodeTransition, AllocError>
         requires there { IsSome (table.get self.now.nodes id) }
         requires room { (state self.now id).epoch < 2 ^ 64 - 1 }
@@ -33,7 +33,7 @@ impl Tables {
         Ok(NodeTransition { id, node, effects })
     }
 
-    /// What a node does when a message comes.
+    /// Returns the transition of the node at which a data packet arrives.
     pub fn delivered(&self, alloc: Global, packet: DataPacket) -> Result<NodeTransition, AllocError>
         requires there { IsSome (table.get self.now.nodes packet.to) }
         requires room { (state self.now packet.to).epoch < 2 ^ 64 - 1 }
@@ -55,7 +55,7 @@ impl Tables {
         })
     }
 
-    /// What a node does when its link to another vanishes.
+    /// Returns the transition of a node whose link to another node is dropped.
     pub fn dropped(
         &self,
         alloc: Global,

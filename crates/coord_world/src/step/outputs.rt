@@ -14,7 +14,7 @@ use coord_tables::LinkTable;
 use coord_types::{DataPacket, Msg, NodeId, Output, ReceiptPacket};
 use std::alloc::{AllocError, Global};
 
-/// Adds the receipt of a data packet.
+/// Appends the receipt of a data packet.
 pub fn push_receipt(packet: &DataPacket, outputs: &mut Vec<Output>) -> Result<(), AllocError>
     ensures { OnOk result (outputs.new.items ≡ outputs.old.items ++ Output.Receipted
         (receipt packet.now) ∷ []) }
@@ -28,7 +28,7 @@ pub fn push_receipt(packet: &DataPacket, outputs: &mut Vec<Output>) -> Result<()
     Ok(())
 }
 
-/// Adds the signal of a node that finished.
+/// Appends the signal of a node, if it finished a reset.
 pub fn push_signal(
     node_transition: &NodeTransition,
     outputs: &mut Vec<Output>,
@@ -41,7 +41,7 @@ pub fn push_signal(
     Ok(())
 }
 
-/// Adds the new fronts that the messages of a node become, in ascending order of their lanes.
+/// Appends the packets of a node's messages that become fronts, in ascending order of their lanes.
 pub fn push_fronts(
     links: &LinkTable,
     node_transition: &NodeTransition,
@@ -58,7 +58,7 @@ pub fn push_fronts(
     Ok(())
 }
 
-/// Adds the new fronts of the two ends of a link, those of the lesser one first.
+/// Appends the packets of new fronts of both ends of a link, those of the lesser end first.
 pub fn push_fronts_of_both(
     links: &LinkTable,
     first: &NodeTransition,
@@ -80,7 +80,7 @@ pub fn push_fronts_of_both(
     }
 }
 
-/// Appends the packet of a message that becomes a front because its lane is empty.
+/// Appends the packet of a message, if its lane is empty, so the message becomes its front.
 fn push_front(
     links: &LinkTable,
     from: NodeId,
@@ -107,7 +107,8 @@ fn push_front(
     Ok(())
 }
 
-/// Returns the packet of the message after a lane's front, if there is one: it becomes the front.
+/// Returns the packet of the message after a lane's front, if there is one. It becomes the front
+/// when that is cleared.
 pub fn front_behind(
     alloc: Global,
     links: &LinkTable,
@@ -135,7 +136,8 @@ pub fn front_behind(
     Ok(vec![in alloc; Output::Sent(packet)]?)
 }
 
-/// Appends the packets that a lane resends: its front, and its receipt if the front was taken.
+/// Appends the packets that a lane resends: its front, and the receipt of the front if the other
+/// end has taken it.
 fn push_again(entry: &((NodeId, NodeId), Lane), outputs: &mut Vec<Output>) -> Result<(), AllocError>
     requires { HasNumber entry.now }
     ensures { OnOk result (outputs.new.items ≡
@@ -164,7 +166,7 @@ fn push_again(entry: &((NodeId, NodeId), Lane), outputs: &mut Vec<Output>) -> Re
     Ok(())
 }
 
-/// Appends the packets that all lanes resend, in ascending order.
+/// Appends the packets that all lanes resend, in ascending order of the lanes.
 pub fn push_all_again(
     alloc: Global,
     links: &LinkTable,

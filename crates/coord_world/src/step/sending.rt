@@ -1,4 +1,4 @@
-//! Messages that join the lanes.
+//! Appends messages to lanes.
 
 ghost use Rattle.std.specs.Prelude.{◌≡◌, ◌∷◌, [], ◌<◌, length, IsSome};
 ghost use Rattle.std.specs.Option.{ForSome};
@@ -27,7 +27,7 @@ impl Tables {
         self.send_all(id, &effects.sends);
     }
 
-    /// Puts messages into the lanes from one node to those that they go to.
+    /// Appends messages to the lanes from one node to their receivers.
     fn send_all(&mut self, from: NodeId, sends: &[(NodeId, Msg)])
         requires { CanSend from sends.now self.old.links }
         ensures { self.new ≡ record self.old { links = sent_lanes from sends.now self.old.links } }
@@ -37,7 +37,7 @@ impl Tables {
         }
     }
 
-    /// Puts a message into the lane from one node to another.
+    /// Appends a message to the lane from one node to another.
     fn send(&mut self, from: NodeId, to: NodeId, msg: Msg)
         requires { ForSome (lane_at self.old.links from to) (λ l.
             length l.queue < PLACES) }

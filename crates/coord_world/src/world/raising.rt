@@ -1,4 +1,4 @@
-//! Makes an idle world of version 1 one of version 2.
+//! Migrates a world of version 1 to version 2.
 
 ghost use Rattle.std.specs.Prelude.{◌≡◌, ◌<◌, ℕ, not, false, None, IfOk, IfSome};
 ghost use Rattle.coord_types.specs.declared.messages.Mode.TheVariants.{Ready};
@@ -14,7 +14,7 @@ use coord_types::{END_OF_NODES, Mode, NodeId, Version};
 use std::alloc::AllocError;
 
 impl World {
-    /// The least node that is not Ready; None where every node is.
+    /// Returns the least node that is not Ready, or None if every node is Ready.
     pub fn first_busy(&self) -> Option<NodeId>
         ensures none { result ≡ None → AllReady self.now }
         ensures some { IfSome result (λ u. (is_ready (state self.now u).mode ≡ false) ×
@@ -31,8 +31,8 @@ impl World {
         None
     }
 
-    /// The same world in version 2, in which each distance is 0. It is asked of a world of version 1
-    /// whose nodes are all Ready.
+    /// Returns this world in version 2, in which each distance is 0. The world must have version 1,
+    /// and all its nodes must be Ready.
     pub fn raised(&self) -> Result<World, AllocError>
         requires first { self.now.version ≡ 1 }
         requires legal { Legal self.now }
@@ -49,7 +49,7 @@ impl World {
 }
 
 impl Tables {
-    /// The same in version 2.
+    /// Returns these tables in version 2.
     fn raised(&self) -> Result<Tables, AllocError>
         ensures { IfOk result (λ tables. tables ≡ raised self.now) }
     {
@@ -59,7 +59,7 @@ impl Tables {
     }
 }
 
-/// Whether a node is there that is in a reset.
+/// Tests whether a node is in a reset. An absent node is not.
 fn is_busy(world: &World, id: NodeId) -> bool
     ensures { result ≡ not (is_ready (state world.now id).mode) }
 {
@@ -69,7 +69,7 @@ fn is_busy(world: &World, id: NodeId) -> bool
     }
 }
 
-/// The second version.
+/// Returns version 2.
 fn second() -> Version
     ensures { result ≡ 2 }
 {
