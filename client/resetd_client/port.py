@@ -34,8 +34,8 @@ class Port:
 
     `addresses` are `HOST:PORT`, `unix:PATH` or `tls:HOST:PORT`, one address or several with commas between them. All must
     belong to one coordinator, and at most one of them serves at a time. They are tried in turn, beginning with the one that
-    answered last; if one gives no answer, or answers Stopped, PendingFull or OutOfMemory, the next one is tried. Without
-    `addresses` it is this user's way to the coordinator of this host (`address.default_address`).
+    answered last; if one gives no answer, or answers Stopped, PendingFull or OutOfMemory, the next one is tried. If
+    none is given, the address is this user's way to the coordinator of this host (`address.default_address`).
 
     A view from another address than that of the last view counts only if it has at least as many settled steps (newest.py).
 
