@@ -74,7 +74,7 @@ class Held(Case):
                 client.socket.sendall(b'{"op":"show"}\n' * 1_000)
 
     def test_a_socket_at_which_somebody_listens(self) -> None:
-        """Whoever starts a second one there is told so, and the first one goes on."""
+        """Whoever starts a second one there gets an error, and the first one goes on."""
         if PROXY:
             self.skipTest("the proxy takes the path over, as it can't tell a stale socket from one at which somebody listens")
         with tempfile.TemporaryDirectory() as folder, self.assertRaisesRegex(AssertionError, "another process listens there"):
