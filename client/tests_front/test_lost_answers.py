@@ -12,7 +12,7 @@ import time
 import unittest
 from typing import IO, Any
 
-from case import CLIENT, DEADLINE, PROXY, Client, Front, unread, until
+from case import CLIENT, DEADLINE, Client, Front, unread, until
 
 sys.path.append(os.path.join(CLIENT, "tests"))
 from fake import Fake  # noqa: E402
@@ -106,8 +106,7 @@ class Lost(unittest.TestCase):
         answers = [json.loads(client.line() or "{}") for client in clients]
         self.assertEqual(answers[2]["kind"], "started")
         for answer in answers[:2]:
-            if answer or not PROXY:  # the proxy ends their connections, which leaves open what became of them
-                self.assertEqual(answer, {"kind": "carried out", "step": 0})
+            self.assertEqual(answer, {"kind": "carried out", "step": 0})
         self.assertEqual(self.server.nodes[1][1], 3)
         self.front.ask(op="reset", node=1)
         self.assertEqual((self.server.nodes[1][1], self.server.last(15)), (4, 4))

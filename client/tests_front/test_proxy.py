@@ -58,7 +58,8 @@ class Principals(Case):
     def connect(self, path: str, first: bytes = b"") -> Client:
         client = Client(unix(path))
         self.addCleanup(client.close)
-        client.send(first)
+        if first:
+            client.send(first)
         return client
 
     def test_each_does_what_its_rules_allow(self) -> None:
