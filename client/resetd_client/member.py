@@ -252,7 +252,7 @@ class Member(Following):
         elif is_parted:
             self._ask_reset(self.node, "a connected member talks in another run, and sees the same view", row.epoch)
         elif is_overtaken:
-            self._ask_reset(self.node, "a start of its group, in another run, has taken what they share", row.epoch)
+            self._ask_reset(self.node, "a start of its group, in another run, has taken over the resource that they share", row.epoch)
         elif due is Due.RESET:
             self._ask_reset(self.node, self._starts.why(row), row.epoch)
         else:

@@ -23,7 +23,7 @@ def of_groups(view: View, audit: str) -> Iterator[Finding]:
     for part in parts.values():
         yield from of_group(part, entries)
     if fault:
-        yield Finding("group", f"no times, since the audit of a front can't be read: {fault}", left_out="since when a group waits")
+        yield Finding("group", f"no times, since the audit of a front can't be read: {fault}", left_out="how long a group has waited")
 
 
 def of_group(part: Part, entries: list[Entry]) -> Iterator[Finding]:

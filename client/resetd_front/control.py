@@ -39,7 +39,7 @@ def parser() -> argparse.ArgumentParser:
                                   formatter_class=argparse.RawDescriptionHelpFormatter)
     top.add_argument("--version", action="version", version=f"resetd-front {__version__}")
     commands = top.add_subparsers(dest="command", required=True, metavar="COMMAND")
-    check = commands.add_parser("check", help="prints what a policy allows to whom, or why it is invalid")
+    check = commands.add_parser("check", help="prints whom a policy allows to do what, or why it is invalid")
     check.add_argument("policy", metavar="POLICY")
     serve = commands.add_parser("serve", help="serves until SIGTERM; on SIGHUP reads the policy and certificates again and "
                                               "reopens the audit file")

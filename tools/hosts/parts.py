@@ -106,7 +106,7 @@ def cut_while_idle(trial: Trial) -> float:
     refused = old.wait_refused()
     if trial.volume.wait_healed(new.host)[0] != before:
         raise Lost(f"the old coordinator on {old.host.name} has written")
-    tell(f"all three bricks have just these bytes; {old.host.name} is a standby now: status {refused}")
+    tell(f"all three bricks still have exactly these bytes; {old.host.name} is a standby now: status {refused}")
     trial.check()
     return took
 
@@ -182,7 +182,7 @@ def lose_majority(trial: Trial) -> float:
     late = trial.records.count(cut + 5)
     if late:
         raise Lost(f"{late} orders were answered without a majority")
-    tell(f"after {AWAY} s no order was answered any more; {keeper.host.name} answers "
+    tell(f"after {AWAY} s orders were no longer answered; {keeper.host.name} answers "
          f"{what_it_answers(keeper)}")
     for host in away:
         host.link()

@@ -161,14 +161,14 @@ class Trial:
             if closed != {"kind": "closed"}:
                 raise Lost(f"the old coordinator on {keeper.host.name} answered a close {closed}")
         except Away as fault:
-            told = f"answers {request['op']}: {fault}"
+            told = f"answered {request['op']}: {fault}"
         else:
-            told = "answers a new order Stopped"
+            told = "answered a new order with Stopped"
         wait_for(f"the end on {keeper.host.name}, which {told}", 30, lambda: len(keeper.ends()) > before)
         ended = keeper.ends()[before]
         if ended != REFUSED:
             raise Lost(f"the old coordinator on {keeper.host.name} ended with {ended}")
-        return f"{told}, and ends by close: status {ended}"
+        return f"{told}, and ended after a close: status {ended}"
 
     def starts(self) -> int:
         return sum(keeper.starts() for keeper in self.keepers)

@@ -57,7 +57,7 @@ def build_members(folder: str, library: str, coordinator: str, exchanges: Exchan
         text = file.read()
     for old, new in [*COUNTS_STARTS, *exchanges]:
         if text.count(old) != 1:
-            raise Failed(f"{text.count(old)} places of plain_member.go have {old!r}")
+            raise Failed(f"plain_member.go contains {old!r} {text.count(old)} times, not once")
         text = text.replace(old, new)
     sources = f"{folder}/of_go.source"
     os.mkdir(sources)

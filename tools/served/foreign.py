@@ -459,7 +459,7 @@ def of_links(tried: Tried) -> None:
     trial = tried.trial
     trial.order("drop", a=1, b=2)
     trial.order("drop", a=1, b=NODE)
-    tried.looks("another one is taken off its links", 3)
+    tried.looks("the links of another member are dropped", 3)
     trial.order("join", a=1, b=NODE)
     trial.order("join", a=1, b=2)
     tried.looks("that one comes back")

@@ -45,11 +45,11 @@ def looked_at(path: str, user: Account | None, address: str | None, seconds: flo
 
 
 def told_start(findings: list[Finding]) -> str:
-    """Returns the fault with which a start of the server would end now, and the fault that a running server will meet; empty if
+    """Returns the fault with which a start of the server would end now, and the faults that a running server may run into; empty if
     there is none."""
     faults = sorted((finding for finding in findings if finding.fault), key=lambda finding: finding.fault != "Usage")
     told = [f"a start now would end with {finding.fault}: {finding.about}: {finding.text}" for finding in faults[:1]]
-    told += [f"a running server will meet {finding.later}: {finding.about}: {finding.text}" for finding in findings if finding.later]
+    told += [f"a running server may run into this: {finding.later}: {finding.about}: {finding.text}" for finding in findings if finding.later]
     return "\n".join(told)
 
 
