@@ -80,7 +80,7 @@ class Promises(Copied):
                 table.write_text(table.read_text() + f"\n| {title} | nothing | coord_check `check` (`legal`) |\n")
                 status, said = self.compare(copy)
                 self.assertEqual(status, 1, said)
-                self.assertIn("a row has no title of its own", said)
+                self.assertIn("a row has no title", said)
                 shutil.rmtree(copy)
 
     def test_a_row_that_names_a_clause_of_another_function(self) -> None:

@@ -128,7 +128,7 @@ class Tls:
             return untrusted(self, fault)
         except Away:
             return None
-        return None if is_taken else Untrusted(f"{self}: it ended the handshake: it does not accept this client's certificate")
+        return None if is_taken else Untrusted(f"{self}: the front ended the handshake, because it does not accept this client's certificate")
 
 
 @dataclass(frozen=True)

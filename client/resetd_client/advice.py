@@ -17,24 +17,24 @@ WHAT_TO_DO = {
     Refusal.NUMBER_REUSED: "two processes send as one client, or the client lost its count: find the count (`resetctl count`)",
     Refusal.UNKNOWN_NODE: "look at `show`",
     Refusal.HAS_LINKS: "drop its links first",
-    Refusal.OTHER_GROUP: "a node changes its group by being removed and added",
+    Refusal.OTHER_GROUP: "to change a node's group, remove the node and add it again",
     Refusal.NO_LINK: "an old packet is always refused: drop it",
     Refusal.DEGREE_FULL: "drop one first",
     Refusal.LINKS_FULL: "drop one first",
-    Refusal.BAD_EPOCH: "it was confirmed before, or the node went back: look at `show`",
+    Refusal.BAD_EPOCH: "the epoch was confirmed before, or the node went back: look at `show`",
     Refusal.OLD: "nothing: repeats are expected",
     Refusal.EARLY: "`resend` shows which packets are due",
-    Refusal.DIFFERS: "find who made the packet: this world did not",
+    Refusal.DIFFERS: "find the origin of the packet, which this world did not send",
     Refusal.NOT_RELEASED: "the same",
     Refusal.PENDING_FULL: "the same order after a while",
 }
 
 RANGES = "nodes are 1 to 64, groups and clients 1 to 16, a number and an epoch below 2^64"
 WHAT_IS_WRONG = {
-    Fault.UNFINISHED: "the line was cut",
+    Fault.UNFINISHED: "the line ended without a line feed",
     Fault.TOO_LONG: "a line has at most 512 bytes",
-    Fault.BAD_TEXT: "a line is UTF-8",
-    Fault.BAD_JSON: "a line is one JSON object",
+    Fault.BAD_TEXT: "a line must be UTF-8",
+    Fault.BAD_JSON: "a line must be one JSON object",
     Fault.BAD_REQUEST: f"{RANGES}; nothing was carried out",
     Fault.UNKNOWN_OP: "this coordinator does not know the command",
 }

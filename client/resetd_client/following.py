@@ -74,7 +74,7 @@ class Following:
                 return None
             except Away as away:
                 if not is_told:
-                    self._told(f"{away}; tried again")
+                    self._told(f"{away}; trying again")
                 if not isinstance(away, Past):
                     past = time.monotonic() + self.past_seconds
             is_told = True

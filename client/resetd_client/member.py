@@ -146,7 +146,7 @@ class Member(Following):
                 raise OutOfRun("there is no run")
             if tag is not None and not run.takes(tag):
                 self._refuse(tag)
-                raise OutOfRun(f"{tag} is of another run")
+                raise OutOfRun(f"{tag} belongs to another run")
             yield run
 
     def reset(self, why: str) -> None:
@@ -217,7 +217,7 @@ class Member(Following):
             self.follow(self._wakes, self._every)
         except BaseException as fault:  # raised to the caller when the `with` ends
             self._fault = fault
-            self._told(f"node {self.node}: it follows no more: {fault!r}")
+            self._told(f"node {self.node}: the member no longer follows: {fault!r}")
             self._set_run(None)
 
     def _sooner(self, began: float) -> float:

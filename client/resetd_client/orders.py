@@ -294,7 +294,7 @@ def find_count(port: Port, client: int, near: int = 0, most: int = MOST_TRIED, n
         probes = [{"op": "confirm", "client": client, "number": number, "node": node, "epoch": 0} for number in part]
         for number, answer in zip(part, port.ask_many(probes)):
             if not isinstance(answer, Refused):
-                raise Garbled(f"a confirm of epoch 0 was answered {answer}")
+                raise Garbled(f"a confirm of epoch 0 got the answer {answer}")
             if answer.refusal is Refusal.NUMBER_REUSED:
                 return number
             if answer.refusal in NEXT_IS:
@@ -303,7 +303,7 @@ def find_count(port: Port, client: int, near: int = 0, most: int = MOST_TRIED, n
                 raise answer
         tried, at_once = tried + len(part), min(16 * at_once, PROBES)
     raise CountNotFound(
-        f"client {client}: of {tried} numbers around {near}, up to {greatest}, none is its last or its next one: "
+        f"client {client}: of {tried} numbers around {near}, up to {greatest}, none is that of its last or its next order: "
         f"use a client that was never used, or try more")
 
 

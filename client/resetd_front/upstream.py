@@ -188,7 +188,7 @@ class Upstream:
             for text in lines:
                 self._answer(self._pairing.next_answered(), text)
         except (IndexError, ValueError) as fault:
-            self._events.told(f"{self._words} is no coordinator: {fault}")
+            self._events.told(f"{self._words} is not a coordinator: {fault}")
             self._break()
             return
         if self._is_sent and not self._pairing.in_flight:

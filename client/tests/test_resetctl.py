@@ -130,7 +130,7 @@ class Controls(Case):
         self.run_words("--state", f"{self.folder}/bob", "add", "5", "1")
         status, _, told = self.run_words("add", "6", "1")
         self.assertEqual(status, 0)
-        self.assertIn("it is given up", told)
+        self.assertIn("it is not sent again", told)
         self.server.await_settled()
         self.assertEqual(self.server.row(1)[1], 1)
 
@@ -154,7 +154,7 @@ class Controls(Case):
         began = time.monotonic()
         status, _, told = self.run_words("--patience", "0.5", "show", address="127.0.0.1:1")
         self.assertEqual(status, 3)
-        self.assertEqual(told, "resetctl: no answer: 127.0.0.1:1: Connection refused; tried again for 0.5 s\n"
+        self.assertEqual(told, "resetctl: no answer: 127.0.0.1:1: Connection refused; trying again for 0.5 s\n"
                                "resetctl: no answer: 127.0.0.1:1: Connection refused\n")
         self.assertLess(time.monotonic() - began, 25)  # without the arguments: 30
 
@@ -168,8 +168,8 @@ class Controls(Case):
                     main(["--address", address, "--state", self.folder, *words])
                 self.assertTrue(1.5 < time.monotonic() - began < 19, words)  # for an order: 20 and more
                 if words[0] == "show":
-                    self.assertEqual(err.getvalue(), f"resetctl: waits for an answer of {address}\nresetctl: no answer: {address}: "
-                                     "connected, and no answer for 2 s: another client may keep the one connection\n")
+                    self.assertEqual(err.getvalue(), f"resetctl: waiting for an answer from {address}\nresetctl: no answer: {address}: "
+                                     "connected, but no answer for 2 s: another client may hold the one connection\n")
 
     def test_something_else_at_the_address(self) -> None:
         self.server.faults = ["<!DOCTYPE HTML>"] * 3

@@ -53,7 +53,7 @@ class Files(Case):
             self.assertIn(f"store    half {index} is selected; {used} of its 32,768 bytes are used", lines)
             self.assertTrue(any(line.startswith(f"store    version 1, {count} steps: 0 in the snapshot") for line in lines))
             self.assertRegex(lines[1], rf"^file     a file of {len(data):,} bytes, -rw-r----- \S+:\S+$")
-            self.assertIn("lock     nobody on this machine holds it", lines)
+            self.assertIn("lock     no process on this machine holds it", lines)
 
     def test_where_it_stops_to_read(self) -> None:
         for data, told in ((b"", "NoMagic: at byte 0, the file does not begin with the header of a store: the file is empty"),
@@ -152,7 +152,7 @@ class Files(Case):
         self.assertEqual(status, 1)
         told = rf"^a start now would end with Socket: address: process {os.getpid()} \(.*\) listens there"
         self.assertTrue(any(re.search(told, line) for line in lines), lines)
-        self.assertTrue(any("connected, and no answer for 2 s" in line for line in lines))
+        self.assertTrue(any("connected, but no answer for 2 s" in line for line in lines))
         for address, name in (("localhost:4170", "Usage"), ("127.0.0.1:0", "Usage"), ("192.0.2.7:4170", "Socket")):
             status, lines = self.why(store, address)
             self.assertTrue(lines[-1].startswith(f"a start now would end with {name}: address: "), lines)

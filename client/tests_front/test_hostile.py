@@ -48,7 +48,7 @@ class Beside(Case):
             while True:
                 client.socket.send(SHOW * 1_000)
         self.others_are_served()
-        line = self.front.await_audited("its end", lambda line: line["event"] == "ends" and "took no answer" in line.get("why", ""))
+        line = self.front.await_audited("its end", lambda line: line["event"] == "ends" and "the client read no answer" in line.get("why", ""))
         self.assertEqual(line["connection"], 1)
         self.others_are_served()
 

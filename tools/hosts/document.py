@@ -115,7 +115,7 @@ def try_words(program: str, folder: str) -> None:
 def wait_standby(machine: Machine) -> float:
     """Waits until the unit has tried to start, and was refused by the lock."""
     try:
-        return wait_for("a refused try", 60, lambda: machine.unit("ExecMainStatus") == "3", 0.5)
+        return wait_for("a refused start", 60, lambda: machine.unit("ExecMainStatus") == "3", 0.5)
     except Failed as late:
         _, told = machine.run("systemctl", "status", "--no-pager", "--lines=5", "resetd", "srv-resetd.mount",
                               "glusterd", is_checked=False)

@@ -90,7 +90,7 @@ def a_device_that_fails(desk: Desk) -> None:
             raise NotSeen(f"the server ended with {ended}")
     with Serving(store) as server:
         if server.show()["settled"] < step:
-            raise NotSeen(f"step {step} was answered, and is lost")
+            raise NotSeen(f"step {step} was answered, but is lost")
         see(desk.health(server).text, "resetd OK: well")
 
 
@@ -267,7 +267,7 @@ def a_reader_that_hangs(desk: Desk) -> None:
             reader.kill()
             reader.wait()
         if (status := server.process.wait(LONG)) == 0:
-            raise NotSeen("the server ended as if all were printed")
+            raise NotSeen("the server ended as if it had printed everything")
         see(server_errors(server), "resetd: Write")
     if ran("check", store).status:
         raise NotSeen("the store is not legal")

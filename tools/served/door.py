@@ -77,7 +77,7 @@ def until(what: str, holds: Callable[[], Any], seconds: float) -> None:
     end = time.monotonic() + seconds
     while not holds():
         if time.monotonic() > end:
-            raise Failed(f"within {seconds:g} s it did not happen that {what}")
+            raise Failed(f"within {seconds:g} s this did not happen: {what}")
         time.sleep(0.05)
 
 

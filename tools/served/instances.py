@@ -137,7 +137,7 @@ def run(ring: Ring, rounds: int) -> None:
             tell(ring, done, met)
     kills.finish(ring)
     if met.get(None, 0) == rounds:
-        raise Lost("no kill has met a change of instance")
+        raise Lost("no kill came during a change of instance")
 
 
 def live_unkilled(ring: Ring) -> None:

@@ -114,7 +114,7 @@ def why_not(out: str, source: os.stat_result) -> str:
     finally:
         os.close(descriptor)
     if os.path.samestat(found, source):
-        return "this is the store itself"
+        return "the copy would replace the store itself"
     if lock_holders(found):
         return "a process has locked it: a store that is being served can't be replaced"
     return "" if not head or head[1:9] == MAGIC else "it is not a store"
@@ -163,7 +163,7 @@ def add_backup_words(parser: argparse.ArgumentParser) -> None:
 
 
 COMMANDS = (
-    Command("why", "prints what would make a start fail, from the store's file and the address; exits with 1 if something would", why, add_why_words, is_look=True),
+    Command("why", "checks the store's file and the address, and prints what would make a start fail; exits with 1 if anything would", why, add_why_words, is_look=True),
     Command("steps", "prints the steps of a store, each with the batch in which it was settled", steps,
             add_steps_words),
     Command("backup", "copies a store, even while it is served", backup, add_backup_words),
