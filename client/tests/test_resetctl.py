@@ -48,8 +48,8 @@ class Controls(Case):
                             ("reset 9", "6 UnknownNode: there is no node 9; there are 1, 2, 3, 4"),
                             ("remove 2", "8 HasLinks: node 2 is linked with 1, 3: drop these links first"),
                             ("join 1 1", "9 SameNode: a link has two ends"),
-                            ("join 1 4", "10 OtherGroup: node 1 is in group 1, node 4 in group 2: a node changes its group "
-                                         "by being removed and added"),
+                            ("join 1 4", "10 OtherGroup: node 1 is in group 1, node 4 in group 2: to change a node's "
+                                         "group, remove the node and add it again"),
                             ("join 1 2", "11 LinkExists: 1 and 2 are linked"),
                             ("drop 1 3", "12 NoLink: 1 and 3 are not linked; 1 is with 2"),
                             ("confirm 1 1", "15 BadEpoch: node 1 is at epoch 1, and 1 is confirmed")):
