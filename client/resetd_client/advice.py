@@ -61,7 +61,7 @@ def found(refusal: Refusal, order: Mapping[str, Any], view: View) -> str:
     rows = {row.node: row for row in view.nodes}
     absent = [node for node in names if node not in rows]
     if refusal is Refusal.UNKNOWN_NODE and absent:
-        return f"there is no node {absent[0]}; there are {numbers(rows) or 'none'}"
+        return f"node {absent[0]} does not exist; the nodes are {numbers(rows) or 'none'}"
     if absent or not names:
         return ""
     return of_node(refusal, rows[names[0]], view) if len(names) == 1 else of_ends(refusal, rows[names[0]], rows[names[1]], view)
@@ -70,7 +70,7 @@ def found(refusal: Refusal, order: Mapping[str, Any], view: View) -> str:
 def of_node(refusal: Refusal, row: Node, view: View) -> str:
     """Like `found`, for an order that names one node."""
     if refusal is Refusal.NODE_EXISTS:
-        return f"node {row.node} is there, in group {row.group}"
+        return f"node {row.node} already exists, in group {row.group}"
     if refusal is Refusal.HAS_LINKS and (near := linked_with(row.node, view)):
         return f"node {row.node} is linked with {numbers(near)}: drop these links first"
     if refusal is Refusal.BAD_EPOCH:
@@ -86,9 +86,9 @@ def of_ends(refusal: Refusal, a: Node, b: Node, view: View) -> str:
     if refusal is Refusal.OTHER_GROUP:
         return f"node {a.node} is in group {a.group}, node {b.node} in group {b.group}: " + WHAT_TO_DO[refusal]
     if refusal is Refusal.LINK_EXISTS and b.node in near[a.node]:
-        return f"{a.node} and {b.node} are linked"
+        return f"{a.node} and {b.node} are already linked"
     if refusal is Refusal.NO_LINK and b.node not in near[a.node]:
-        return f"{a.node} and {b.node} are not linked; {a.node} is with {numbers(near[a.node]) or 'none'}"
+        return f"{a.node} and {b.node} are not linked; {a.node} is linked with {numbers(near[a.node]) or 'none'}"
     if refusal is Refusal.DEGREE_FULL and (full := [node for node in near if len(near[node]) >= MOST_AT_NODE]):
         return f"node {full[0]} has {MOST_AT_NODE} links: drop one first"
     if refusal is Refusal.LINKS_FULL and len(view.links) >= MOST_LINKS:
