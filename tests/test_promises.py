@@ -80,7 +80,7 @@ class Promises(Copied):
                 table.write_text(table.read_text() + f"\n| {title} | nothing | coord_check `check` (`legal`) |\n")
                 status, said = self.compare(copy)
                 self.assertEqual(status, 1, said)
-                self.assertIn("a row has no title of its own", said)
+                self.assertIn("a row has no title", said)
                 shutil.rmtree(copy)
 
     def test_a_row_that_names_a_clause_of_another_function(self) -> None:
@@ -175,7 +175,7 @@ class Broken(Copied):
         self.change(copy, "refusals/coord_types.edits", "% Mode::name", "% name")
         status, said = self.compare(copy)
         self.assertEqual(status, 1, said)
-        self.assertRegex(said, r"coord_types/\w+: \d+ functions of coord_types are named so: name")
+        self.assertRegex(said, r"coord_types/\w+: coord_types has \d+ functions with this name, instead of one: name")
 
     def test_a_function_that_no_body_breaks_any_more(self) -> None:
         copy = self.copy()

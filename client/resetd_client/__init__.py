@@ -29,7 +29,7 @@ Which object is for which thread
 
 What is raised
     Each exception is a ResetdError, beside the OSError of a file. After Away make the same call again; OutOfRun says that
-    a message is of another run; all others need a person (`needs_person`). Each function names those that it raises.
+    a message belongs to another run; all others need a person (`needs_person`). Each function names those that it raises.
 
 Messages for a person go to the logger `resetd_client`, or to the function that a caller passes as `told`.
 

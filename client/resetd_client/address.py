@@ -27,7 +27,8 @@ SERVER = "127.0.0.1:4170"
 PROXY_SOCKETS = "/run/resetd-proxy"  # the folder of the proxy's sockets, each named after its principal
 FRONT_SOCKET = "/run/resetd-front/socket"
 CREDENTIALS: Mapping[str, str] = {
-    "certificate": "this client's certificate", "key": "its key", "authority": "who signs the certificates of fronts"}
+    "certificate": "this client's certificate", "key": "the key of this client's certificate",
+    "authority": "the certificate of the authority that signs the fronts' certificates"}
 
 
 class Address(Protocol):
@@ -129,7 +130,7 @@ class Tls:
             return untrusted(self, fault)
         except Away:
             return None
-        return None if is_taken else Untrusted(f"{self}: it ended the handshake: it does not accept this client's certificate")
+        return None if is_taken else Untrusted(f"{self}: the front ended the handshake, because it does not accept this client's certificate")
 
 
 @dataclass(frozen=True)
@@ -158,8 +159,8 @@ class Credentials:
         """Returns the TLS context. Raises Untrusted if a file is missing or invalid."""
         missing = [name for name in CREDENTIALS if not getattr(self, name)]
         if missing:
-            raise Untrusted(f"no {' and no '.join(missing)} given: tls: needs the PEM files of all three "
-                            "(RESETD_CERTIFICATE, RESETD_KEY, RESETD_AUTHORITY)")
+            raise Untrusted(f"missing PEM files for tls: {', '.join(missing)}: set RESETD_CERTIFICATE, RESETD_KEY and "
+                            "RESETD_AUTHORITY")
         context = ssl.SSLContext(ssl.PROTOCOL_TLS_CLIENT)  # it checks the certificate, and the host's name in it
         context.minimum_version = ssl.TLSVersion.TLSv1_3
         paths = self.authority

@@ -17,24 +17,24 @@ WHAT_TO_DO = {
     Refusal.NUMBER_REUSED: "two processes send as one client, or the client lost its count: find the count (`resetctl count`)",
     Refusal.UNKNOWN_NODE: "look at `show`",
     Refusal.HAS_LINKS: "drop its links first",
-    Refusal.OTHER_GROUP: "a node changes its group by being removed and added",
+    Refusal.OTHER_GROUP: "to change a node's group, remove the node and add it again",
     Refusal.NO_LINK: "an old packet is always refused: drop it",
     Refusal.DEGREE_FULL: "drop one first",
     Refusal.LINKS_FULL: "drop one first",
-    Refusal.BAD_EPOCH: "it was confirmed before, or the node went back: look at `show`",
+    Refusal.BAD_EPOCH: "the epoch was confirmed before, or the node went back: look at `show`",
     Refusal.OLD: "nothing: repeats are expected",
     Refusal.EARLY: "`resend` shows which packets are due",
-    Refusal.DIFFERS: "find who made the packet: this world did not",
+    Refusal.DIFFERS: "find the origin of the packet, which this world did not send",
     Refusal.NOT_RELEASED: "the same",
     Refusal.PENDING_FULL: "the same order after a while",
 }
 
 RANGES = "nodes are 1 to 64, groups and clients 1 to 16, a number and an epoch below 2^64"
 WHAT_IS_WRONG = {
-    Fault.UNFINISHED: "the line was cut",
+    Fault.UNFINISHED: "the line ended without a line feed",
     Fault.TOO_LONG: "a line has at most 512 bytes",
-    Fault.BAD_TEXT: "a line is UTF-8",
-    Fault.BAD_JSON: "a line is one JSON object",
+    Fault.BAD_TEXT: "a line must be UTF-8",
+    Fault.BAD_JSON: "a line must be one JSON object",
     Fault.BAD_REQUEST: f"{RANGES}; nothing was carried out",
     Fault.UNKNOWN_OP: "this coordinator does not know the command",
 }
@@ -61,7 +61,7 @@ def found(refusal: Refusal, order: Mapping[str, Any], view: View) -> str:
     rows = {row.node: row for row in view.nodes}
     absent = [node for node in names if node not in rows]
     if refusal is Refusal.UNKNOWN_NODE and absent:
-        return f"there is no node {absent[0]}; there are {numbers(rows) or 'none'}"
+        return f"node {absent[0]} does not exist; the nodes are {numbers(rows) or 'none'}"
     if absent or not names:
         return ""
     return of_node(refusal, rows[names[0]], view) if len(names) == 1 else of_ends(refusal, rows[names[0]], rows[names[1]], view)
@@ -70,7 +70,7 @@ def found(refusal: Refusal, order: Mapping[str, Any], view: View) -> str:
 def of_node(refusal: Refusal, row: Node, view: View) -> str:
     """Like `found`, for an order that names one node."""
     if refusal is Refusal.NODE_EXISTS:
-        return f"node {row.node} is there, in group {row.group}"
+        return f"node {row.node} already exists, in group {row.group}"
     if refusal is Refusal.HAS_LINKS and (near := linked_with(row.node, view)):
         return f"node {row.node} is linked with {numbers(near)}: drop these links first"
     if refusal is Refusal.BAD_EPOCH:
@@ -86,9 +86,9 @@ def of_ends(refusal: Refusal, a: Node, b: Node, view: View) -> str:
     if refusal is Refusal.OTHER_GROUP:
         return f"node {a.node} is in group {a.group}, node {b.node} in group {b.group}: " + WHAT_TO_DO[refusal]
     if refusal is Refusal.LINK_EXISTS and b.node in near[a.node]:
-        return f"{a.node} and {b.node} are linked"
+        return f"{a.node} and {b.node} are already linked"
     if refusal is Refusal.NO_LINK and b.node not in near[a.node]:
-        return f"{a.node} and {b.node} are not linked; {a.node} is with {numbers(near[a.node]) or 'none'}"
+        return f"{a.node} and {b.node} are not linked; {a.node} is linked with {numbers(near[a.node]) or 'none'}"
     if refusal is Refusal.DEGREE_FULL and (full := [node for node in near if len(near[node]) >= MOST_AT_NODE]):
         return f"node {full[0]} has {MOST_AT_NODE} links: drop one first"
     if refusal is Refusal.LINKS_FULL and len(view.links) >= MOST_LINKS:

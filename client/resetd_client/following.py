@@ -74,7 +74,7 @@ class Following:
                 return None
             except Away as away:
                 if not is_told:
-                    self._told(f"{away}; tried again")
+                    self._told(f"{away}; trying again")
                 if not isinstance(away, Past):
                     past = time.monotonic() + self.past_seconds
             is_told = True
@@ -89,7 +89,7 @@ class Following:
         """Asks for one reset of a node that it serves: an address that carries the order out does not show the past. An old
         coordinator carries out nothing; then the answer is awaited only as long as the port waits."""
         node = self._served_node()
-        self._told(f"node {node}: every address that answers shows fewer steps than were seen: a reset is asked for, to find out "
+        self._told(f"node {node}: every address that answers shows fewer steps than were seen: asking for a reset, to find out "
                    "which of them serves the store")
         with suppress(Away):
             raise_unless(self.orders.order_all([{"op": "reset", "node": node}]), {Refusal.UNKNOWN_NODE})
@@ -155,7 +155,7 @@ class Following:
         """Asks for a reset, and logs only the first in a row. It is not an error if the node was removed meanwhile. Raises like
         `_confirm`."""
         if node not in self._asked:
-            self._told(f"node {node}: {why}: a reset is asked for")
+            self._told(f"node {node}: {why}: asking for a reset")
         self._asked.add(node)
         passed = {Refusal.UNKNOWN_NODE, Refusal.BAD_EPOCH}
         if isinstance(self.orders, AtFront):

@@ -205,7 +205,7 @@ class Gateway(Following):
         for each in begun:
             each.desk.note_confirmed()
         unfit = {each.desk.node: each.desk.starts.why(each.row) for each in judged if each.due is Due.RESET}
-        unfit.update({each.desk.node: "a member refuses another's tag, and the same is shown to both"
+        unfit.update({each.desk.node: "a member refuses the tag of another member, although both are shown the same"
                       for each in judged if each.desk.is_parted()})
         for node in list(unfit)[:1]:
             self._ask_reset(node, unfit[node], next(each.row.epoch for each in judged if each.desk.node == node))
@@ -223,5 +223,5 @@ class Gateway(Following):
 
     def _note_absent(self, absent: set[int]) -> None:
         if absent != self._absent:
-            self._told(f"nodes that are not there: {sorted(absent) or 'none'}")
+            self._told(f"nodes that do not exist: {sorted(absent) or 'none'}")
         self._absent = absent

@@ -146,7 +146,7 @@ class Member(Following):
                 raise OutOfRun("there is no run")
             if tag is not None and not run.takes(tag):
                 self._refuse(tag)
-                raise OutOfRun(f"{tag} is of another run")
+                raise OutOfRun(f"{tag} belongs to another run")
             yield run
 
     def reset(self, why: str) -> None:
@@ -217,7 +217,7 @@ class Member(Following):
             self.follow(self._wakes, self._every)
         except BaseException as fault:  # raised to the caller when the `with` ends
             self._fault = fault
-            self._told(f"node {self.node}: it follows no more: {fault!r}")
+            self._told(f"node {self.node}: the member no longer follows: {fault!r}")
             self._set_run(None)
 
     def _sooner(self, began: float) -> float:
@@ -252,7 +252,7 @@ class Member(Following):
         elif is_parted:
             self._ask_reset(self.node, "a connected member talks in another run, and sees the same view", row.epoch)
         elif is_overtaken:
-            self._ask_reset(self.node, "a start of its group, in another run, has taken what they share", row.epoch)
+            self._ask_reset(self.node, "a start of its group, in another run, has taken over the resource that they share", row.epoch)
         elif due is Due.RESET:
             self._ask_reset(self.node, self._starts.why(row), row.epoch)
         else:

@@ -187,7 +187,7 @@ class Orders:
         rest = series.rest[:AT_ONCE if self._is_proved else 1]
         if self._kept.pending and self._kept.pending != series.rest[:len(self._kept.pending)]:
             self._settle_others()
-        had_no_answer = " had no answer, and now" if self._kept.pending else ""
+        had_no_answer = " got no answer at first, and then" if self._kept.pending else ""
         if not self._kept.pending:
             self._note(self._kept.number, rest)
         self._owner = series
@@ -206,11 +206,11 @@ class Orders:
         try:
             for outcome in self.settle():
                 if isinstance(outcome, NotTaken):
-                    self.told(f"client {self.client}: {others}, from number {number}, had no answer, and now {outcome}")
+                    self.told(f"client {self.client}: {others}, from number {number}, got no answer at first, and then {outcome}")
         except CountLost as lost:
             if not self.recovers:
                 raise
-            self.told(f"client {self.client}: {others}, from number {number}, had no answer, and now {lost}: given up")
+            self.told(f"client {self.client}: {others}, from number {number}, got no answer at first, and then {lost}: given up")
             self.recover(node=others[0].get("node"))
 
     def _send(self, series: Series, above: int) -> None:
@@ -276,7 +276,7 @@ def outcome_of(answer: dict[str, Any] | NotTaken, above: int) -> Outcome:
         raise answer
     reply = reply_of(answer)
     if reply.step <= above:
-        raise CountLost(Refusal.NUMBER_REUSED, f"NumberReused (step {reply.step} was there before)")
+        raise CountLost(Refusal.NUMBER_REUSED, f"NumberReused (the reply has step {reply.step}, which is older than the order)")
     return reply
 
 
@@ -294,7 +294,7 @@ def find_count(port: Port, client: int, near: int = 0, most: int = MOST_TRIED, n
         probes = [{"op": "confirm", "client": client, "number": number, "node": node, "epoch": 0} for number in part]
         for number, answer in zip(part, port.ask_many(probes)):
             if not isinstance(answer, Refused):
-                raise Garbled(f"a confirm of epoch 0 was answered {answer}")
+                raise Garbled(f"a confirm of epoch 0 got the answer {answer}")
             if answer.refusal is Refusal.NUMBER_REUSED:
                 return number
             if answer.refusal in NEXT_IS:
@@ -303,7 +303,7 @@ def find_count(port: Port, client: int, near: int = 0, most: int = MOST_TRIED, n
                 raise answer
         tried, at_once = tried + len(part), min(16 * at_once, PROBES)
     raise CountNotFound(
-        f"client {client}: of {tried} numbers around {near}, up to {greatest}, none is its last or its next one: "
+        f"client {client}: of {tried} numbers around {near}, up to {greatest}, none is that of its last or its next order: "
         f"use a client that was never used, or try more")
 
 

@@ -210,11 +210,11 @@ class Starts:
     def why(self, row: Node) -> str:
         """Describes why a reset is due."""
         if row.epoch > row.confirmed:
-            return f"at epoch {row.epoch} all that are connected are as they were for an earlier start"
+            return f"at epoch {row.epoch} the connected nodes and links are the same as for an earlier start"
         if row.epoch == self.begun:
-            return f"others are connected than at the beginning of epoch {row.epoch}"
+            return f"other nodes or links are connected than at the beginning of epoch {row.epoch}"
         work = "no work was begun" if self.begun is None else f"epoch {self.begun} was begun"
-        return f"epoch {row.epoch} is shown and confirmed, and {work} here"
+        return f"epoch {row.epoch} is shown and confirmed, but {work} here"
 
     def note_begin(self, told: str | None = None) -> None:
         """Records that a start begins. Call this, and `keep`, before any work of the previous start is dropped. The previous

@@ -115,7 +115,7 @@ def read_half(read: Read, is_other: bool = False) -> Half:
     head = read(0, HEADER)
     size = int.from_bytes(head[9:], "big")
     if len(head) < HEADER or head[1:9] != MAGIC or size not in HALVES:
-        raise NoStore("NoMagic", min(len(head), 1), "it does not begin as a store")
+        raise NoStore("NoMagic", min(len(head), 1), "the file does not begin with the header of a store")
     for _ in range(MOST_PASSES):
         if (half := one_pass(read, size, is_other)) is not None:
             return half

@@ -72,7 +72,7 @@ def read_topology(text: bytes) -> Network:
     try:
         top = tomllib.loads(text.decode("utf-8"))
     except (ValueError, RecursionError) as fault:
-        raise BadTopology("NotToml", f"no TOML: {fault}") from None
+        raise BadTopology("NotToml", f"not TOML: {fault}") from None
     check_keys(top, required=set(), optional={"half", "node", "link"}, where="the top")
     for key, members in (("node", {"id", "group"}), ("link", {"a", "b"})):
         for row in tables(top, key):

@@ -23,7 +23,7 @@ def of_groups(view: View, audit: str) -> Iterator[Finding]:
     for part in parts.values():
         yield from of_group(part, entries)
     if fault:
-        yield Finding("group", f"no times, since the audit of a front can't be read: {fault}", left_out="since when a group waits")
+        yield Finding("group", f"no times, since the audit of a front can't be read: {fault}", left_out="how long a group has waited")
 
 
 def of_group(part: Part, entries: list[Entry]) -> Iterator[Finding]:
@@ -40,14 +40,14 @@ def of_group(part: Part, entries: list[Entry]) -> Iterator[Finding]:
 
 def others(part: Part) -> str:
     """Describes the members that wait for one member."""
-    return f"the {len(part.nodes)} nodes of its group wait" if len(part.nodes) > 1 else "it is connected with nobody"
+    return f"the {len(part.nodes)} nodes of its group wait" if len(part.nodes) > 1 else "no node is connected with it"
 
 
 def sign_of_life(node: Node, entries: list[Entry]) -> str:
     """Describes the last sign of life of the member in the audit: a confirm or a reset of its node."""
     mine = [entry for entry in entries if request_of(entry).get("op") in ("confirm", "reset") and request_of(entry).get("node") == node.node]
     if not mine:
-        return "; the audit has no sign of life of it" if entries else ""
+        return "; the audit has no sign of life from it" if entries else ""
     last = mine[-1]
     return f"; its last sign of life: {request_of(last)['op']} at {last['time']} by {name_of(last.get('who')) or 'somebody'}"
 

@@ -100,7 +100,7 @@ def of_lock(found: os.stat_result) -> Iterator[Finding]:
         yield from of_program(process)
         yield from of_output(process)
     if not holders:
-        yield Finding("lock", "nobody on this machine holds it")
+        yield Finding("lock", "no process on this machine holds it")
 
 
 def of_program(process: int) -> Iterator[Finding]:

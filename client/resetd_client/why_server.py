@@ -22,7 +22,7 @@ CONDITIONS = {
     Condition.STOPPED: ("is stopped by a signal (SIGSTOP or a debugger): kill -CONT {} continues it", "a stop"),
     Condition.IN_A_CALL: ("has a thread in a system call that does not return, such as a sync of a slow or hanging disk: "
                           "see the kernel's log (journalctl -k)", "a slow or hanging disk"),
-    Condition.SPINNING: ("has a thread that is always busy: it works, or it spins", ""),
+    Condition.SPINNING: ("has a thread that is always busy, either working or spinning", ""),
 }
 
 
@@ -118,7 +118,7 @@ def of_silence(address: str, servers: list[int]) -> Iterator[Finding]:
     having = peers(*host_and_port(address))
     for peer in having:
         if peer.is_served:
-            yield Finding("client", f"{told_peer(peer)} has the one connection, and nobody else is served: end it, or wait "
+            yield Finding("client", f"{told_peer(peer)} has the one connection, and no other client is served: end it, or wait "
                                     f"at most {KEPT_SECONDS}", later="a client that keeps the one connection")
     if waiting := [peer for peer in having if not peer.is_served and peer.user is not None]:
         yield Finding("client", f"{', '.join(map(told_peer, waiting))} {'wait' if len(waiting) > 1 else 'waits'} for a connection")

@@ -39,7 +39,7 @@ def parser() -> argparse.ArgumentParser:
                                   formatter_class=argparse.RawDescriptionHelpFormatter)
     top.add_argument("--version", action="version", version=f"resetd-front {__version__}")
     commands = top.add_subparsers(dest="command", required=True, metavar="COMMAND")
-    check = commands.add_parser("check", help="prints what a policy allows to whom, or why it is invalid")
+    check = commands.add_parser("check", help="prints whom a policy allows to do what, or why it is invalid")
     check.add_argument("policy", metavar="POLICY")
     serve = commands.add_parser("serve", help="serves until SIGTERM; on SIGHUP reads the policy and certificates again and "
                                               "reopens the audit file")
@@ -51,24 +51,24 @@ def add_serve_words(serve: argparse.ArgumentParser) -> None:
     def word(flag: str, metavar: str, about: str, **how: Any) -> None:
         serve.add_argument(flag, metavar=metavar, help=about, **how)
 
-    word("--server", "HOST:PORT", "the server's port, or several with commas (127.0.0.1:4170)", default="127.0.0.1:4170")
+    word("--server", "HOST:PORT", "the server's port, or several addresses separated by commas (127.0.0.1:4170)", default="127.0.0.1:4170")
     word("--socket", "PATH", f"the Unix socket ({SOCKET})", default=SOCKET)
-    word("--mode", "OCTAL", "its mode (660)", type=lambda text: int(text, 8), default=0o660)
-    word("--group", "NAMES", "the groups that the mode is for, with commas between", type=groups_named, default=())
+    word("--mode", "OCTAL", "the mode of the Unix socket (660)", type=lambda text: int(text, 8), default=0o660)
+    word("--group", "NAMES", "the groups to which the mode applies, separated by commas", type=groups_named, default=())
     word("--tls", "HOST:PORT", "also TLS 1.3 with client certificates; here, after --tcp and --page fd:NAME stands for a socket that "
                                "the service manager passes", type=place_of)
     word("--certificate", "PEM", "the front's certificate for TLS, with its chain")
-    word("--key", "PEM", "its key")
+    word("--key", "PEM", "the key of the front's certificate")
     word("--authority", "PEM", "the authority that signed the clients' certificates")
-    word("--tcp", "HOST:PORT", "also TCP on the loopback, where whoever comes counts as the user nobody", type=place_of)
-    word("--policy", "FILE", "who may do what (root and this user everything, the socket's group looks)")
-    word("--audit", "FILE", "where each order is written down (standard output)", default="-")
+    word("--tcp", "HOST:PORT", "also listen on TCP on the loopback, whose clients count as the user nobody", type=place_of)
+    word("--policy", "FILE", "the policy: who may do what (root and this user everything, the socket's groups only read)")
+    word("--audit", "FILE", "the file of the audit, which gets a line for each order (standard output)", default="-")
     word("--signals", "FILE", "the server's file of signals, so that changes are pushed at once")
     word("--state", "FOLDER", f"where the front's own number is kept ({STATE})", default=os.environ.get("STATE_DIRECTORY") or STATE)
-    word("--client", "C", "the client as which the front orders for others, and nobody else (15)", type=int, choices=CLIENTS, default=15)
+    word("--client", "C", "the client number with which the front orders for others, and which nobody else uses (15)", type=int, choices=CLIENTS, default=15)
     word("--patience", "SECONDS", "how long a line waits for its answer (30)", type=float, default=30.0)
-    word("--stuck", "SECONDS", "how long a client may take nothing of its answers (10)", type=float, default=10.0)
-    word("--server-silent", "SECONDS", "how long the server may answer nothing, until it is left and the next address is tried (5)", type=float,
+    word("--stuck", "SECONDS", "how long a client may read none of its answers (10)", type=float, default=10.0)
+    word("--server-silent", "SECONDS", "how long the server may give no answer before the front tries the next address (5)", type=float,
          default=5.0)
     word("--page", "ADDRESS", "unix:PATH or a loopback HOST:PORT, for a page and metrics (read only)")
 
@@ -152,7 +152,7 @@ class Process:
         try:
             self.front.audit.reopen()
         except OSError as fault:
-            complain(f"the audit goes on in the old file: {fault}")
+            complain(f"the audit continues in the old file: {fault}")
         try:
             if self.words.policy:
                 self.front.take_policy(policy.read(self.words.policy))

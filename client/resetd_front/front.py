@@ -159,7 +159,7 @@ class Front(Events):
         self._rules = {connection: policy.rules_for(connection.peer) for connection in self._rules}
         for watcher in self.watchers:
             if isinstance(watcher, Connection) and not self._allows(watcher, Request("watch", {})):
-                self._drop(watcher, "it may not watch any more")
+                self._drop(watcher, "it may no longer watch")
 
     def make_room(self) -> bool:
         """Ends the longest silent connection of the peer with the most of them. Returns whether there was one."""
@@ -248,7 +248,7 @@ class Front(Events):
             if connection.unsent < connection.left:
                 connection.stuck_since, connection.left = now, connection.unsent
             elif connection.stuck_since is not None and now - connection.stuck_since >= self._most_stuck:
-                connection.drop(f"it took no answer for {self._most_stuck:g} s")
+                connection.drop(f"the client read no answer for {self._most_stuck:g} s")
         if self._stuck or not self._pairing.is_idle:
             self._soon("tick", TICK_SECONDS, self._tick)
 

@@ -11,22 +11,26 @@ WORD = "fd:"  # the prefix of a name in place of an address
 
 
 @cache
-def passed() -> dict[str, socket.socket]:
-    """Returns the sockets that the service manager passed, by their names. Raises OSError if one is not a socket."""
+def passed() -> dict[str, list[socket.socket]]:
+    """Returns the sockets that the service manager passed to this process (socket activation), by their names, of which several
+    may be equal. Raises OSError if a passed descriptor is not a socket."""
     if os.environ.get("LISTEN_PID") != str(os.getpid()):
         return {}
     names = os.environ.get("LISTEN_FDNAMES", "").split(":")
-    sockets = {}
+    sockets: dict[str, list[socket.socket]] = {}
     for place in range(int(os.environ.get("LISTEN_FDS") or 0)):
         os.set_inheritable(FIRST + place, False)
-        sockets[names[place] if place < len(names) else ""] = socket.socket(fileno=FIRST + place)
+        sockets.setdefault(names[place] if place < len(names) else "", []).append(socket.socket(fileno=FIRST + place))
     return sockets
 
 
 def passed_as(name: str) -> socket.socket:
-    """Returns the socket of this name. Raises ValueError if there is none, and OSError."""
-    try:
-        return passed()[name]
-    except KeyError:
+    """Returns the one socket of this name. Raises ValueError if there is none or more than one, and OSError."""
+    sockets = passed().get(name, [])
+    if not sockets:
         raise ValueError(f"no socket {name!r} was passed: its socket unit needs FileDescriptorName={name} and must be started before "
-                         "this process") from None
+                         "this process")
+    if sockets[1:]:
+        raise ValueError(f"{len(sockets)} sockets {name!r} were passed: leave one ListenStream= in its socket unit, and move the others "
+                         "to units with another FileDescriptorName=")
+    return sockets[0]

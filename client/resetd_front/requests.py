@@ -129,7 +129,7 @@ def object_of(line: bytes) -> dict[str, Any]:
 
 
 def refused(name: str) -> None:
-    raise ValueError(f"{name} is no JSON")
+    raise ValueError(f"{name} is not JSON")
 
 
 def finite(text: str) -> float:

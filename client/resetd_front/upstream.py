@@ -188,7 +188,7 @@ class Upstream:
             for text in lines:
                 self._answer(self._pairing.next_answered(), text)
         except (IndexError, ValueError) as fault:
-            self._events.told(f"{self._words} is no coordinator: {fault}")
+            self._events.told(f"{self._words} is not a coordinator: {fault}")
             self._break()
             return
         if self._is_sent and not self._pairing.in_flight:
@@ -267,7 +267,7 @@ class Upstream:
         except Away:
             await self._rest_before_next()
         except (NotTaken, CountNotFound) as fault:
-            self._events.told(f"the number of client {self._own.client} is not found: {fault}")
+            self._events.told(f"the last order number of client {self._own.client} was not found: {fault}")
             self._count_again = self._loop.time() + COUNT_SECONDS
 
     def _check_silence(self) -> None:

@@ -224,4 +224,4 @@ class Certificates(Case):
         status, _, told = self.run_words(*words, "--authority", f"{self.pem}/foreign.pem", "show", address=self.address)
         self.assertEqual((status, "its certificate is not accepted" in told), (1, True), told)
         status, _, told = self.run_words(*words, "show", address=self.address)
-        self.assertEqual((status, "no authority given" in told), (1, True), told)
+        self.assertEqual((status, "missing PEM files for tls: authority" in told), (1, True), told)

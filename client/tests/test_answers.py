@@ -94,7 +94,7 @@ class Advice(unittest.TestCase):
         self.assertEqual(explained(Refused(15, "BadEpoch"), confirm, view),
                          "15 BadEpoch: node 3 is at epoch 4, and 4 is confirmed")
         self.assertEqual(explained(Refused(15, "BadEpoch"), confirm),
-                         "15 BadEpoch: it was confirmed before, or the node went back: look at `show`")
+                         "15 BadEpoch: the epoch was confirmed before, or the node went back: look at `show`")
         self.assertEqual(explained(Refused(99, "Later"), confirm, view), "99 Later")
         self.assertEqual(explained(Faulted("Later"), confirm, view), "Later")
 

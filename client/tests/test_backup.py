@@ -73,7 +73,7 @@ class Words(Case):
         with open(f"{self.folder}/text", "w", encoding="utf-8") as file:
             file.write("something else than a store")
         self.run_words("backup", self.store, self.out)
-        for source, out, said in ((self.store, self.store, "this is the store itself"),
+        for source, out, said in ((self.store, self.store, "the copy would replace the store itself"),
                                   (self.out, self.store, "a process has locked it: a store that is being served can't be replaced"),
                                   (self.store, f"{self.folder}/text", "it is not a store")):
             self.assertEqual(self.run_words("backup", source, out), (2, "", f"resetctl: {out}: {said}\n"))

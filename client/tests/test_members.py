@@ -441,7 +441,7 @@ class Lives(MemberCase):
             raise ZeroDivisionError
 
         with self.assertRaises(ZeroDivisionError), self.followed(begin) as member:
-            self.expect(lambda: any("follows no more" in told for told in self.told))
+            self.expect(lambda: any("no longer follows" in told for told in self.told))
             with self.assertRaises(ZeroDivisionError), member.in_run():
                 self.fail("there is no run")
         member.orders.close()
@@ -479,7 +479,7 @@ class Lives(MemberCase):
             self.expect(lambda: member.run is not None)
             with mock.patch.object(member.port, "show", side_effect=ZeroDivisionError):
                 member.reset("so that it looks")
-                self.expect(lambda: any("follows no more" in told for told in self.told))
+                self.expect(lambda: any("no longer follows" in told for told in self.told))
                 self.expect(lambda: member.run is None)
 
 

@@ -201,7 +201,7 @@ class Numbers(Case):
         self.assertEqual(orders.order("reset", node=1).kind, "started")
         self.assertEqual(len(self.told), 1, self.told)
         self.assertIn("'remove'", self.told[0])
-        self.assertIn("had no answer, and now 8 HasLinks", self.told[0])
+        self.assertIn("got no answer at first, and then 8 HasLinks", self.told[0])
 
     def test_a_count_is_found_without_nodes(self) -> None:
         self.assertEqual(find_count(Port(self.started().address, 120), 3), 0)

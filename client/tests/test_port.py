@@ -117,7 +117,7 @@ class Strange(unittest.TestCase):
         def silent(_: socket.socket) -> None:
             ended.wait(20)
 
-        with self.assertRaisesRegex(Away, r"connected, and no answer for 0\.3 s"):
+        with self.assertRaisesRegex(Away, r"connected, but no answer for 0\.3 s"):
             self.port(silent, 0.3).show()
         with self.assertRaisesRegex(Away, "it ended the connection without an answer"):
             self.port(lambda _: None, 20).show()

@@ -92,7 +92,7 @@ class Report(Case):
         self.assertIn(b"not found: ", found["show.json"])
         self.assertIn(b"not found: BadRecord", found["steps.txt"])
         self.assertIn(b"a start now would end with BadRecord", found["why.txt"])
-        self.assertIn(b"nobody on this machine has the store locked", found["process.txt"])
+        self.assertIn(b"no process on this machine has locked the store", found["process.txt"])
 
     def test_only_the_lines_of_its_device(self) -> None:
         with mock.patch("resetd_client.device.devices_of", return_value=["vdz9"]):

@@ -44,14 +44,14 @@ class Controls(Case):
         self.run_words("reset", "1")
         self.server.await_settled()
         self.run_words("confirm", "1", "1")
-        for words, said in (("add 1 1", "7 NodeExists: node 1 is there, in group 1"),
-                            ("reset 9", "6 UnknownNode: there is no node 9; there are 1, 2, 3, 4"),
+        for words, said in (("add 1 1", "7 NodeExists: node 1 already exists, in group 1"),
+                            ("reset 9", "6 UnknownNode: node 9 does not exist; the nodes are 1, 2, 3, 4"),
                             ("remove 2", "8 HasLinks: node 2 is linked with 1, 3: drop these links first"),
                             ("join 1 1", "9 SameNode: a link has two ends"),
-                            ("join 1 4", "10 OtherGroup: node 1 is in group 1, node 4 in group 2: a node changes its group "
-                                         "by being removed and added"),
-                            ("join 1 2", "11 LinkExists: 1 and 2 are linked"),
-                            ("drop 1 3", "12 NoLink: 1 and 3 are not linked; 1 is with 2"),
+                            ("join 1 4", "10 OtherGroup: node 1 is in group 1, node 4 in group 2: to change a node's "
+                                         "group, remove the node and add it again"),
+                            ("join 1 2", "11 LinkExists: 1 and 2 are already linked"),
+                            ("drop 1 3", "12 NoLink: 1 and 3 are not linked; 1 is linked with 2"),
                             ("confirm 1 1", "15 BadEpoch: node 1 is at epoch 1, and 1 is confirmed")):
             self.assertEqual(self.run_words(*words.split()), (1, "", f"resetctl: {said}\n"))
 
@@ -130,7 +130,7 @@ class Controls(Case):
         self.run_words("--state", f"{self.folder}/bob", "add", "5", "1")
         status, _, told = self.run_words("add", "6", "1")
         self.assertEqual(status, 0)
-        self.assertIn("it is given up", told)
+        self.assertIn("it is not sent again", told)
         self.server.await_settled()
         self.assertEqual(self.server.row(1)[1], 1)
 
@@ -154,7 +154,7 @@ class Controls(Case):
         began = time.monotonic()
         status, _, told = self.run_words("--patience", "0.5", "show", address="127.0.0.1:1")
         self.assertEqual(status, 3)
-        self.assertEqual(told, "resetctl: no answer: 127.0.0.1:1: Connection refused; tried again for 0.5 s\n"
+        self.assertEqual(told, "resetctl: no answer: 127.0.0.1:1: Connection refused; trying again for 0.5 s\n"
                                "resetctl: no answer: 127.0.0.1:1: Connection refused\n")
         self.assertLess(time.monotonic() - began, 25)  # without the arguments: 30
 
@@ -168,8 +168,8 @@ class Controls(Case):
                     main(["--address", address, "--state", self.folder, *words])
                 self.assertTrue(1.5 < time.monotonic() - began < 19, words)  # for an order: 20 and more
                 if words[0] == "show":
-                    self.assertEqual(err.getvalue(), f"resetctl: waits for an answer of {address}\nresetctl: no answer: {address}: "
-                                     "connected, and no answer for 2 s: another client may keep the one connection\n")
+                    self.assertEqual(err.getvalue(), f"resetctl: waiting for an answer from {address}\nresetctl: no answer: {address}: "
+                                     "connected, but no answer for 2 s: another client may hold the one connection\n")
 
     def test_something_else_at_the_address(self) -> None:
         self.server.faults = ["<!DOCTYPE HTML>"] * 3

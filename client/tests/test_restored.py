@@ -44,7 +44,7 @@ class Restored(Case):
         for count, generation in ((0, 1), ((1 << 40) - 1, 1), (1 << 40, 2), ((8_388_607 << 40) - 1, 8_388_607)):
             status, out, _ = self.run_words("--patience", "300", "restored", "--fence", str(count))
             self.assertEqual((status, out.splitlines()[1:]), (0, [
-                f"now start all members with generation {generation}, or a greater one if one of them had that before"]))
+                f"now start all members with generation {generation}, or with a greater one if a member had that generation before"]))
 
     def test_counts_above_which_there_is_no_generation(self) -> None:
         """Then nothing is asked for."""

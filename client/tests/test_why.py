@@ -53,10 +53,10 @@ class Files(Case):
             self.assertIn(f"store    half {index} is selected; {used} of its 32,768 bytes are used", lines)
             self.assertTrue(any(line.startswith(f"store    version 1, {count} steps: 0 in the snapshot") for line in lines))
             self.assertRegex(lines[1], rf"^file     a file of {len(data):,} bytes, -rw-r----- \S+:\S+$")
-            self.assertIn("lock     nobody on this machine holds it", lines)
+            self.assertIn("lock     no process on this machine holds it", lines)
 
     def test_where_it_stops_to_read(self) -> None:
-        for data, told in ((b"", "NoMagic: at byte 0, it does not begin as a store: the file is empty"),
+        for data, told in ((b"", "NoMagic: at byte 0, the file does not begin with the header of a store: the file is empty"),
                            (APPENDED[:50], "BadRecord: at byte 38, a body of 23 bytes extends past the end with its gate"),
                            (FRESH[:17] + b"\3" + FRESH[18:], "BadSnapshot: at byte 17, version 3 is not known"),
                            (APPENDED[:48] + b"\7" + APPENDED[49:], "BadBatch: at byte 48, batch 0 can't be decoded (BadByte)")):
@@ -93,7 +93,7 @@ class Files(Case):
         resource.setrlimit(resource.RLIMIT_FSIZE, (65_552, before[1]))
         self.addCleanup(resource.setrlimit, resource.RLIMIT_FSIZE, before)
         status, lines = self.why(store)
-        self.assertEqual((status, lines[-1]), (1, "a running server will meet its end by a signal: limit: this shell may write files "
+        self.assertEqual((status, lines[-1]), (1, "a running server may run into this: its end by a signal: limit: this shell may write files "
                                                   "of at most 65,552 bytes: a longer one ends it by SIGXFSZ, without a message"))
 
     @unittest.skipUnless(os.geteuid() == 0, "it needs root: it acts as another user")
@@ -141,7 +141,7 @@ class Files(Case):
             trial = tried_as(account_of(os.geteuid()), self.put(FRESH), 1.0)
         self.assertEqual(trial, Trial("", None))
         with mock.patch("resetd_client.why.tried_as", return_value=trial):
-            self.assertIn("a running server will meet a slow or hanging disk: access: ", self.why(f"{self.folder}/store")[1][-1])
+            self.assertIn("a running server may run into this: a slow or hanging disk: access: ", self.why(f"{self.folder}/store")[1][-1])
         with mock.patch("resetd_client.access.os.fdatasync", side_effect=OSError(5, "Input/output error")):
             self.assertEqual(tried_as(account_of(os.geteuid()), self.put(FRESH)).failed, "can't sync it: Input/output error")
 
@@ -152,7 +152,7 @@ class Files(Case):
         self.assertEqual(status, 1)
         told = rf"^a start now would end with Socket: address: process {os.getpid()} \(.*\) listens there"
         self.assertTrue(any(re.search(told, line) for line in lines), lines)
-        self.assertTrue(any("connected, and no answer for 2 s" in line for line in lines))
+        self.assertTrue(any("connected, but no answer for 2 s" in line for line in lines))
         for address, name in (("localhost:4170", "Usage"), ("127.0.0.1:0", "Usage"), ("192.0.2.7:4170", "Socket")):
             status, lines = self.why(store, address)
             self.assertTrue(lines[-1].startswith(f"a start now would end with {name}: address: "), lines)
@@ -183,7 +183,7 @@ class Files(Case):
         self.server.ring(2)
         status, lines = self.why(self.put(FRESH), self.server.address)
         self.assertEqual(status, 1)
-        self.assertTrue(any(line.startswith("a running server will meet a loss: answer: that is not the store on this file")
+        self.assertTrue(any(line.startswith("a running server may run into this: a loss: answer: that is not the store on this file")
                             for line in lines))
 
 
@@ -339,7 +339,7 @@ class BesideTheProgram(Case):
             client.sendall(b'{"op":"show"}\n')
             self.assertTrue(client.recv(1))  # this client is the one that is served
             lines = self.run_words("why", self.server.store, self.server.behind)[1].splitlines()
-        keeps = "a running server will meet a client that keeps the one connection: client: process "
+        keeps = "a running server may run into this: a client that keeps the one connection: client: process "
         self.assertTrue(any(line.startswith(f"{keeps}{os.getpid()} (") for line in lines), lines)
 
     def test_a_server_that_is_stopped(self) -> None:
@@ -348,7 +348,7 @@ class BesideTheProgram(Case):
         os.kill(process, signal.SIGSTOP)
         lines = self.run_words("why", self.server.store, self.server.behind)[1].splitlines()
         os.kill(process, signal.SIGCONT)
-        stopped = f"a running server will meet a stop: server: process {process} is stopped by a signal"
+        stopped = f"a running server may run into this: a stop: server: process {process} is stopped by a signal"
         self.assertTrue(any(line.startswith(stopped) and f"kill -CONT {process}" in line for line in lines), lines)
         self.assertFalse(any("the one connection, and nobody" in line for line in lines), lines)
 
@@ -376,13 +376,13 @@ class BesideTheProgram(Case):
         output = f"output   process {process.pid} writes to a pipe that process {os.getpid()} ("
         told = self.run_words("why", self.server.store, self.server.behind)[1]
         self.assertIn(output, told)
-        self.assertNotIn("a running server will meet", told)
+        self.assertNotIn("a running server may run into this", told)
         for number in range(1, 401):
             self.server.ask(op="reset", client=9, number=number, node=1)
         self.assertEqual(self.server.ask(op="close"), {"kind": "closed"})
         told = self.run_words("why", self.server.store, self.server.behind)[1]
         self.assertIn(output, told)
-        self.assertIn("a running server will meet an output that nobody reads: output: process", told.splitlines()[-1])
+        self.assertIn("a running server may run into this: an output that nobody reads: output: process", told.splitlines()[-1])
 
     def test_a_file_that_was_cut_under_its_server(self) -> None:
         assert isinstance(self.server, Real)

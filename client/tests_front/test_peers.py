@@ -46,11 +46,12 @@ connection = socket.socket(socket.AF_UNIX); connection.connect(sys.argv[1])
 connection.sendall(sys.argv[2].encode() + b"\\n"); print(connection.makefile("rb").readline().decode(), end="")
 """
 PASSING = """
-import os, socket, sys
-listener = socket.create_server((sys.argv[1], 0))
-os.dup2(listener.fileno(), 3)
-os.set_inheritable(3, True)
-os.environ.update(LISTEN_PID=str(os.getpid()), LISTEN_FDS="1", LISTEN_FDNAMES=sys.argv[2])
+import fcntl, os, socket, sys
+names = sys.argv[2].split(":")
+listeners = [socket.create_server((sys.argv[1], 0)) for _ in names]
+for place, descriptor in enumerate([fcntl.fcntl(listener, fcntl.F_DUPFD_CLOEXEC, 100) for listener in listeners]):
+    os.dup2(descriptor, 3 + place)
+os.environ.update(LISTEN_PID=str(os.getpid()), LISTEN_FDS=str(len(names)), LISTEN_FDNAMES=sys.argv[2])
 os.execv(sys.argv[3], sys.argv[3:])
 """
 PYTHON = "/usr/bin/python3" if os.path.exists("/usr/bin/python3") else sys.executable  # which other users can run
@@ -220,7 +221,8 @@ class Reloads(Ruled):
             self.assertIn("nodes", client.ask(op="show"))
 
     def test_a_passed_socket_is_looked_at(self) -> None:
-        for host, name, why in (("127.0.0.1", "far", "no socket 'near' was passed"), ("0.0.0.0", "near", "is not a loopback address")):
+        for host, name, why in (("127.0.0.1", "far", "no socket 'near' was passed"), ("0.0.0.0", "near", "is not a loopback address"),
+                                ("127.0.0.1", "near:near", "2 sockets 'near' were passed")):
             with self.assertRaisesRegex(AssertionError, why):
                 self.started("--policy", self.policy, "--tcp", "fd:near", before=(sys.executable, "-c", PASSING, host, name))
 

@@ -115,7 +115,7 @@ def try_words(program: str, folder: str) -> None:
 def wait_standby(machine: Machine) -> float:
     """Waits until the unit has tried to start, and was refused by the lock."""
     try:
-        return wait_for("a refused try", 60, lambda: machine.unit("ExecMainStatus") == "3", 0.5)
+        return wait_for("a refused start", 60, lambda: machine.unit("ExecMainStatus") == "3", 0.5)
     except Failed as late:
         _, told = machine.run("systemctl", "status", "--no-pager", "--lines=5", "resetd", "srv-resetd.mount",
                               "glusterd", is_checked=False)
@@ -145,7 +145,7 @@ def lose_one(machines: list[Machine]) -> None:
     took = time.monotonic() - killed
     if ask(second, PORT, order) != reply or took > QUICK:
         raise Lost(f"{second.name} answered {ask(second, PORT, order)} after {took:.1f} s")
-    tell(f"{first.name} was killed whole; {second.name} answers after {took:.1f} s, and the same to the same order")
+    tell(f"the whole machine {first.name} was killed; {second.name} answered after {took:.1f} s, and gave the same reply to the same order")
     first.boot()
     wait_standby(first)
     tell(f"{first.name} is switched on again, and is a standby now")

@@ -58,7 +58,7 @@ def write_half(trial: Trial) -> None:
     time.sleep(LOAD)
     trial.load.stop()
     trial.load.finish()
-    tell(f"{keeper.host.name} has read it, and goes on upon it: {len(trial.records.steps)} orders are answered now; "
+    tell(f"{keeper.host.name} has read it, and continues from it: {len(trial.records.steps)} orders are answered now; "
          "then the bricks heal")
     trial.volume.set_healing(True)
     trial.other(keeper).go_on()

@@ -87,7 +87,7 @@ class Keeper:
     def wait_refused(self) -> int:
         """Waits until a standby has tried to start, and was refused by a lock. Returns its status."""
         before = len(self.ends())
-        wait_for(f"a try of the standby on {self.host.name}", 30, lambda: len(self.ends()) > before)
+        wait_for(f"a start of the standby on {self.host.name}", 30, lambda: len(self.ends()) > before)
         if self.ends()[-1] not in ("3", REFUSED):
             raise Lost(f"the standby on {self.host.name} ended with {self.ends()[-1]}")
         return 3

@@ -15,7 +15,7 @@ AWAY = 9  # seconds for which the host without a coordinator, or the majority, i
 
 
 def kill_in_wave(trial: Trial) -> float:
-    print("1. A reset is asked for, and in the middle of it host 1, on which the coordinator is, is killed whole.",
+    print("1. A reset is requested, and during it the whole machine host 1, which runs the coordinator, is killed.",
           flush=True)
     old, new = trial.present, trial.other(trial.present)
     asker = trial.load.clients[0]
@@ -32,12 +32,12 @@ def kill_in_wave(trial: Trial) -> float:
                 if row[3] != "ready"]
         if left:
             break
-        tell("(the reset was through when the kill came; at the next try it comes right at the answer)")
+        tell("(the reset was complete when the kill came; the next try kills right at the answer)")
         trial.restart(old)
         asker.repeat()
         trial.hand_over_to(old)
     else:
-        raise Lost("no kill came in the middle of a reset")
+        raise Lost("no kill came during a reset")
     signalled = [line.split()[1] for line in old.lines("signals")[before:]]
     tell(f"signalled before the kill: {' '.join(signalled) or 'none'}; in the store still in the reset: "
          f"{' '.join(left)}")
@@ -49,7 +49,7 @@ def kill_in_wave(trial: Trial) -> float:
     trial.load.stop()
     trial.load.finish()
     trial.wait_quiet()
-    tell("the reset that was cut went on to its end; each member has begun its epoch and confirmed it")
+    tell("the interrupted reset was completed; each member has begun its epoch and confirmed it")
     trial.restart(old)
     trial.check()
     return took
@@ -57,7 +57,7 @@ def kill_in_wave(trial: Trial) -> float:
 
 def cut_in_load(trial: Trial) -> float:
     old, new = trial.present, trial.other(trial.present)
-    print(f"2. {old.host.name}, on which the coordinator is, is cut off from the network in the middle of load.",
+    print(f"2. {old.host.name}, which runs the coordinator, is cut off from the network under load.",
           flush=True)
     trial.load.start()
     time.sleep(LATER)
@@ -68,7 +68,7 @@ def cut_in_load(trial: Trial) -> float:
     tell(f"{new.host.name} answered the first order {took:.1f} s after the cut")
     time.sleep(LATER)
     old.host.link()
-    tell(f"{old.host.name} is linked again; orders go on")
+    tell(f"{old.host.name} is reconnected; orders continue")
     time.sleep(LATER)
     ask_linked_old(trial, old, ends)
     trial.load.stop()
@@ -99,14 +99,14 @@ def cut_while_idle(trial: Trial) -> float:
     old.host.link()
     before, _ = trial.volume.wait_healed(new.host)
     shown = ask(trial.site.host, old.address, {"op": "show"}, 30)
-    tell(f"{old.host.name} is linked again, and all three bricks have the same {len(before)} bytes")
+    tell(f"{old.host.name} is reconnected, and all three bricks have the same {len(before)} bytes")
     if "accepted" in shown:
-        tell(f"the old coordinator, asked for show, shows its own past: {shown['accepted']} steps")
+        tell(f"the old coordinator answers show with its own past: {shown['accepted']} steps")
     ask_linked_old(trial, old, ends)
     refused = old.wait_refused()
     if trial.volume.wait_healed(new.host)[0] != before:
         raise Lost(f"the old coordinator on {old.host.name} has written")
-    tell(f"all three bricks have just these bytes; {old.host.name} is a standby now: status {refused}")
+    tell(f"all three bricks still have exactly these bytes; {old.host.name} is a standby now: status {refused}")
     trial.check()
     return took
 
@@ -127,10 +127,10 @@ def bricks_in_turn(trial: Trial) -> float:
         handed = trial.records.longest_gap(closed)
         tell(f"the brick of {host.name} is killed and started again: at most {without:.1f} s between two answers; a "
              f"close, and {trial.present.host.name} serves: {handed:.1f} s; healed {healed:.1f} s later")
-    tell(f"host3 is cut off and linked again: at most {third_host_away(trial):.1f} s between two answers")
+    tell(f"host3 is cut off and reconnected: at most {third_host_away(trial):.1f} s between two answers")
     trial.load.stop()
     gap = trial.records.longest_gap(begun)
-    tell(f"{trial.records.count(begun)} orders were answered all the while")
+    tell(f"{trial.records.count(begun)} orders were answered during all this")
     trial.load.finish()
     if gap > QUICK:
         raise Lost(f"no order was answered for {gap:.1f} s")
@@ -182,12 +182,12 @@ def lose_majority(trial: Trial) -> float:
     late = trial.records.count(cut + 5)
     if late:
         raise Lost(f"{late} orders were answered without a majority")
-    tell(f"after {AWAY} s no order was answered any more; {keeper.host.name} answers "
+    tell(f"after {AWAY} s orders were no longer answered; {keeper.host.name} answers "
          f"{what_it_answers(keeper)}")
     for host in away:
         host.link()
     linked = time.monotonic()
-    tell("the two are linked again")
+    tell("the two hosts are reconnected")
     site.host = usual
     wait_for("an answer", 90, lambda: trial.load.fault or trial.records.count(linked), 0.01)
     took = time.monotonic() - linked

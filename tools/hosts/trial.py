@@ -91,7 +91,7 @@ class Trial:
         if answered is None:
             raise self.load.fault or Lost(f"the start on {keeper.host.name} ended with {keeper.gave_up()}")
         if answered - since > QUICK:
-            raise Lost(f"{keeper.host.name} took over after {answered - since:.1f} s, and was to within {QUICK} s")
+            raise Lost(f"{keeper.host.name} took over after {answered - since:.1f} s, but should have taken over within {QUICK} s")
         return answered - since
 
     def wait_quiet(self, seconds: float = 60) -> tuple[Keeper, Json, dict[int, int]]:
@@ -117,7 +117,7 @@ class Trial:
         for client in self.clients:
             client.repeat()
         if view["accepted"] < self.records.last_step():
-            raise Lost(f"step {self.records.last_step()} was answered, and {keeper.host.name} has {view['accepted']}")
+            raise Lost(f"step {self.records.last_step()} was answered, but {keeper.host.name} has only {view['accepted']}")
         self.plant(keeper)
         self.records.note_epochs(epochs)
         signals = len(self.records.signals())
@@ -161,14 +161,14 @@ class Trial:
             if closed != {"kind": "closed"}:
                 raise Lost(f"the old coordinator on {keeper.host.name} answered a close {closed}")
         except Away as fault:
-            told = f"answers {request['op']}: {fault}"
+            told = f"answered {request['op']}: {fault}"
         else:
-            told = "answers a new order Stopped"
+            told = "answered a new order with Stopped"
         wait_for(f"the end on {keeper.host.name}, which {told}", 30, lambda: len(keeper.ends()) > before)
         ended = keeper.ends()[before]
         if ended != REFUSED:
             raise Lost(f"the old coordinator on {keeper.host.name} ended with {ended}")
-        return f"{told}, and ends by close: status {ended}"
+        return f"{told}, and ended after a close: status {ended}"
 
     def starts(self) -> int:
         return sum(keeper.starts() for keeper in self.keepers)

@@ -137,7 +137,7 @@ class Volume:
         except Failed as late:
             told = ", ".join(f"{host.name} {hashlib.sha256(held).hexdigest()[:12]}"
                              for host, held in zip(self.hosts, self.bytes()))
-            raise Lost(f"the bricks differ, or owe one another something after {seconds} s: {told}") from late
+            raise Lost(f"the bricks still differ, or have writes to heal, after {seconds} s: {told}") from late
         return self.bytes()[0], took
 
     def bytes(self, name: str = "store") -> list[bytes]:

@@ -90,7 +90,7 @@ def a_device_that_fails(desk: Desk) -> None:
             raise NotSeen(f"the server ended with {ended}")
     with Serving(store) as server:
         if server.show()["settled"] < step:
-            raise NotSeen(f"step {step} was answered, and is lost")
+            raise NotSeen(f"step {step} was answered, but is lost")
         see(desk.health(server).text, "resetd OK: well")
 
 
@@ -106,7 +106,7 @@ def another_store(desk: Desk) -> None:
         server.await_quiet()
         words = ("--store", store, "--unconfirmed", "1000000")
         see(desk.health(server, *words).text, f"resetd CRITICAL: that is not the store on this file: {store} has ")
-        see(desk.why(store, server), "a running server will meet a loss: answer: that is not the store on this file")
+        see(desk.why(store, server), "a running server may run into this: a loss: answer: that is not the store on this file")
         folder = f"/proc/{server.process.pid}/fd"
         held = next(f"{folder}/{name}" for name in os.listdir(folder) if os.readlink(f"{folder}/{name}") == f"{store} (deleted)")
         see(desk.resetctl("backup", held, desk.path("left")).text, "copied ")
@@ -192,11 +192,11 @@ def a_service_that_is_down(desk: Desk) -> None:
         see(desk.health(server, "--unconfirmed", "1").text, "resetd OK: well")
 
 
-@row("a service says `a reset is asked for`")
+@row("a service says `asking for a reset`")
 def a_new_service(desk: Desk) -> None:
     store = desk.store(1)
     with Serving(store) as server, service(desk, server) as words:
-        until("what it says", lambda: "a reset is asked for" in words())
+        until("what it says", lambda: "asking for a reset" in words())
         until("its start", lambda: "service 1: starts anew, epoch 1" in words())
 
 
@@ -267,7 +267,7 @@ def a_reader_that_hangs(desk: Desk) -> None:
             reader.kill()
             reader.wait()
         if (status := server.process.wait(LONG)) == 0:
-            raise NotSeen("the server ended as if all were printed")
+            raise NotSeen("the server ended as if it had printed everything")
         see(server_errors(server), "resetd: Write")
     if ran("check", store).status:
         raise NotSeen("the store is not legal")

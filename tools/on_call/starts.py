@@ -108,7 +108,7 @@ def damaged(desk: Desk) -> None:
         see(desk.why(store), f"a start now would end with {name}: ")
         with open(store, "rb") as file:
             if file.read() != bytes_:
-                raise NotSeen("something was written")
+                raise NotSeen("the command wrote something")
     shutil.copy(desk.path("copy"), store)
     expect(ran("check", store).status, 0)
     desk.expect_served(store)
@@ -177,7 +177,7 @@ def who_asked(desk: Desk) -> None:
         told = desk.resetctl("steps", store).text
         see(told, "snapshot           client 9 order 1: reset 2", f"client 10 order {number + 1}: reset 1")
         if "client 10 order 1: reset 1\n" in told:
-            raise NotSeen("an order of before the checkpoint is there that was not its client's last one")
+            raise NotSeen("the output has an order from before the checkpoint that was not its client's last one")
         see(desk.resetctl("steps", "--before", store).text, "client 10 order 1: reset 1\n")
 
 

@@ -57,7 +57,7 @@ def build_members(folder: str, library: str, coordinator: str, exchanges: Exchan
         text = file.read()
     for old, new in [*COUNTS_STARTS, *exchanges]:
         if text.count(old) != 1:
-            raise Failed(f"{text.count(old)} places of plain_member.go have {old!r}")
+            raise Failed(f"plain_member.go contains {old!r} {text.count(old)} times, not once")
         text = text.replace(old, new)
     sources = f"{folder}/of_go.source"
     os.mkdir(sources)
@@ -77,7 +77,7 @@ def until(what: str, holds: Callable[[], Any], seconds: float) -> None:
     end = time.monotonic() + seconds
     while not holds():
         if time.monotonic() > end:
-            raise Failed(f"within {seconds:g} s it did not happen that {what}")
+            raise Failed(f"within {seconds:g} s this did not happen: {what}")
         time.sleep(0.05)
 
 

@@ -53,7 +53,7 @@ def talk_of(node: int, folder: str) -> Talk | None:
     if before is None or not is_there or before != after or len(words) != 2:
         return None
     if words[0] != before.epoch:
-        raise Failed(f"member {node} talks at epoch {words[0]}, and its work is of epoch {before.epoch}")
+        raise Failed(f"member {node} talks at epoch {words[0]}, but its work is of epoch {before.epoch}")
     return Talk(node, words[1].partition("-")[0], before)
 
 

@@ -26,7 +26,7 @@ def run(ring: Ring, most: int) -> None:
         print(f"{call} failed at {places} places ({' and '.join(errors)}): each time Stopped, resetd: Device, "
               f"status 3, and all that was answered was there afterwards", flush=True)
         if places == 0:
-            raise Lost(f"{call} never failed: strace made no fault")
+            raise Lost(f"{call} never failed: strace injected no fault")
 
 
 def one_fault(ring: Ring, call: str, place: int, error: str) -> bool:

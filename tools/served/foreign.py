@@ -459,13 +459,13 @@ def of_links(tried: Tried) -> None:
     trial = tried.trial
     trial.order("drop", a=1, b=2)
     trial.order("drop", a=1, b=NODE)
-    tried.looks("another one is taken off its links", 3)
+    tried.looks("the links of another member are dropped", 3)
     trial.order("join", a=1, b=NODE)
     trial.order("join", a=1, b=2)
-    tried.looks("that one comes back")
+    tried.looks("that member returns")
     tried.all_talk("after that one came back")
     unlink(trial)
-    tried.looks("it is taken off its links", 3)
+    tried.looks("its own links are dropped", 3)
     trial.reset(NODE)
     tried.looks("a reset of it alone", 6)
     link(trial)
@@ -569,7 +569,7 @@ def of_second_hand(tried: Tried) -> None:
         trial.order("drop", a=2, b=other)
     others.look(1)
     tried.go_on()
-    tried.looks("another one was taken off its links, reset alone, linked and taken off again, while it was stopped", 3)
+    tried.looks("while it was stopped, the links of another member were dropped, it was reset alone, linked, and its links dropped again", 3)
     run = others.members[1].run
     assert run is not None
     tried.refuse(run.tag)

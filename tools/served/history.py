@@ -50,7 +50,7 @@ class History:
             raise Lost(f"resetd check ended with status {status}: {' '.join(lines)}")
         count = int(lines[0].split()[1])
         if count < max(self.answered):
-            raise Lost(f"step {max(self.answered)} was answered, and the store has {count} steps")
+            raise Lost(f"step {max(self.answered)} was answered, but the store has only {count} steps")
         self.count = count
         status, lines = server.command("show")
         rows = [line.split() for line in lines if line.startswith("node ")]

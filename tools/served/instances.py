@@ -104,7 +104,7 @@ class Staying:
             self.close()
             if self.server.process.poll() is not None:
                 break
-        raise Away("no line is answered any more")
+        raise Away("the server no longer answers")
 
     def send(self, text: bytes) -> None:
         if self.socket is None:
@@ -137,7 +137,7 @@ def run(ring: Ring, rounds: int) -> None:
             tell(ring, done, met)
     kills.finish(ring)
     if met.get(None, 0) == rounds:
-        raise Lost("no kill has met a change of instance")
+        raise Lost("no kill came during a change of instance")
 
 
 def live_unkilled(ring: Ring) -> None:
@@ -217,5 +217,5 @@ def tell(ring: Ring, done: int, met: dict[int | None, int]) -> None:
     within = sum(met.values()) - between - met.get(None, 0)
     print(f"{done} kills ({between} between two instances, {within} while the threads of one ended or started, "
           f"{met.get(None, 0)} elsewhere), at least {watch(ring).instances} instances: {history.count} steps, "
-          f"{len(history.printed)} signals printed, each once; {history.taken} settled and taken by a kill, so known by "
-          f"their epochs alone", flush=True)
+          f"{len(history.printed)} signals printed, each once; {history.taken} more were settled, but a kill lost their "
+          f"lines, so only their epochs show them", flush=True)

@@ -98,4 +98,4 @@ def tell(ring: Ring, done: int, kinds: dict[str, int]) -> None:
     history = ring.history
     where = ", ".join(f"{number} {kind}" for kind, number in kinds.items())
     print(f"{done} kills ({where}): {history.count} steps, {len(history.printed)} signals printed, each once; "
-          f"{history.taken} settled and taken by a kill, so known by their epochs alone", flush=True)
+          f"{history.taken} more were settled, but a kill lost their lines, so only their epochs show them", flush=True)

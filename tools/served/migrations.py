@@ -72,7 +72,7 @@ def fill(ring: Ring) -> int:
     ring.clients.append(operator)
     ring.server.must_close()
     if version(ring.server.store) != 1:
-        raise Lost("a server made another version than 1 of a store of version 1")
+        raise Lost("a server changed the version of a store of version 1")
     return ring.history.look_into(ring.server)[0]
 
 
@@ -195,7 +195,7 @@ class Trial:
         print(f"{rounds} migrations killed {where}: {self.found[1]} left version 1, {self.found[2]} version 2, "
               f"{self.too_late} had ended; each had all steps and sessions, and was then migrated", flush=True)
         if calls and 0 in self.found.values() and rounds > len(calls):
-            raise Lost("a kill left one version only: the kills did not meet the migrations")
+            raise Lost("all kills left the same version: none came during a migration")
 
     def go_on(self) -> None:
         """Makes resets over the migrated store, which must stay version 2."""
@@ -210,4 +210,4 @@ class Trial:
         self.ring.history.look_into(self.server)
         self.ring.history.expect_printed()
         if version(self.server.store) != 2:
-            raise Lost("a server made another version than 2 of a store of version 2")
+            raise Lost("a server changed the version of a store of version 2")

@@ -64,7 +64,7 @@ class Mutants:
         crate, path, name = match.group(1) or mutant.crate, match.group(2), match.group(3) or ""
         found = [it for it in self.of_name[crate, path.rpartition("::")[2]] if f"::{it.path}".endswith(f"::{path}")]
         if len(found) != 1:
-            self.wrong.append(f"{mutant.id}: {len(found)} functions of {crate} are named so: {text}")
+            self.wrong.append(f"{mutant.id}: {crate} has {len(found)} functions with this name, instead of one: {text}")
         elif name not in found[0].ensured:
             self.wrong.append(f"{mutant.id}: {found[0].path} ensures no such clause: {text}")
         else:

@@ -42,7 +42,7 @@ class Table:
             if line.startswith("|") and len(cells) == 3 and cells[2] not in ("---", "Carried by"):
                 title, words, carried = cells
                 if not title or title[0] in "." or title[0].islower() or title in [row.title for row in self.rows]:
-                    self.wrong.append(f"{TABLE}: a row has no title of its own: {line[:80]}")
+                    self.wrong.append(f"{TABLE}: a row has no title: {line[:80]}")
                 self.rows.append(Row(title, words, self.read(carried)))
 
     def all_names(self) -> dict[str, set[str]]:
@@ -114,7 +114,7 @@ class Table:
         ghosts = {ghost.name for ghost in self.repository.ghosts if ghost.owner in owners}
         if name not in labels | ghosts and name not in self.fields(functions):
             paths = ", ".join(function.path for function in functions)
-            self.wrong.append(f"{TABLE}: a row names `{name}`, which is no clause of {paths[:80]}: {cell[:80]}")
+            self.wrong.append(f"{TABLE}: a row names `{name}`, which is not a clause of {paths[:80]}: {cell[:80]}")
 
     def fields(self, functions: list[Function]) -> set[str]:
         """Returns the definitions that the clauses of these functions reach, and their fields."""

@@ -28,7 +28,7 @@ T = TypeVar("T")
 
 
 def add_json(parser: argparse.ArgumentParser) -> None:
-    parser.add_argument("--json", action="store_true", help="as one line of JSON")
+    parser.add_argument("--json", action="store_true", help="print one line of JSON")
 
 
 def print_json(value: object) -> None:
@@ -70,10 +70,10 @@ class Control:
 
     def patient(self, call: Callable[[], T]) -> T:
         """Repeats a call until it is answered or the time is over. Prints a message immediately when it starts to wait."""
-        with told_after(SILENCE_SECONDS, f"waits for an answer of {self.words.address}") as timer:
+        with told_after(SILENCE_SECONDS, f"waiting for an answer from {self.words.address}") as timer:
             def tell(away: Away) -> None:
                 timer.cancel()
-                complain(f"{self.why(away)}; tried again for {self.patience:g} s")
+                complain(f"{self.why(away)}; trying again for {self.patience:g} s")
             return patiently(call, self.patience, tell)
 
     def show(self) -> View:
@@ -94,7 +94,7 @@ class Control:
             for order, outcome in zip(left, self.patient(book.settle)):
                 complain(f"{told_order(order)}: {outcome if isinstance(outcome, NotTaken) else told_reply(outcome)}")
         except CountLost:
-            complain(f"client {self.words.client} has ordered since: use show to see whether that was carried out; it is given up")
+            complain(f"client {self.words.client} has sent later orders: use show to see whether this order was carried out; it is not sent again")
             self.patient(book.recover)
 
     def carry_out(self, book: Orders, op: str, **members: int) -> Reply:

@@ -26,7 +26,7 @@ def bench(control: Control) -> int:
     view = control.show()
     if (served := [node.node for node in view.nodes if node.confirmed]) and not words.with_services:
         complain(f"services have confirmed epochs of nodes {', '.join(map(str, served))}: each would begin again at each of "
-                 f"{words.waves} resets; --with-services does it anyway")
+                 f"{words.waves} resets; use --with-services to run anyway")
         return REFUSED
     with control.orders() as book:
         control.settle(book)
@@ -44,7 +44,7 @@ def measured_orders(control: Control, book: Orders, view: View) -> dict[str, flo
     the orders add and remove a node that does not."""
     node = next((node for node in reversed(NODES) if view.node(node) is None), None)
     if node is None:
-        complain(f"all {len(NODES)} nodes are there: no orders are measured, since they would add and remove one")
+        complain(f"all {len(NODES)} nodes exist, so no orders are measured: they would add and remove a node")
         return {}
     pair: list[Order] = [{"op": "add", "node": node, "group": GROUPS[-1]}, {"op": "remove", "node": node}]
     each = [timed(partial(carried_out, control, book, [order])) for order in pair * (control.words.orders // 2)]
@@ -98,5 +98,5 @@ def add_bench_words(parser: argparse.ArgumentParser) -> None:
     parser.add_argument("--with-services", action="store_true", help="run even if nodes have services, which then begin again")
 
 
-COMMANDS = (Command("bench", "measures this server's orders a second and a wave; refused if nodes have services", bench,
+COMMANDS = (Command("bench", "measures the server's order rate and the time of a wave; refuses if nodes have services", bench,
                     add_bench_words),)

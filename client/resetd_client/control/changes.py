@@ -31,7 +31,7 @@ def say_what_becomes_of_files(control: Control, nodes: list[int]) -> None:
     """Prints what the services of removed nodes should do with their files."""
     if nodes and not control.words.quiet:
         complain(f"removed: {', '.join(map(str, nodes))}. A service may keep its files: if its node is added again it asks for one "
-                 "reset. When it is removed for good, remove its files too")
+                 "reset. If a node is removed for good, remove its service's files too")
 
 
 def resend(control: Control) -> int:
@@ -112,7 +112,7 @@ def numbers(*names: str) -> Callable[[argparse.ArgumentParser], None]:
 
 
 def add_count_words(parser: argparse.ArgumentParser) -> None:
-    parser.add_argument("--most", type=ranges.count, default=MOST_TRIED, help=f"the most numbers to try ({MOST_TRIED})")
+    parser.add_argument("--most", type=ranges.count, default=MOST_TRIED, help=f"the maximum number of order numbers to try ({MOST_TRIED})")
 
 
 def add_diff_words(parser: argparse.ArgumentParser) -> None:

@@ -75,7 +75,7 @@ def add_health_words(parser: argparse.ArgumentParser) -> None:
 def add_metrics_words(parser: argparse.ArgumentParser) -> None:
     parser.add_argument("--store", metavar="STORE", help="also report whether this is the server's store")
     parser.add_argument("file", metavar="FILE", nargs="?", default="-",
-                        help="a file to replace as a whole (standard output)")
+                        help="the file to write, which is replaced as a whole (standard output)")
 
 
 COMMANDS = (

@@ -138,5 +138,5 @@ def add_completion_words(parser: argparse.ArgumentParser) -> None:
     parser.add_argument("shell", choices=SHELLS, metavar="SHELL", help="bash or zsh")
 
 
-COMMANDS = (Command("completion", "prints a script with which a shell completes these words", completion, add_completion_words,
+COMMANDS = (Command("completion", "prints a script that completes these commands in a shell", completion, add_completion_words,
                     is_look=True),)

@@ -109,7 +109,7 @@ def process_text(path: str) -> str:
         text += f"process {process}\n{bytes_of(f'/proc/{process}/limits').decode()}"
         text += "".join(f"thread {thread}: {state}, went to sleep {rests} times\n"
                         for thread, (state, rests) in sorted(threads_of(process).items()))
-    return text or "nobody on this machine has the store locked\n"
+    return text or "no process on this machine has locked the store\n"
 
 
 def found(part: Part) -> bytes:
@@ -134,7 +134,7 @@ def report(control: Control) -> int:
     except BaseException:
         os.remove(out)
         raise
-    print(f"{table}written to {out}, which only its owner may read; it has nothing else of this machine")
+    print(f"{table}written to {out}, which only its owner may read; it contains nothing else about this machine")
     return DONE
 
 

@@ -24,7 +24,7 @@ def restored(control: Control) -> int:
         control.settle(book)
         control.tell(control.patient(lambda: renew(control.port, book, control.patience)))
     if count is not None:
-        control.tell(f"now start all members with generation {generation_of(count) + 1}, or a greater one if one of them had that before")
+        control.tell(f"now start all members with generation {generation_of(count) + 1}, or with a greater one if a member had that generation before")
     return DONE
 
 

@@ -45,11 +45,11 @@ def looked_at(path: str, user: Account | None, address: str | None, seconds: flo
 
 
 def told_start(findings: list[Finding]) -> str:
-    """Returns the fault with which a start of the server would end now, and the fault that a running server will meet; empty if
+    """Returns the fault with which a start of the server would end now, and the faults that a running server may run into; empty if
     there is none."""
     faults = sorted((finding for finding in findings if finding.fault), key=lambda finding: finding.fault != "Usage")
     told = [f"a start now would end with {finding.fault}: {finding.about}: {finding.text}" for finding in faults[:1]]
-    told += [f"a running server will meet {finding.later}: {finding.about}: {finding.text}" for finding in findings if finding.later]
+    told += [f"a running server may run into this: {finding.later}: {finding.about}: {finding.text}" for finding in findings if finding.later]
     return "\n".join(told)
 
 
@@ -114,7 +114,7 @@ def why_not(out: str, source: os.stat_result) -> str:
     finally:
         os.close(descriptor)
     if os.path.samestat(found, source):
-        return "this is the store itself"
+        return "the copy would replace the store itself"
     if lock_holders(found):
         return "a process has locked it: a store that is being served can't be replaced"
     return "" if not head or head[1:9] == MAGIC else "it is not a store"
@@ -163,7 +163,7 @@ def add_backup_words(parser: argparse.ArgumentParser) -> None:
 
 
 COMMANDS = (
-    Command("why", "prints what would make a start fail, from the store's file and the address; exits with 1 if something would", why, add_why_words, is_look=True),
+    Command("why", "checks the store's file and the address, and prints what would make a start fail; exits with 1 if anything would", why, add_why_words, is_look=True),
     Command("steps", "prints the steps of a store, each with the batch in which it was settled", steps,
             add_steps_words),
     Command("backup", "copies a store, even while it is served", backup, add_backup_words),
