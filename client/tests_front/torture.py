@@ -21,6 +21,7 @@ import random
 import socket
 import struct
 import threading
+from collections import deque
 from collections.abc import Callable
 from typing import Any
 
@@ -58,28 +59,33 @@ class Orderer(threading.Thread):
         self.answered = 0  # resets that were answered as carried out
         self.connections = self.lines = self.lost = 0
         self.faults: list[str] = []
+        self.trail = deque[str](maxlen=24)  # the last lines and answers with their connections, for a fault
 
     def run(self) -> None:
         try:
             while not self.torture.is_over.is_set():
                 self.serve(self.choice.randrange(1, 40))
-            self.serve(0)
+            while not self.serve(0):  # the last kill may end this connection too
+                pass
         except Wrong as wrong:
             self.faults.append(f"node {self.node}, client {self.client}, connection {self.connections}: {wrong}")
             self.torture.is_over.set()
 
-    def serve(self, bursts: int) -> None:
-        """One connection."""
+    def serve(self, bursts: int) -> bool:
+        """Orders over one connection. Returns whether the earlier resets were decided first."""
+        is_decided = False
         self.connections += 1
         with self.torture.front.connect() as connection, contextlib.suppress(Ended, ConnectionError):
             self.decide(connection)
+            is_decided = True
             for _ in range(bursts):
                 self.next = self.known if self.known == self.limit else None
                 lines = [self.line() for _ in range(self.choice.choice(BURSTS))]
                 is_left = self.choice.random() < 0.05
                 self.exchange(connection, lines, is_left)
                 if is_left or self.torture.is_over.is_set():
-                    return
+                    break
+        return is_decided
 
     def decide(self, connection: Client) -> None:
         """Finds out which of the earlier resets were carried out."""
@@ -109,6 +115,7 @@ class Orderer(threading.Thread):
             connection.socket.setsockopt(socket.SOL_SOCKET, socket.SO_LINGER, LINGER_NONE)
 
     def judge(self, line: bytes, answer: bytes, judge: Judge) -> None:
+        self.trail.append(f"{self.connections}: {line!r} {answer!r}")
         if not answer:
             raise Ended
         try:
@@ -116,7 +123,7 @@ class Orderer(threading.Thread):
         except (ValueError, KeyError, TypeError) as fault:
             raise Wrong(f"{line!r} was answered {answer!r}: {fault!r}") from fault
         except Wrong as wrong:
-            raise Wrong(f"{line!r} was answered {answer!r}: {wrong}") from wrong
+            raise Wrong(f"{line!r} was answered {answer!r}: {wrong}; before it: {list(self.trail)}") from wrong
 
     def lose(self, lines: list[bytes]) -> None:
         """These have no answer: their resets may be carried out, or not."""
