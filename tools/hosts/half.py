@@ -86,7 +86,7 @@ def append_half(trial: Trial, host: Host, order: Json) -> list[str]:
     writer.stdin.write("\n")
     writer.stdin.flush()
     mine = trial.hosts.index(host)
-    wait_for("the byte in one brick", 10, lambda: volume.bytes()[mine][gate] == 1)
+    wait_for("the byte in one brick", 60, lambda: volume.bytes()[mine][gate] == 1)
     for other in others:
         volume.kill_brick(other)
     if writer.wait(30) == 0:
