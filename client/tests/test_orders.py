@@ -142,7 +142,7 @@ class Numbers(Case):
         again = self.orders(recovers=True)
         again.order("reset", node=2)
         self.assertEqual(self.server.last(1), 6)
-        self.assertTrue(any("had no answer" in text for text in self.told))
+        self.assertTrue(any("got no answer at first" in text for text in self.told))
 
     @in_memory
     def test_a_count_is_found_from_anywhere(self) -> None:
