@@ -183,12 +183,12 @@ impl Gateway for FileGateway {
         ensures policy { (self.new.access ≡ self.old.access) × (self.new.path ≡ self.old.path) × (self.new.seen ≡ self.old.seen) × (self.new.refresh_at ≡ self.old.refresh_at) }
     {
         self.now = exchange.at.now;
-        let who = self.access.principal(exchange.role).unwrap_or(NOBODY);
-        record_exchange(&mut self.audit, who, exchange);
         if let Some(metrics) = &mut self.metrics {
             let op = op_of(alloc, exchange);
             let _ = metrics.tally.count(op, exchange.answer, exchange.waited);
         }
+        let who = self.access.principal(exchange.role).unwrap_or(NOBODY);
+        record_exchange(&mut self.audit, who, exchange);
         Ok(())
     }
 

@@ -80,8 +80,17 @@ fn run<R: Net + Files<File = File> + Env + AllocGlobal + Clock + Wait + Print + 
     arguments: Arguments,
 ) -> io::Result<bool> {
     let alloc = rt.alloc();
+    let Arguments {
+        servers,
+        sockets,
+        settings,
+        signals,
+        policy,
+        audit,
+        metrics,
+    } = arguments;
     let mut all = Vec::new(alloc);
-    for text in &arguments.servers {
+    for text in &servers {
         let mut found = text.as_str().to_socket_addrs(rt)?;
         match found.next() {
             Some(address) => all.push(address)?,
@@ -91,26 +100,19 @@ fn run<R: Net + Files<File = File> + Env + AllocGlobal + Clock + Wait + Print + 
     let Some(addresses) = Addresses::new(all) else {
         return Err(ErrorKind::InvalidInput.into());
     };
-    let mut audit = Audit::open(rt, alloc, arguments.audit)?;
+    let mut audit = Audit::open(rt, alloc, audit)?;
     audit.add(SystemTime::now(rt)?, &Event::Starts);
-    let metrics = match arguments.metrics {
+    let metrics = match metrics {
         Some(path) => Some(Metrics::new(alloc, path)?),
         None => None,
     };
-    let Some(mut gateway) = FileGateway::open(rt, arguments.policy, audit, metrics)? else {
+    let Some(mut gateway) = FileGateway::open(rt, policy, audit, metrics)? else {
         return Ok(false);
     };
-    let Some(listeners) = open_sockets(rt, process, &arguments.sockets, &mut gateway)? else {
+    let Some(listeners) = open_sockets(rt, process, &sockets, &mut gateway)? else {
         return Ok(false);
     };
-    let mut event_loop = EventLoop::new(
-        alloc,
-        arguments.settings,
-        gateway,
-        listeners,
-        addresses,
-        arguments.signals,
-    );
+    let mut event_loop = EventLoop::new(alloc, settings, gateway, listeners, addresses, signals);
     serve(rt, &mut event_loop)?;
     Ok(true)
 }
