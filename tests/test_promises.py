@@ -89,7 +89,7 @@ class Promises(Copied):
         table.write_text(table.read_text() + "\n| Nothing | nothing | coord_admin `serve_connections` (`whole`) |\n")
         status, said = self.compare(copy)
         self.assertEqual(status, 1, said)
-        self.assertIn("a row names `whole`, which is no clause of connections::serve_connections", said)
+        self.assertIn("a row names `whole`, which is not a clause of connections::serve_connections", said)
 
     def test_comments_and_layout_are_no_change(self) -> None:
         copy = self.copy()

@@ -109,6 +109,14 @@ class Nightly(Case):
         self.assertEqual([line.split("\t")[0] for line in self.read("results").decode().splitlines()], ["part", "powercut", "soak-door"])
 
 
+class Documents(Run):
+    programs = ("RESETD", "RESETD_PROXY")
+
+    def test_what_the_documents_show(self) -> None:
+        self.expect(tool("test_documents"), "--quick", "--program", PROGRAM, "--proxy", os.environ["RESETD_PROXY"],
+                    ends_with="the programs print what the documents show")
+
+
 class Tools(Run):
     def test_kills(self) -> None:
         self.expect(tool("soak"), "--program", PROGRAM, "--rounds", "20", "--faults", "0", "--migrations", "0",
@@ -165,10 +173,6 @@ class Tools(Run):
         self.needs("mypy", shutil.which("mypy") is not None, is_optional=True)
         printed = self.expect(tool("check_types"), ends_with="bench: Success: ")
         self.assertEqual(printed.count(": Success: no issues found in "), 6)
-
-    def test_what_the_documents_show(self) -> None:
-        self.expect(tool("test_documents"), "--quick", "--program", PROGRAM,
-                    ends_with="the programs print what the documents show")
 
     def test_the_digest_that_a_page_shows(self) -> None:
         """The worked answer of docs/SERVICES.md has the party, the digest and the tag that the library computes from it."""
