@@ -66,15 +66,15 @@ impl Own {
 
     /// Begins again as a new connection, after an answer that leaves open what became of a line.
     pub fn begin_again(&mut self, came: &mut u64)
-        ensures number { came.old < 2 ^ 43 → (came.new ≡ came.old + 1) × (self.new.number ≡ came.new * 2 ^ 20) }
+        ensures number { came.old < 2 ^ 43 → (came.new ≡ came.old + 1) × (self.new.number ≡ came.old * 2 ^ 20) }
         ensures last { 2 ^ 43 ≤ came.old → (came.new ≡ came.old) × (self.new.number ≡ self.old.number) }
         ensures dropped { (self.new.asked.items ≡ []) × (self.new.search ≡ None) × (self.new.awaits_view ≡ false) }
         ensures view { self.new.wants_view ≡ (self.old.wants_view || self.old.awaits_view) }
         ensures others { (self.new.last ≡ self.old.last) × (self.new.views ≡ self.old.views) × (self.new.probe_at ≡ self.old.probe_at) }
     {
         if *came < 1 << 43 {
-            *came += 1;
             self.number = number_of(*came, 0);
+            *came += 1;
         }
         self.asked.clear();
         self.search = None;
