@@ -67,13 +67,15 @@ class Sockets(Case):
             self.assertEqual((orders.number, orders.unanswered), (1, []))
 
 
-
 class Default(Case):
     """The address if none is given."""
 
     def setUp(self) -> None:
         super().setUp()
-        self.sockets = f"{self.folder}/resetd-proxy"
+        reachable = tempfile.TemporaryDirectory(dir="/tmp")  # for other users too
+        self.addCleanup(reachable.cleanup)
+        os.chmod(reachable.name, 0o755)
+        self.sockets = f"{reachable.name}/resetd-proxy"
         os.mkdir(self.sockets)
         for name, value in (("PROXY_SOCKETS", self.sockets), ("FRONT_SOCKET", f"{self.folder}/front")):
             patched = mock.patch(f"resetd_client.address.{name}", value)
@@ -102,7 +104,6 @@ class Default(Case):
     @unittest.skipIf(os.geteuid(), "it needs root: to act as another user")
     def test_a_socket_that_this_user_may_not_open_is_passed_over(self) -> None:
         """As another user in a process of that user, since the rights of a process are those of all its threads."""
-        os.chmod(self.folder, 0o755)
         for name, mode in (("order", 0o600), ("look", 0o666)):
             self.listen(f"{self.sockets}/{name}")
             os.chmod(f"{self.sockets}/{name}", mode)

@@ -83,6 +83,29 @@ impl FileGateway {
     {
         self.access.role_of(alloc, name)
     }
+
+    /// Adds the audit's line of an exchange.
+    fn record_line(&mut self, exchange: &Exchange<'_, '_>)
+        ensures audit { RecordsFor (name_of (access_principals self.old.access) exchange.now.role) exchange.now self.old.audit self.new.audit }
+        ensures policy { (self.new.access ≡ self.old.access) × (self.new.path ≡ self.old.path) × (self.new.seen ≡ self.old.seen) × (self.new.refresh_at ≡ self.old.refresh_at) }
+    {
+        self.now = exchange.at.now;
+        match self.access.principal(exchange.role) {
+            Some(who) => record_exchange(&mut self.audit, who, exchange),
+            None => record_exchange(&mut self.audit, NOBODY, exchange),
+        }
+    }
+
+    /// Counts an exchange, if there are metrics.
+    fn count(&mut self, alloc: Global, exchange: &Exchange<'_, '_>)
+        ensures audit { self.new.audit ≡ self.old.audit }
+        ensures policy { (self.new.access ≡ self.old.access) × (self.new.path ≡ self.old.path) × (self.new.seen ≡ self.old.seen) × (self.new.refresh_at ≡ self.old.refresh_at) }
+    {
+        if let Some(metrics) = &mut self.metrics {
+            let op = op_of(alloc, exchange);
+            let _ = metrics.tally.count(op, exchange.answer, exchange.waited);
+        }
+    }
 }
 
 /// Returns when a file was changed, and its length.
@@ -182,13 +205,8 @@ impl Gateway for FileGateway {
         ensures audit { RecordsFor (name_of (access_principals self.old.access) exchange.now.role) exchange.now self.old.audit self.new.audit }
         ensures policy { (self.new.access ≡ self.old.access) × (self.new.path ≡ self.old.path) × (self.new.seen ≡ self.old.seen) × (self.new.refresh_at ≡ self.old.refresh_at) }
     {
-        self.now = exchange.at.now;
-        if let Some(metrics) = &mut self.metrics {
-            let op = op_of(alloc, exchange);
-            let _ = metrics.tally.count(op, exchange.answer, exchange.waited);
-        }
-        let who = self.access.principal(exchange.role).unwrap_or(NOBODY);
-        record_exchange(&mut self.audit, who, exchange);
+        self.record_line(exchange);
+        self.count(alloc, exchange);
         Ok(())
     }
 
