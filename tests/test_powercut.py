@@ -30,8 +30,8 @@ from cutting.workers import call_each
 
 def wait(number):
     machine = subprocess.Popen(["sleep", "1000"], start_new_session=True)
-    print(os.getpid(), machine.pid, flush=True)
     try:
+        print(os.getpid(), machine.pid, flush=True)
         time.sleep(1000)
     finally:
         machine.kill()
