@@ -160,7 +160,7 @@ class Signals:
     """Wakes who waits for a node's signal, within an event loop."""
 
     def __init__(self, path: str) -> None:
-        self.file, self.have, self.changed = open(path, "rb"), dict[int, int](), asyncio.Event()
+        self.file, self.rest, self.have, self.changed = open(path, "rb"), b"", dict[int, int](), asyncio.Event()
         self.inotify = Inotify()
         self.inotify.watch(os.path.dirname(path))
         asyncio.get_running_loop().add_reader(self.inotify.fileno(), self.read)
@@ -168,7 +168,8 @@ class Signals:
 
     def read(self) -> None:
         self.inotify.take()
-        for line in self.file.readlines():
+        *lines, self.rest = (self.rest + self.file.read()).split(b"\n")  # the last line may be torn
+        for line in lines:
             words = line.split()
             if words[0] == b"signal":
                 self.have[int(words[1])] = int(words[2])
