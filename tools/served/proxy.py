@@ -24,7 +24,7 @@ class Proxy:
     """`resetd-proxy serve` with one socket, where a client may do everything. All its starts use the same files of a folder."""
 
     def __init__(self, folder: str, server: str, *words: str, program: str = PROGRAM) -> None:
-        """Starts it before the server at an address, with further arguments."""
+        """`server` is the address of the server; `words` are further arguments."""
         self.socket, self.audit, self.said = f"{folder}/proxy.socket", f"{folder}/proxy.audit", f"{folder}/proxy.said"
         policy = f"{folder}/proxy.toml"
         with open(policy, "w", encoding="utf-8") as file:
@@ -39,7 +39,7 @@ class Proxy:
         return f"unix:{self.socket}"
 
     def start(self) -> None:
-        """Starts it again. Raises Lost if it does not come to listen."""
+        """Starts it. Raises Lost if it does not come to listen."""
         with open(self.said, "ab") as said:
             begin = said.tell()
             self.process = subprocess.Popen(self._words, stdin=subprocess.DEVNULL, stdout=said, stderr=said)
