@@ -23,7 +23,7 @@ help:
 	@echo 'make refusals  tries the mutants, which the prover has to refuse (CRATE=NAME for one crate)'
 	@echo 'make bench     measures the drill, its parts, the store, the ledger, the engine and the server, and writes the tables of docs/MEASURES.md'
 	@echo 'make soak      kills a coordinator 200 times and 50 migrations, and looks for what was lost (ROUNDS=N for N kills)'
-	@echo 'make soak-door soaks the coordinator, the front and 64 members in C, Go and Python for 30 minutes, each killed at random (MINUTES=N)'
+	@echo 'make soak-door soaks the coordinator, the proxy and 64 members in C, Go and Python for 30 minutes, each killed at random (MINUTES=N)'
 	@echo 'make soak-fence  kills and pauses eight workers over a database behind a fence, and puts the store back: no item may be taken twice (MINUTES=N, 10)'
 	@echo 'make powercut  cuts the power of ext4, xfs, btrfs and f2fs under the program in a virtual machine, 2,000 times each (IMAGES=N)'
 	@echo 'make instances     a trial build whose instances are short, which change in the midst of resets: kills it there 100 times (ROUNDS=N)'
@@ -57,11 +57,11 @@ soak:
 instances:
 	@tools/soak --instances 32 --rounds $(or $(ROUNDS),100)
 
-soak-door: $(PROGRAM) lib/libresetd_member.a
-	@tools/soak_door --program $(PROGRAM) --minutes $(or $(MINUTES),30)
+soak-door: $(PROGRAM) $(PROXY) lib/libresetd_member.a
+	@tools/soak_door --program $(PROGRAM) --proxy $(PROXY) --minutes $(or $(MINUTES),30)
 
-soak-fence: $(PROGRAM)
-	@tools/soak_fence --program $(PROGRAM) --minutes $(or $(MINUTES),10)
+soak-fence: $(PROGRAM) $(PROXY)
+	@tools/soak_fence --program $(PROGRAM) --proxy $(PROXY) --minutes $(or $(MINUTES),10)
 
 powercut: $(PROGRAM)
 	@tools/powercut/run --program $(PROGRAM) --jobs $(JOBS) --images $(or $(IMAGES),2000)
@@ -94,13 +94,13 @@ refusals:
 
 bench: build
 	bench/run bin/resetd
-	bench/front bin/resetd
+	bench/around bin/resetd
 
 sweep:
 	bench/refused_allocations --seconds $(or $(EACH),12) units resetd
 
-nightly: $(PROGRAM) lib/libresetd_member.a
-	@tools/nightly --program $(PROGRAM) --jobs $(JOBS) --images $(or $(IMAGES),2000)
+nightly: $(PROGRAM) $(PROXY) lib/libresetd_member.a
+	@tools/nightly --program $(PROGRAM) --proxy $(PROXY) --jobs $(JOBS) --images $(or $(IMAGES),2000)
 
 test:
 	@tools/layers
@@ -122,39 +122,38 @@ SHARE = $(DESTDIR)$(PREFIX)/share/resetd
 BASH_COMPLETIONS = $(DESTDIR)$(PREFIX)/share/bash-completion/completions
 ZSH_COMPLETIONS = $(DESTDIR)$(PREFIX)/share/zsh/vendor-completions
 
-# What stands below share/resetd has the places of the repository, so that each part finds the others.
+# What stands below share/resetd has the places of the repository, so that each part finds the others. What an earlier
+# version had of resetd-front is removed.
 install: $(PROGRAM) $(PROXY) $(if $(wildcard lib/libresetd_member.so),install-lib)
 	install -D -m 755 $(PROGRAM) $(DESTDIR)$(PREFIX)/bin/resetd
 	install -D -m 755 $(PROXY) $(DESTDIR)$(PREFIX)/bin/resetd-proxy
-	install -d $(SHARE)/client/resetd_client/control $(SHARE)/client/resetd_front $(SHARE)/client/resetd_page $(SHARE)/tools/picture $(SHARE)/examples $(SHARE)/docs
-	install -m 755 client/resetctl client/resetd-front client/resetd-page $(SHARE)/client/
+	install -d $(SHARE)/client/resetd_client/control $(SHARE)/client/resetd_page $(SHARE)/tools/picture $(SHARE)/examples $(SHARE)/docs
+	install -m 755 client/resetctl client/resetd-page $(SHARE)/client/
 	install -m 644 client/pyproject.toml client/build_wheel.py $(SHARE)/client/
 	install -m 644 client/resetd_client/*.py client/resetd_client/py.typed $(SHARE)/client/resetd_client/
 	install -m 644 client/resetd_client/control/*.py $(SHARE)/client/resetd_client/control/
-	install -m 644 client/resetd_front/*.py client/resetd_front/py.typed $(SHARE)/client/resetd_front/
 	install -m 644 client/resetd_page/*.py client/resetd_page/py.typed client/resetd_page/page.html $(SHARE)/client/resetd_page/
 	install -m 755 tools/wave tools/container $(SHARE)/tools/
 	install -m 644 tools/picture/*.py $(SHARE)/tools/picture/
 	install -m 755 examples/ask examples/gateway examples/local_check examples/member examples/plain_member examples/run examples/service examples/talk examples/worker $(SHARE)/examples/
-	install -m 644 examples/coordinator.py examples/ring.toml examples/front.toml examples/proxy.toml examples/haproxy.cfg examples/resetd.logrotate examples/resetd.rules.yml examples/resetd.grafana.json examples/kubernetes.yaml $(SHARE)/examples/
+	install -m 644 examples/coordinator.py examples/ring.toml examples/proxy.toml examples/haproxy.cfg examples/resetd.logrotate examples/resetd.rules.yml examples/resetd.grafana.json examples/kubernetes.yaml $(SHARE)/examples/
 	for unit in examples/*.service examples/*.timer examples/*.socket; do sed 's|/usr/local/bin/|$(PREFIX)/bin/|' $$unit > $(SHARE)/$$unit; chmod 644 $(SHARE)/$$unit; done
-	install -m 644 docs/OPERATING.md docs/TAKEOVER.md docs/FORMATS.md docs/SERVICES.md docs/PROTOCOL.md docs/FRONT.md docs/PROXY.md docs/COMPARISON.md docs/QUEUES.md docs/DEPLOYING.md docs/member-vectors.json docs/*.svg docs/front.png $(SHARE)/docs/
+	install -m 644 docs/OPERATING.md docs/TAKEOVER.md docs/FORMATS.md docs/SERVICES.md docs/PROTOCOL.md docs/PROXY.md docs/COMPARISON.md docs/QUEUES.md docs/DEPLOYING.md docs/member-vectors.json docs/*.svg $(SHARE)/docs/
 	install -m 644 CHANGELOG.md $(SHARE)/
 	install -m 755 examples/account examples/certificates examples/hello examples/hello.sh examples/one_for_all $(SHARE)/examples/
 	install -m 644 examples/pair.toml $(SHARE)/examples/
 	install -d $(SHARE)/examples/members
-	install -m 644 $(addprefix examples/members/,plain_member.go front.go files.go) $(SHARE)/examples/members/
-	for unit in resetd-member@.service resetd-front.service resetd-proxy.service; do sed 's|/usr/local/|$(PREFIX)/|' examples/$$unit > $(SHARE)/examples/$$unit; done
+	install -m 644 $(addprefix examples/members/,plain_member.go proxy.go files.go) $(SHARE)/examples/members/
+	for unit in resetd-member@.service resetd-proxy.service; do sed 's|/usr/local/|$(PREFIX)/|' examples/$$unit > $(SHARE)/examples/$$unit; done
 	ln -sfn ../share/resetd/client/resetctl $(DESTDIR)$(PREFIX)/bin/resetctl
-	ln -sfn ../share/resetd/client/resetd-front $(DESTDIR)$(PREFIX)/bin/resetd-front
 	ln -sfn ../share/resetd/client/resetd-page $(DESTDIR)$(PREFIX)/bin/resetd-page
 	install -d $(BASH_COMPLETIONS) $(ZSH_COMPLETIONS)
 	client/resetctl completion bash > $(BASH_COMPLETIONS)/resetctl
 	client/resetctl completion zsh > $(ZSH_COMPLETIONS)/_resetctl
 	install -D -m 644 docs/resetd.8 $(DESTDIR)$(PREFIX)/share/man/man8/resetd.8
 	install -D -m 644 docs/resetctl.8 $(DESTDIR)$(PREFIX)/share/man/man8/resetctl.8
-	install -D -m 644 docs/resetd-front.8 $(DESTDIR)$(PREFIX)/share/man/man8/resetd-front.8
 	install -D -m 644 docs/resetd-proxy.8 $(DESTDIR)$(PREFIX)/share/man/man8/resetd-proxy.8
+	rm -rf $(SHARE)/client/resetd-front $(SHARE)/client/resetd_front $(DESTDIR)$(PREFIX)/bin/resetd-front $(DESTDIR)$(PREFIX)/share/man/man8/resetd-front.8
 
 # The members' library, where make lib has made it. A trial build of it is never installed.
 install-lib:
@@ -196,8 +195,8 @@ bin/resetd-proxy-trial:
 	@tools/program --trial resetd-proxy > /dev/null
 
 uninstall:
-	rm -f $(DESTDIR)$(PREFIX)/bin/resetd $(DESTDIR)$(PREFIX)/bin/resetd-proxy $(DESTDIR)$(PREFIX)/bin/resetctl $(DESTDIR)$(PREFIX)/bin/resetd-front $(DESTDIR)$(PREFIX)/bin/resetd-page
-	rm -f $(foreach page,resetd resetctl resetd-front resetd-proxy,$(DESTDIR)$(PREFIX)/share/man/man8/$(page).8)
+	rm -f $(DESTDIR)$(PREFIX)/bin/resetd $(DESTDIR)$(PREFIX)/bin/resetd-proxy $(DESTDIR)$(PREFIX)/bin/resetctl $(DESTDIR)$(PREFIX)/bin/resetd-page
+	rm -f $(foreach page,resetd resetctl resetd-proxy,$(DESTDIR)$(PREFIX)/share/man/man8/$(page).8)
 	rm -f $(BASH_COMPLETIONS)/resetctl $(ZSH_COMPLETIONS)/_resetctl
 	rm -f $(foreach file,lib/libresetd_member.a lib/libresetd_member.so lib/pkgconfig/resetd_member.pc include/resetd_member.h,$(DESTDIR)$(PREFIX)/$(file))
 	rm -rf $(SHARE)

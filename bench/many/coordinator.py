@@ -1,11 +1,10 @@
-"""The program over a new store, whose syncs are counted and may wait, and the front or proxy before it."""
+"""The program over a new store, whose syncs are counted and may wait, and a proxy before it."""
 
 import asyncio
 import contextlib
 import json
 import os
 import pathlib
-import re
 import shutil
 import struct
 import subprocess
@@ -16,33 +15,15 @@ from collections.abc import Awaitable, Callable, Sequence
 from typing import Any, Self
 
 ROOT = pathlib.Path(__file__).resolve().parent.parent.parent
-sys.path.insert(0, str(ROOT / "client"))
+sys.path[:0] = [str(ROOT / "client"), str(ROOT / "tools")]
 from resetd_client.inotify import Inotify  # noqa: E402
+from served.proxy import Proxy  # noqa: E402
 
 Json = dict[str, Any]  # a line that was read
 Links = Sequence[tuple[int, int]]
 Connection = tuple[asyncio.StreamReader, asyncio.StreamWriter]
 Opening = Callable[[], Awaitable[Connection]]  # what opens a connection
 MOST_BYTES = 1 << 20  # of an answer
-PROXY = """
-global
-  maxconn 2000
-defaults
-  mode tcp
-  timeout connect 2s
-  timeout client 20s
-  timeout server 60s
-  timeout queue 60s
-frontend services
-  bind unix@{path} mode 600
-  tcp-request inspect-delay 2s
-  tcp-request content accept if {{ req.payload(0,0),hex -m end 0A }}
-  tcp-request content reject
-  default_backend coordinator
-backend coordinator
-  retries 10
-  server one {address} maxconn 1
-"""
 
 
 def counting_library(folder: str) -> str:
@@ -71,14 +52,13 @@ class Counts:
 
 
 class Server:
-    """`resetd serve`, and the front or proxy started before it."""
+    """`resetd serve`, and a proxy before it where one is started."""
 
     def __init__(self, program: str, library: str, nodes: int, links: Links, micros: int = 0) -> None:
-        self.folder = tempfile.mkdtemp(prefix="resetd-front-bench-")
+        self.folder = tempfile.mkdtemp(prefix="resetd-bench-")
         os.mkdir(f"{self.folder}/log")
-        self.path, self.signals = f"{self.folder}/socket", f"{self.folder}/log/signals"
-        self.messages = f"{self.folder}/messages"  # of the front or proxy
-        self.before: subprocess.Popen[bytes] | None = None
+        self.signals = f"{self.folder}/log/signals"
+        self.proxy: Proxy | None = None
         text = "".join([*(f"[[node]]\nid = {n}\ngroup = 1\n" for n in range(1, nodes + 1)), *(f"[[link]]\na = {a}\nb = {b}\n" for a, b in links)])
         pathlib.Path(f"{self.folder}/topology").write_text(text, encoding="ascii")
         subprocess.run([program, "init", f"{self.folder}/store", f"{self.folder}/topology"], check=True, capture_output=True)
@@ -91,51 +71,36 @@ class Server:
             time.sleep(0.01)
         self.address = lines[0].split()[1]
 
-    def start_front(self, client: int = 15) -> None:
-        self._start(sys.executable, str(ROOT / "client" / "resetd-front"), "serve", "--server", self.address, "--socket", self.path,
-                    "--state", f"{self.folder}/front", "--audit", f"{self.folder}/audit", "--signals", self.signals, "--client", str(client))
-
-    def start_haproxy(self) -> None:
-        pathlib.Path(f"{self.folder}/haproxy.cfg").write_text(PROXY.format(path=self.path, address=self.address), encoding="ascii")
-        self._start("haproxy", "-db", "-f", f"{self.folder}/haproxy.cfg")
-
-    def _start(self, *words: str) -> None:
-        with open(self.messages, "ab") as messages:
-            self.before = subprocess.Popen(words, stdout=subprocess.DEVNULL, stderr=messages)
-        while not os.path.exists(self.path):
-            time.sleep(0.01)
+    def start_proxy(self, program: str) -> Proxy:
+        """Starts a proxy before it, which ends with it."""
+        self.proxy = Proxy(self.folder, self.address, "--signals", self.signals, program=program)
+        return self.proxy
 
     def syncs(self) -> int:
         return self.counts.read()[0]
-
-    def resident(self) -> int:
-        """The memory of the front or proxy before it, in bytes."""
-        assert self.before
-        status = pathlib.Path(f"/proc/{self.before.pid}/status").read_text(encoding="ascii")
-        found = re.search(r"VmRSS:\s+(\d+)", status)
-        assert found
-        return int(found[1]) * 1024
 
     def __enter__(self) -> Self:
         return self
 
     def __exit__(self, *_: object) -> None:
-        for process in filter(None, (self.before, self.process)):
-            process.kill()
-            process.wait()
+        if self.proxy:
+            self.proxy.kill()
+        self.process.kill()
+        self.process.wait()
         shutil.rmtree(self.folder)
 
     async def port(self) -> Connection:
         host, port = self.address.split(":")
         return await asyncio.open_connection(host, int(port), limit=MOST_BYTES)
 
-    async def at_socket(self) -> Connection:
-        """A connection to the front or proxy before it."""
-        for _ in range(1_000):
-            with contextlib.suppress(OSError):
-                return await asyncio.open_unix_connection(self.path, limit=MOST_BYTES)
-            await asyncio.sleep(0.01)
-        raise SystemExit(f"{self.path} takes no connection")
+
+async def at_socket(path: str) -> Connection:
+    """A connection to a proxy."""
+    for _ in range(1_000):
+        with contextlib.suppress(OSError):
+            return await asyncio.open_unix_connection(path, limit=MOST_BYTES)
+        await asyncio.sleep(0.01)
+    raise SystemExit(f"{path} takes no connection")
 
 
 async def ask(connection: Connection, *requests: Json) -> list[Json]:

@@ -11,7 +11,7 @@ import time
 from collections.abc import Callable, Coroutine, Iterator, Sequence
 from typing import Any
 
-from coordinator import ROOT, Json, Server, once
+from coordinator import ROOT, Json, Server, at_socket, once
 from waves import CHORDS, NODES
 
 HERE = os.path.dirname(os.path.abspath(__file__))
@@ -88,14 +88,14 @@ def gateway(program: str, library: str, count: int) -> tuple[float, float]:
             return resets(at_port(server, NODES + len(CHORDS)), lines, count)
 
 
-def services(program: str, library: str, nodes: int, count: int, is_front: bool) -> tuple[float, float]:
-    """As many services as asked for, each with its own client, over a ring; at the port or through a front."""
+def services(program: str, library: str, nodes: int, count: int, proxy: str) -> tuple[float, float]:
+    """As many services as asked for over a ring: through this proxy, or each with its own client at the port if there is none."""
     links = [(node, node % nodes + 1) for node in range(1, nodes + 1)]
     with Server(program, library, nodes, links) as server:
-        if is_front:
-            server.start_front(CLIENT)
-        order: Order = (lambda _: once(server.at_socket, {"op": "reset", "node": 1})) if is_front else at_port(server, nodes + len(links))
-        address = f"unix:{server.path}" if is_front else server.address
+        address, order = server.address, at_port(server, nodes + len(links))
+        if proxy:
+            started = server.start_proxy(proxy)
+            address, order = started.address, lambda _: once(lambda: at_socket(started.socket), {"op": "reset", "node": 1})
         for node in range(1, nodes + 1):
             os.mkdir(f"{server.folder}/{node}")
         words = [[f"{HERE}/service.py", str(node), address, f"{server.folder}/{node}", server.signals] for node in range(1, nodes + 1)]

@@ -1,6 +1,6 @@
 """Some members in one process, each with a thread of its own: a line for each time that one may talk, with its node, the moment and
 the run. The work of a member is in a folder of its own, `own-work`, so that its syncs can be counted apart from the library's.
-usage: hosted.py front ADDRESS FOLDER WORK NODE..      through a front, each over a connection of its own
+usage: hosted.py proxy ADDRESS FOLDER WORK NODE..      through a proxy, each over a connection of its own
        hosted.py gateway FOLDER WORK NODE..            behind a gateway"""
 
 import os
@@ -17,7 +17,7 @@ def say(node: int, tag: str) -> None:
     os.write(1, f"{node} {time.monotonic_ns()} {tag.partition('-')[0]}\n".encode())
 
 
-def at_front(address: str, folder: str, work: Work, node: int) -> None:
+def at_proxy(address: str, folder: str, work: Work, node: int) -> None:
     own = f"{folder}/{node}"
     os.makedirs(f"{own}/own-work")
 
@@ -46,10 +46,10 @@ def served(folder: str, work: Work, node: int) -> None:
 
 def main() -> None:
     kind, *words = sys.argv[1:]
-    address = words.pop(0) if kind == "front" else ""
+    address = words.pop(0) if kind == "proxy" else ""
     folder, work = words.pop(0), Work[words.pop(0)]
     for node in map(int, words):
-        threading.Thread(target=at_front if kind == "front" else served, args=(*([address] if address else []), folder, work, node)).start()
+        threading.Thread(target=at_proxy if kind == "proxy" else served, args=(*([address] if address else []), folder, work, node)).start()
 
 
 main()

@@ -1,4 +1,4 @@
-"""One client's looks beside others that do what they should not, and a thousand watchers."""
+"""One client's looks beside others that do what they should not."""
 
 from __future__ import annotations
 
@@ -7,13 +7,11 @@ import fcntl
 import multiprocessing
 import select
 import socket
-import statistics
 import struct
 import termios
 import time
 from collections.abc import Iterable, Sequence
 
-import crowd
 from coordinator import Server
 from running import Proxy, Tools, audit_words, has_audit
 from waves import CHORDS, NODES
@@ -109,14 +107,3 @@ def beside(tools: Tools, count: int, many: int) -> tuple[float, float, int, floa
                 process.kill()
                 process.join()
             return took[count // 2], took[int(count * 0.99)], out, growth if has_audit(tools.proxy) else None
-
-
-def watchers(tools: Tools, count: int, times: int) -> float:
-    """Milliseconds from a signal line until the last watcher has the view: the median of some resets."""
-    with Server(tools.server, tools.library, 1, []) as server:
-        words = ["--signals", server.signals, "--connections", str(count + 10)]
-        with Proxy(tools, server.address, server.folder, words=words) as proxy:
-            server.path = proxy.path()
-            connections = crowd.connect(server, count)
-            crowd.watch(connections)
-            return statistics.median(crowd.told_after(server, connections, epoch) for epoch in range(1, times + 1))

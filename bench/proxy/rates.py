@@ -85,5 +85,10 @@ def wave(tools: Tools, links: Links, micros: int, count: int) -> tuple[float, fl
     with Server(tools.server, tools.library, waves.NODES, links, micros) as server:
         words = ["--signals", server.signals, *audit_words(tools, server.folder)]
         with Proxy(tools, server.address, server.folder, words=words) as proxy:
-            server.path = proxy.path()
-            return asyncio.run(waves.measure(server, "front", links, count))
+            return asyncio.run(waves.measure(waves.Own(server, links, proxy.path()), count))
+
+
+def wave_of_one(tools: Tools, links: Links, micros: int, count: int) -> tuple[float, float]:
+    """The same over one connection to the port, which confirms for all."""
+    with Server(tools.server, tools.library, waves.NODES, links, micros) as server:
+        return asyncio.run(waves.measure(waves.One(server, links), count))

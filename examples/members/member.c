@@ -1,8 +1,8 @@
-/* A member in C, through a front, by resetd_member.h and docs/SERVICES.md.
+/* A member in C, through a proxy, by resetd_member.h and docs/SERVICES.md.
  *
  * usage: member NODE unix:PATH|HOST:PORT FOLDER    (made by cc -o member member.c -lresetd_member)
  *
- * HOST:PORT is the address of a front on the loopback, or of stunnel, which connects to the TLS port of a front elsewhere.
+ * HOST:PORT is the address of stunnel, which connects to the TLS port of a proxy on another host.
  *
  * FOLDER has `work`, with the epoch that was begun; `start-NODE.json` and `start-NODE.history`, in the client library's
  * formats; `lock`, with the number of the process; and, while the group is in a run, `run`, with the epoch and the tag
@@ -25,8 +25,8 @@
 #include <time.h>
 #include <unistd.h>
 
-#define MOST_LINE 65536   /* bytes of a line of the front */
-#define SILENT_SECONDS 45 /* a front that is there sends a view every 15 seconds */
+#define MOST_LINE 65536   /* bytes of a line of the proxy */
+#define SILENT_SECONDS 45 /* a proxy that is there sends a view every 15 seconds */
 #define SHOW "{\"op\":\"show\"}\n"
 #define WATCH "{\"op\":\"watch\"}\n"
 
@@ -36,7 +36,7 @@ struct text {
     size_t length;
 };
 
-struct front {
+struct proxy {
     int socket;
     size_t length; /* of the bytes that no line was taken from yet */
     char received[MOST_LINE];
@@ -136,7 +136,7 @@ static void write_start(struct member *member, const void *bytes, size_t size, b
     member->is_start_read = false;
 }
 
-/* ---- the front ---- */
+/* ---- the proxy ---- */
 
 static int connect_unix(const char *path)
 {
@@ -174,47 +174,47 @@ static int connect_tcp(const char *address)
 }
 
 /* Sends a line. If the connection has ended, the next read reports it. */
-static void send_line(struct front *front, const char *line)
+static void send_line(struct proxy *proxy, const char *line)
 {
-    send(front->socket, line, strlen(line), MSG_NOSIGNAL);
+    send(proxy->socket, line, strlen(line), MSG_NOSIGNAL);
 }
 
 /* Waits at most a second for a line. Returns its length with the line feed, 0 after a second, -1 at the connection's end. */
-static ssize_t receive_line(struct front *front)
+static ssize_t receive_line(struct proxy *proxy)
 {
-    struct pollfd readable = {.fd = front->socket, .events = POLLIN};
+    struct pollfd readable = {.fd = proxy->socket, .events = POLLIN};
     const char *end;
 
-    while ((end = memchr(front->received, '\n', front->length)) == NULL) {
+    while ((end = memchr(proxy->received, '\n', proxy->length)) == NULL) {
         ssize_t count;
 
         if (poll(&readable, 1, 1000) == 0)
             return 0;
-        count = recv(front->socket, front->received + front->length, sizeof front->received - front->length, 0);
+        count = recv(proxy->socket, proxy->received + proxy->length, sizeof proxy->received - proxy->length, 0);
         if (count <= 0)
             return -1;
-        front->length += (size_t)count;
+        proxy->length += (size_t)count;
     }
-    return end + 1 - front->received;
+    return end + 1 - proxy->received;
 }
 
-static void drop_line(struct front *front, size_t length)
+static void drop_line(struct proxy *proxy, size_t length)
 {
-    front->length -= length;
-    memmove(front->received, front->received + length, front->length);
+    proxy->length -= length;
+    memmove(proxy->received, proxy->received + length, proxy->length);
 }
 
-static bool begins_with(const struct front *front, const char *text)
+static bool begins_with(const struct proxy *proxy, const char *text)
 {
-    return front->length >= strlen(text) && memcmp(front->received, text, strlen(text)) == 0;
+    return proxy->length >= strlen(text) && memcmp(proxy->received, text, strlen(text)) == 0;
 }
 
-static void order(struct front *front, const char *op, uint8_t node, uint64_t epoch)
+static void order(struct proxy *proxy, const char *op, uint8_t node, uint64_t epoch)
 {
     char line[RESETD_MOST_LINE];
 
     snprintf(line, sizeof line, "{\"op\":\"%s\",\"node\":%d,\"epoch\":%" PRIu64 "}\n", op, node, epoch);
-    send_line(front, line);
+    send_line(proxy, line);
 }
 
 /* ---- the rule ---- */
@@ -247,7 +247,7 @@ static struct text take_refused(void)
 }
 
 /* Publishes the member's run in `run`. Returns whether a message was refused whose sender can't come to the same run. */
-static bool talk(const struct member *member, uint64_t epoch, const struct front *front, size_t length)
+static bool talk(const struct member *member, uint64_t epoch, const struct proxy *proxy, size_t length)
 {
     uint8_t tag[RESETD_MOST_TAG];
     char line[RESETD_MOST_TAG + 32];
@@ -256,7 +256,7 @@ static bool talk(const struct member *member, uint64_t epoch, const struct front
     bool are_parted;
     struct text refused = take_refused();
 
-    expect_ok(resetd_tag((const uint8_t *)front->received, length, member->node, member->start, member->start_length,
+    expect_ok(resetd_tag((const uint8_t *)proxy->received, length, member->node, member->start, member->start_length,
                          (const uint8_t *)"", 0, tag, sizeof tag, &tag_length), "tag");
     size = snprintf(line, sizeof line, "%" PRIu64 " %.*s\n", epoch, tag_length ? (int)tag_length : 1,
                     tag_length ? (const char *)tag : "-");
@@ -267,12 +267,12 @@ static bool talk(const struct member *member, uint64_t epoch, const struct front
 }
 
 /* Judges the received view and carries out the result. Returns whether it sent an order. */
-static bool look(struct member *member, struct front *front, size_t length)
+static bool look(struct member *member, struct proxy *proxy, size_t length)
 {
     uint8_t out[RESETD_MOST_TEXT];
     struct resetd_judged judged = {.due = RESETD_WAIT};
     struct text history = read_file(member->history_file);
-    uint32_t status = resetd_judge((const uint8_t *)front->received, length, member->node, member->start, member->start_length,
+    uint32_t status = resetd_judge((const uint8_t *)proxy->received, length, member->node, member->start, member->start_length,
                                    history.bytes, history.length, &member->work, out, sizeof out, &judged);
 
     free(history.bytes);
@@ -295,46 +295,46 @@ static bool look(struct member *member, struct front *front, size_t length)
     switch (judged.due) {
     case RESETD_BEGIN:
         begin(member, judged.epoch);
-        order(front, "confirm", member->node, judged.epoch);
+        order(proxy, "confirm", member->node, judged.epoch);
         return true;
     case RESETD_TALK:
-        if (!talk(member, judged.epoch, front, length))
+        if (!talk(member, judged.epoch, proxy, length))
             return false;
         break;
     case RESETD_WAIT:
         return false;
     }
-    order(front, "reset", member->node, judged.epoch);
+    order(proxy, "reset", member->node, judged.epoch);
     return true;
 }
 
 /* Watches, and judges each view, until the connection ends. */
-static void follow(struct member *member, struct front *front)
+static void follow(struct member *member, struct proxy *proxy)
 {
     bool is_ordered = false; /* an order has no answer yet, so a view may be older than the order */
     int silence = 0;
     ssize_t length;
 
-    send_line(front, WATCH);
-    while (silence < SILENT_SECONDS && (length = receive_line(front)) >= 0) {
+    send_line(proxy, WATCH);
+    while (silence < SILENT_SECONDS && (length = receive_line(proxy)) >= 0) {
         if (length == 0) {
             silence++;
             if (access("refused", F_OK) == 0)
-                send_line(front, SHOW);
+                send_line(proxy, SHOW);
             continue;
         }
         silence = 0;
-        if (!begins_with(front, "{\"accepted\":")) { /* the answer to the order: judge a view from after it */
-            if (begins_with(front, "{\"fault\":") && !begins_with(front, "{\"fault\":\"OutOfMemory\"")) {
-                fprintf(stderr, "the front answers %.*s", (int)length, front->received);
+        if (!begins_with(proxy, "{\"accepted\":")) { /* the answer to the order: judge a view from after it */
+            if (begins_with(proxy, "{\"fault\":") && !begins_with(proxy, "{\"fault\":\"OutOfMemory\"")) {
+                fprintf(stderr, "the proxy answers %.*s", (int)length, proxy->received);
                 exit(EXIT_FAILURE);
             }
             is_ordered = false;
-            send_line(front, SHOW);
+            send_line(proxy, SHOW);
         } else if (!is_ordered) {
-            is_ordered = look(member, front, (size_t)length);
+            is_ordered = look(member, proxy, (size_t)length);
         }
-        drop_line(front, (size_t)length);
+        drop_line(proxy, (size_t)length);
     }
 }
 
@@ -383,7 +383,7 @@ static void load(struct member *member)
 int main(int count, char **words)
 {
     static struct member member;
-    static struct front front;
+    static struct proxy proxy;
 
     if (count != 4) {
         fprintf(stderr, "usage: member NODE unix:PATH|HOST:PORT FOLDER\n");
@@ -398,11 +398,11 @@ int main(int count, char **words)
     for (;;) {
         bool is_unix = strncmp(words[2], "unix:", 5) == 0;
 
-        front.length = 0;
-        front.socket = is_unix ? connect_unix(words[2] + 5) : connect_tcp(words[2]);
-        if (front.socket >= 0) {
-            follow(&member, &front);
-            close(front.socket);
+        proxy.length = 0;
+        proxy.socket = is_unix ? connect_unix(words[2] + 5) : connect_tcp(words[2]);
+        if (proxy.socket >= 0) {
+            follow(&member, &proxy);
+            close(proxy.socket);
         }
         nanosleep(&(struct timespec){.tv_nsec = 300 * 1000 * 1000}, NULL);
     }

@@ -1,8 +1,8 @@
-// A member in Go, through a front, by resetd_member.go and docs/SERVICES.md, with the files of member.c.
+// A member in Go, through a proxy, by resetd_member.go and docs/SERVICES.md, with the files of member.c.
 //
 // usage: member NODE unix:PATH|tls:HOST:PORT|HOST:PORT FOLDER
 //
-//	(made by CGO_LDFLAGS=-lresetd_member go build member.go resetd_member.go front.go files.go)
+//	(made by CGO_LDFLAGS=-lresetd_member go build member.go resetd_member.go proxy.go files.go)
 package main
 
 import (

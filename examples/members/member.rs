@@ -1,4 +1,4 @@
-// A member in Rust, through a front, by resetd_member.rs and docs/SERVICES.md, with the files of member.c.
+// A member in Rust, through a proxy, by resetd_member.rs and docs/SERVICES.md, with the files of member.c.
 //
 // usage: member NODE unix:PATH|HOST:PORT FOLDER    (made by rustc -O member.rs -L FOLDER_OF_THE_LIBRARY -l static=resetd_member)
 use std::fs::{self, File, OpenOptions, TryLockError};
@@ -11,7 +11,7 @@ mod resetd_member;
 use resetd_member::*;
 
 const SECOND: Duration = Duration::from_secs(1);
-const SILENT_SECONDS: u32 = 45; // a front that is there sends a view every 15 seconds
+const SILENT_SECONDS: u32 = 45; // a proxy that is there sends a view every 15 seconds
 const WATCH: &str = "{\"op\":\"watch\"}\n";
 const SHOW: &str = "{\"op\":\"show\"}\n";
 
@@ -93,7 +93,7 @@ fn connect(address: &str) -> Result<BufReader<Box<dyn Connection>>> {
 }
 
 /// Sends a line. If the connection has ended, the next read reports it.
-fn send(front: &mut BufReader<Box<dyn Connection>>, line: &str) { let _ = front.get_mut().write_all(line.as_bytes()); }
+fn send(proxy: &mut BufReader<Box<dyn Connection>>, line: &str) { let _ = proxy.get_mut().write_all(line.as_bytes()); }
 
 struct Member {
     node: u8,
@@ -183,14 +183,14 @@ impl Member {
     }
 
     /// Watches, and judges each view, until the connection ends.
-    fn follow(&mut self, mut front: BufReader<Box<dyn Connection>>) -> Result<()> {
+    fn follow(&mut self, mut proxy: BufReader<Box<dyn Connection>>) -> Result<()> {
         let (mut line, mut silence, mut is_ordered) = (Vec::new(), 0, false);
-        send(&mut front, WATCH);
+        send(&mut proxy, WATCH);
         while silence < SILENT_SECONDS {
-            match front.read_until(b'\n', &mut line) {
+            match proxy.read_until(b'\n', &mut line) {
                 Err(why) if why.kind() == ErrorKind::WouldBlock => {
                     silence += 1;
-                    if fs::exists("refused")? { send(&mut front, SHOW) }
+                    if fs::exists("refused")? { send(&mut proxy, SHOW) }
                     continue;
                 }
                 Ok(_) if line.ends_with(b"\n") => silence = 0,
@@ -198,13 +198,13 @@ impl Member {
             }
             if !line.starts_with(b"{\"accepted\":") { // the answer to the order: judge a view from after it
                 let answer = String::from_utf8_lossy(&line);
-                assert!(!answer.starts_with("{\"fault\":") || answer.contains("OutOfMemory"), "the front answers {answer}");
+                assert!(!answer.starts_with("{\"fault\":") || answer.contains("OutOfMemory"), "the proxy answers {answer}");
                 is_ordered = false;
-                send(&mut front, SHOW);
+                send(&mut proxy, SHOW);
             } else if !is_ordered { // otherwise the view may be older than the order
                 if let Some(order) = self.judge(&line)? {
                     is_ordered = true;
-                    send(&mut front, &order);
+                    send(&mut proxy, &order);
                 }
             }
             line.clear();
@@ -225,7 +225,7 @@ fn main() -> Result<()> {
     let mut member = Member::load(node.parse().expect("a node"))?;
     if_there(fs::remove_file("run"))?; // before the first view nothing is known
     loop {
-        if let Ok(front) = connect(address) { member.follow(front)? }
+        if let Ok(proxy) = connect(address) { member.follow(proxy)? }
         thread::sleep(Duration::from_millis(300));
     }
 }

@@ -1,6 +1,6 @@
-// A member in plain Go by the table of docs/SERVICES.md. front.go beside it has the connection and its lines, files.go the files.
+// A member in plain Go by the table of docs/SERVICES.md. proxy.go beside it has the connection and its lines, files.go the files.
 //
-// usage: plain_member NODE unix:PATH|tls:HOST:PORT|HOST:PORT FOLDER    (made by go build plain_member.go front.go files.go)
+// usage: plain_member NODE unix:PATH|tls:HOST:PORT|HOST:PORT FOLDER    (made by go build plain_member.go proxy.go files.go)
 //
 // FOLDER/kept has the member's state, and would have its work. While the member may talk, FOLDER/run has the epoch and the tag (- if
 // it is alone), and FOLDER/fence its fence for a database. Whoever refuses a message of another run writes its tag into FOLDER/refused.

@@ -1,5 +1,5 @@
 #!/usr/bin/env python3
-"""A member by the library for Python, at a front: its files are those of examples/members.
+"""A member by the library for Python, at a proxy: its files are those of examples/members.
 
 usage: door_member NODE ADDRESS FOLDER
 
@@ -35,9 +35,9 @@ def main() -> None:
     note(None)
     begun = read(work)
     port = Port(address)
-    with AtFront(port, folder, held_seconds=10) as front:
-        member = Member(port, front, node, int(begun) if begun else None, lambda epoch: keep(work, f"{epoch}\n"), on_run=note)
-        member.follow(front, LOOK_SECONDS)
+    with AtFront(port, folder, held_seconds=10) as orders:
+        member = Member(port, orders, node, int(begun) if begun else None, lambda epoch: keep(work, f"{epoch}\n"), on_run=note)
+        member.follow(orders, LOOK_SECONDS)
 
 
 main()

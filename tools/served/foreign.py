@@ -178,11 +178,11 @@ Spoil = Callable[[socket.socket, bytes], bool]
 
 
 class Between:
-    """A port and a socket for the member alone, before the coordinator's front. `spoil` determines how the next looks are
+    """A port and a socket for the member alone, before the coordinator's proxy. `spoil` determines how the next looks are
     spoiled. Each process of the member has its own port: a request of a dead one may still wait there, and means nothing.
 
     A member that watches is pushed a view once it has done what was due by the previous one, at each change and from time to
-    time. While its order has no answer, only the previous view is pushed again, as by a front that has not read the order
+    time. While its order has no answer, only the previous view is pushed again, as by a proxy that has not read the order
     yet.
     """
 
@@ -193,7 +193,7 @@ class Between:
         self.watching, self.ordering = set[socket.socket](), set[socket.socket]()  # connections that watch and whose order has no answer yet
         self.text = b""  # the last view that was shown in this life
         self.path = f"{trial.folder}/between.socket"
-        self.front = Port(trial.address, 30)
+        self.proxy = Port(trial.address, 30)
         self.listen()
 
     def listen(self) -> None:
@@ -313,7 +313,7 @@ class Between:
 
     def direct(self, line: bytes) -> bytes:
         request: Json = json.loads(line)
-        return patiently(lambda: self.front.raw(request), self.trial.words.seconds).encode()
+        return patiently(lambda: self.proxy.raw(request), self.trial.words.seconds).encode()
 
 
 def away(connection: socket.socket, text: bytes) -> bool:
@@ -339,7 +339,7 @@ class Tried:
 
     def start(self) -> None:
         host, port = self.between.listener.getsockname()
-        words = {"node": NODE, "host": host, "port": port, "address": f"{host}:{port}", "front": f"unix:{self.between.path}",
+        words = {"node": NODE, "host": host, "port": port, "address": f"{host}:{port}", "proxy": f"unix:{self.between.path}",
                  "folder": self.folder, "signals": self.trial.server.signals}
         with open(f"{self.trial.folder}/foreign.lines", "ab") as lines:
             self.process: subprocess.Popen[bytes] = subprocess.Popen(

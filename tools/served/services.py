@@ -10,8 +10,9 @@ import time
 from collections.abc import Callable, Sequence
 from typing import IO
 
-from .front import Front, Proxy
+from .bridge import Bridge
 from .ports import held_address
+from .proxy import PROGRAM, Proxy
 from .server import TIMEOUT, Server
 
 ROOT = os.path.dirname(os.path.dirname(os.path.dirname(os.path.abspath(__file__))))
@@ -21,7 +22,7 @@ from resetd_client import Away, Member, Orders, OutOfRun, Port, Reply, View, pat
 __all__ = ["ROOT", "Away", "Failed", "Member", "Orders", "OutOfRun", "Port", "Trial", "View", "Words", "patiently", "read",
            "tag_in", "tags_at"]
 
-OPERATOR, RESETCTL = 16, 14  # clients that neither a member nor the front uses
+OPERATOR, RESETCTL = 16, 14  # clients that neither a member nor the proxy uses
 
 
 class Failed(Exception):
@@ -36,8 +37,8 @@ class Words(argparse.Namespace):
     without: set[str]
     seed: int | None
     events: int
-    is_at_port = False  # whether the coordinator has no front
-    proxy = ""  # the program `resetd-proxy`, which then takes the front's place
+    is_at_port = False  # whether the coordinator has no proxy
+    proxy = PROGRAM
 
 
 class Trial:
@@ -47,8 +48,7 @@ class Trial:
         self.words, self.folder, self.nodes = words, folder, range(1, nodes + 1)
         self.server = Server(words.program, f"{folder}/store", held_address())  # of all its starts
         self.helpers = list[subprocess.Popen[bytes]]()
-        self._front: Front | Proxy | None = None
-        self._front_for_tcp: Front | Proxy | None = None
+        self._proxies, self._bridges = list[Proxy](), list[Bridge]()
         links = [(node, node % nodes + 1) for node in self.nodes][:nodes if is_ring and nodes > 2 else nodes - 1]
         done = self.server.found(
             "".join(f"[[node]]\nid = {node}\ngroup = 1\n" for node in self.nodes) +
@@ -56,8 +56,8 @@ class Trial:
         if done[0] != 0:
             raise Failed(f"resetd init: {done}")
         self.start()
-        if not words.is_at_port:
-            self._front = self._before()
+        proxy = None if words.is_at_port else self._start_proxy()
+        self.address = proxy.address if proxy else self.server.address  # of the trial's members
         self.port = Port(self.address, 30)
         self.orders = Orders(self.port, OPERATOR, f"{folder}/operator", told=lambda _: None)
 
@@ -66,20 +66,17 @@ class Trial:
             raise Failed(f"the coordinator did not start: {self.server.ended()}")
 
     @property
-    def address(self) -> str:
-        """The front's address, if there is one, else the server's."""
-        return self._front.address if self._front else self.server.address
-
-    @property
     def tcp(self) -> list[str]:
-        """Returns the host and the port of a front, for a member that connects by TCP. Starts a front if the trial has none."""
-        self._front_for_tcp = self._front or self._front_for_tcp or self._before()
-        return self._front_for_tcp.tcp.split(":")
+        """The host and the port of a bridge to a proxy, for a member that connects by TCP. Starts both if the trial has none."""
+        if not self._bridges:
+            proxy = self._proxies[0] if self._proxies else self._start_proxy()
+            self._bridges.append(Bridge(proxy.socket))
+        return self._bridges[0].address.split(":")
 
-    def _before(self) -> Front | Proxy:
-        """Starts the front or the proxy."""
-        where = self.folder, self.server.address, self.server.signals
-        return Proxy(self.words.proxy, *where) if self.words.proxy else Front(*where)
+    def _start_proxy(self) -> Proxy:
+        proxy = Proxy(self.folder, self.server.address, "--signals", self.server.signals, "--patience", "600", program=self.words.proxy)
+        self._proxies.append(proxy)
+        return proxy
 
     def kill(self) -> None:
         """Kills the server by signal 9, and starts it again."""
@@ -218,9 +215,10 @@ class Trial:
 
     def end(self) -> None:
         self.stop_helpers()
-        for each in {self._front, self._front_for_tcp}:
-            if each:
-                each.end()
+        for bridge in self._bridges:
+            bridge.end()
+        for proxy in self._proxies:
+            proxy.kill()
         self.orders.close()
         self.server.end()
 

@@ -10,11 +10,12 @@ import time
 from collections.abc import Iterator, Sequence
 from typing import NamedTuple
 
-from .door import ROOT, Front, read_tail
+from .door import ROOT, read_tail
+from .proxy import Proxy
 from .server import Server
 
 STACK_SECONDS = 10.0  # within which a process has written its stacks
-LAST_ORDERS = 12  # lines of the audit, of one process
+LAST_ORDERS = 12  # lines of the audit, of one node
 MOST_BYTES = 8_000  # of a process's last lines
 
 
@@ -36,18 +37,16 @@ def abort(process: subprocess.Popen[bytes]) -> None:
         process.wait(STACK_SECONDS)
 
 
-def orders_of(audit: str, process: int) -> Iterator[str]:
-    """The last lines of the front's audit about a process."""
-    with open(audit, encoding="utf-8") as lines:
-        found = [line for line in lines if f'"pid":{process}' in line.replace(" ", "")]
-    return iter(found[-LAST_ORDERS:])
-
-
 def answer_of(*words: str) -> str:
     """What `resetctl` prints."""
     done = subprocess.run([sys.executable, f"{ROOT}/client/resetctl", "--patience", "5", *words], stdin=subprocess.DEVNULL,
                           capture_output=True, encoding="utf-8", check=False)
     return f"{done.stdout}{done.stderr}"
+
+
+def orders_of(audit: str, node: int) -> str:
+    """The last orders of a node, by the proxy's audit."""
+    return "\n".join(answer_of("log", audit, "--node", str(node)).splitlines()[-LAST_ORDERS:])
 
 
 def locks_of(path: str) -> str:
@@ -58,24 +57,25 @@ def locks_of(path: str) -> str:
 
 
 class Suspect(NamedTuple):
-    """A process that may be stuck, and the file with its output."""
+    """A process that may be stuck, the file with its output, and the node whose member it is, if any."""
 
     name: str
     process: subprocess.Popen[bytes]
     lines: str
+    node: int | None = None
 
 
-def report(server: Server, front: Front, suspects: Sequence[Suspect], files: Sequence[str]) -> Iterator[str]:
+def report(server: Server, proxy: Proxy, suspects: Sequence[Suspect], files: Sequence[str]) -> Iterator[str]:
     """The parts of a report: the views at both addresses, the findings of `resetctl why`, the locks of some files, and of each suspect
     its state, its last orders and its last lines, which have its stacks."""
     yield f"{time.strftime('%H:%M:%S')}, load {os.getloadavg()}"
-    for address in (server.address, f"unix:{front.socket}"):
+    for address in (server.address, proxy.address):
         yield f"\nshow at {address}\n{answer_of('--address', address, 'show')}"
-    yield f"\nwhy\n{answer_of('why', server.store, server.address, '--audit', front.audit)}"
+    yield f"\nwhy\n{answer_of('why', server.store, server.address, '--audit', proxy.audit)}"
     for path in files:
         yield f"\nlocks of {path}\n{locks_of(path)}"
     for suspect in suspects:
-        yield f"\n{suspect.name}, {state_of(suspect.process.pid)}\n{''.join(orders_of(front.audit, suspect.process.pid))}"
+        yield f"\n{suspect.name}, {state_of(suspect.process.pid)}\n{orders_of(proxy.audit, suspect.node) if suspect.node else ''}"
         abort(suspect.process)
         yield read_tail(suspect.lines, MOST_BYTES)
 

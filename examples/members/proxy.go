@@ -1,4 +1,4 @@
-// The connection of the members in Go to a front, and its lines, by docs/SERVICES.md, "In another language".
+// The connection of the members in Go to a proxy, and its lines, by docs/SERVICES.md, "In another language".
 package main
 
 import (
@@ -16,7 +16,7 @@ import (
 )
 
 const (
-	silence = 45 * time.Second // a front that is there sends a view every 15 seconds
+	silence = 45 * time.Second // a proxy that is there sends a view every 15 seconds
 	pause   = 300 * time.Millisecond
 	watch   = `{"op":"watch"}`
 	show    = `{"op":"show"}`
@@ -34,43 +34,43 @@ type View struct {
 
 func viewOf(line []byte) (view View) { check(json.Unmarshal(line, &view)); return view }
 
-// follow judges each view that the front sends, and sends the order that the judge returns, if any.
+// follow judges each view that the proxy sends, and sends the order that the judge returns, if any.
 func follow(address string, judge func(view []byte) (order string)) {
 	for ; ; time.Sleep(pause) {
-		if front, err := dial(address); err == nil {
-			followUntilItEnds(front, judge)
-			front.Close()
+		if proxy, err := dial(address); err == nil {
+			followUntilItEnds(proxy, judge)
+			proxy.Close()
 		}
 	}
 }
 
-func followUntilItEnds(front net.Conn, judge func(view []byte) (order string)) {
+func followUntilItEnds(proxy net.Conn, judge func(view []byte) (order string)) {
 	done := make(chan bool)
 	defer close(done)
-	go lookWhereRefused(front, done)
-	fmt.Fprintln(front, watch)
-	for lines, isOrdered := bufio.NewReader(front), false; ; {
-		front.SetReadDeadline(time.Now().Add(silence))
+	go lookWhereRefused(proxy, done)
+	fmt.Fprintln(proxy, watch)
+	for lines, isOrdered := bufio.NewReader(proxy), false; ; {
+		proxy.SetReadDeadline(time.Now().Add(silence))
 		line, err := lines.ReadBytes('\n')
 		if err != nil {
 			return
 		}
 		if !bytes.HasPrefix(line, []byte(`{"accepted":`)) { // the answer to the order: judge a view from after it
 			if bytes.HasPrefix(line, []byte(`{"fault":`)) && !bytes.Contains(line, []byte("OutOfMemory")) {
-				log.Fatalf("the front answers %s", line)
+				log.Fatalf("the proxy answers %s", line)
 			}
 			isOrdered = false
-			fmt.Fprintln(front, show)
+			fmt.Fprintln(proxy, show)
 		} else if !isOrdered { // otherwise the view may be older than the order
 			if order := judge(line); order != "" {
 				isOrdered = true
-				fmt.Fprintln(front, order)
+				fmt.Fprintln(proxy, order)
 			}
 		}
 	}
 }
 
-func lookWhereRefused(front net.Conn, done <-chan bool) {
+func lookWhereRefused(proxy net.Conn, done <-chan bool) {
 	for seconds := time.NewTicker(time.Second); ; {
 		select {
 		case <-done:
@@ -78,13 +78,13 @@ func lookWhereRefused(front net.Conn, done <-chan bool) {
 			return
 		case <-seconds.C:
 			if _, err := os.Stat("refused"); err == nil {
-				fmt.Fprintln(front, show)
+				fmt.Fprintln(proxy, show)
 			}
 		}
 	}
 }
 
-// dial connects with unix:PATH, with tls:HOST:PORT, or with HOST:PORT, a front on the loopback or stunnel.
+// dial connects with unix:PATH, with tls:HOST:PORT, or with HOST:PORT, which is stunnel's.
 func dial(address string) (net.Conn, error) {
 	switch kind, place, _ := strings.Cut(address, ":"); kind {
 	case "unix":
