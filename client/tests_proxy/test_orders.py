@@ -22,7 +22,7 @@ class Many(Case):
         self.server.await_settled()
 
     def test_64_clients_at_once(self) -> None:
-        """Each has its own answers in the order of its lines, and their confirms go together."""
+        """Each has its own answers, in the order of its lines."""
         self.reset()
         clients = [self.client() for _ in range(64)]
         for node, client in enumerate(clients, 1):
