@@ -2,11 +2,12 @@
 
 from __future__ import annotations
 
+import signal
 import subprocess
 import tempfile
 import unittest
 
-from case import DEADLINE, DENIED, RESETD_PROXY, ROOT, USER, Case, needs_proxy, policy, write_policy
+from case import DEADLINE, DENIED, RESETD_PROXY, ROOT, USER, Case, needs_proxy, policy, unread, until, write_policy
 
 WHOLE = policy((USER, ["show"]))
 REFUSED = (
@@ -22,9 +23,9 @@ class Rights(Case):
 
     def start(self, text: str) -> None:
         """Starts a proxy with this policy."""
-        path = f"{self.folder}/policy.toml"
-        write_policy(path, text)
-        self.proxy = self.started("--policy", path)
+        self.path = f"{self.folder}/policy.toml"
+        write_policy(self.path, text)
+        self.proxy = self.started("--policy", self.path)
 
     def test_rights_are_judged_line_by_line(self) -> None:
         self.start(policy((USER, ["show", "close"]), ("certificate:service2", ["show"])))
@@ -49,6 +50,23 @@ class Rights(Case):
             self.assertEqual(client.ask(op="join", client=3, number=2, a=2, b=1)["kind"], "done")
             self.assertEqual(client.ask(op="confirm", node=3, epoch=1), DENIED)
             self.assertEqual(client.ask(op="confirm", node=2, epoch=1), {"name": "BadEpoch", "refused": 15})
+
+    def test_a_line_that_waits_when_its_right_ends(self) -> None:
+        """It is never sent: its connection ends, and the others go on."""
+        self.start(policy((USER, ["show", "reset"])))
+        looking, ordering = self.client(), self.client()
+        looking.ask(op="show")
+        assert self.server.process
+        self.server.process.send_signal(signal.SIGSTOP)
+        self.addCleanup(self.server.process.send_signal, signal.SIGCONT)
+        for client, request in ((looking, {"op": "show"}), (ordering, {"op": "reset", "node": 1})):
+            client.send(request)
+            until("the proxy's reading", lambda: not unread(client))
+        write_policy(self.path, policy((USER, ["show"])))
+        self.assertEqual(ordering.line(), b"")
+        self.server.process.send_signal(signal.SIGCONT)
+        self.assertIn("nodes", looking.reply())
+        self.assertEqual([row[4] for row in self.server.await_settled()["nodes"]], [0, 0, 0])
 
     def test_it_does_not_start_with_a_refused_policy(self) -> None:
         for text in REFUSED:
