@@ -14,7 +14,7 @@ import tomllib
 import zipfile
 from typing import Any
 
-PACKAGE, FRONT, STATUS_PAGE = "resetd_client", "resetd_front", "resetd_page"
+PACKAGE, STATUS_PAGE = "resetd_client", "resetd_page"
 
 
 def build_wheel(wheel_directory: str, config_settings: Any = None, metadata_directory: Any = None) -> str:
@@ -25,8 +25,8 @@ def build_wheel(wheel_directory: str, config_settings: Any = None, metadata_dire
         match = re.search(r'^__version__ = "(.+?)"', file.read(), re.MULTILINE)
     assert match, "the package has no version"
     info = f"{PACKAGE}-{match[1]}.dist-info"
-    files = {path: contents(path) for folder in (PACKAGE, FRONT, STATUS_PAGE) for path in sorted(glob.glob(f"{folder}/**/*.py", recursive=True))}
-    files |= {path: contents(path) for path in (f"{PACKAGE}/py.typed", f"{FRONT}/py.typed", f"{STATUS_PAGE}/py.typed", f"{STATUS_PAGE}/page.html")}
+    files = {path: contents(path) for folder in (PACKAGE, STATUS_PAGE) for path in sorted(glob.glob(f"{folder}/**/*.py", recursive=True))}
+    files |= {path: contents(path) for path in (f"{PACKAGE}/py.typed", f"{STATUS_PAGE}/py.typed", f"{STATUS_PAGE}/page.html")}
     files[f"{info}/METADATA"] = lines(
         "Metadata-Version: 2.1", f"Name: {project['name']}", f"Version: {match[1]}", f"Summary: {project['description']}",
         f"Requires-Python: {project['requires-python']}", f"License: {project['license']['text']}")

@@ -31,7 +31,7 @@ class All(unittest.TestCase):
 class LeftOut(Case):
     def run_tests(self, *names: str, **environment: str) -> list[str]:
         """Returns the last lines of `tests/run` for tests for which no program is built."""
-        named = {"RESETD": "/nonexistent", "RESETD_MEMBER": "/nonexistent", **environment}
+        named = {"RESETD": "/nonexistent", "RESETD_PROXY": "/nonexistent", "RESETD_MEMBER": "/nonexistent", **environment}
         ran = subprocess.run([sys.executable, f"{ROOT}/tests/run", *names], env={**os.environ, **named}, capture_output=True, text=True,
                              check=False)
         return ran.stdout.splitlines()[-4:]
@@ -53,8 +53,8 @@ class LeftOut(Case):
         self.assertEqual(sorted(lacking(within)), ["a thing", *["a thing's part"] * 2])
 
     def test_each_failure_is_named(self) -> None:
-        """A failure is named with those within it: here the tests of a front whose program is missing."""
-        lines = self.run_tests("test_front.Front.test_the_audit")
-        self.assertRegex(lines[1], r"^failed: test_front\.Front\.test_the_audit: test_audit\.Written\.test_a_file_that_is_moved, test_audit\.Written\.")
-        self.assertNotIn("test_audit.Files.", lines[1])
+        """A failure is named with those within it: here the tests of a proxy whose program is missing, but not those of a model."""
+        lines = self.run_tests("test_proxy.Proxy.test_resets_that_name_an_epoch")
+        self.assertRegex(lines[1], r"^failed: test_proxy\.Proxy\.test_resets_that_name_an_epoch: test_epochs\.Epochs\.test_a_reset_that_names_an_epoch, test_epochs\.")
+        self.assertNotIn("test_lost_resets.", lines[1])
         self.assertEqual(lines[3], "0 passed, 1 failed")

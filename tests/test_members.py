@@ -425,17 +425,18 @@ class Made(Case):
                          "-l", "static=resetd_member")
 
     def make_in_go_with_the_library(self) -> str:
-        return self.make_in_go("member.go", "resetd_member.go", "front.go", "files.go",
+        return self.make_in_go("member.go", "resetd_member.go", "proxy.go", "files.go",
                                env={"CGO_CFLAGS": f"-I{HEADER}", "CGO_LDFLAGS": self.library()})
 
     def make_in_plain_go(self) -> str:
-        return self.make_in_go("plain_member.go", "front.go", "files.go", env={"CGO_ENABLED": "0"})
+        return self.make_in_go("plain_member.go", "proxy.go", "files.go", env={"CGO_ENABLED": "0"})
 
 
 class InOtherLanguages(Made):
-    """Whole members, each before a front, which tools/try_member leads through the table of docs/SERVICES.md."""
+    """Whole members, each at a proxy, which tools/try_member leads through the table of docs/SERVICES.md."""
 
     takes = 100
+    programs = (*Made.programs, "RESETD_PROXY")
 
     def keeps_the_rule(self, *command: str) -> None:
         """Checks that tools/try_member finds no violation by a member."""
@@ -444,25 +445,25 @@ class InOtherLanguages(Made):
         self.assertEqual(tried.returncode, 0, tried.stdout + tried.stderr)
 
     def test_python(self) -> None:
-        self.keeps_the_rule(f"{EXAMPLES}/member.py", "{node}", "{front}", "{folder}", "parts")
+        self.keeps_the_rule(f"{EXAMPLES}/member.py", "{node}", "{proxy}", "{folder}", "parts")
 
     def test_python_whose_work_is_replaced_as_a_whole(self) -> None:
-        self.keeps_the_rule(f"{EXAMPLES}/member.py", "{node}", "{front}", "{folder}", "whole")
+        self.keeps_the_rule(f"{EXAMPLES}/member.py", "{node}", "{proxy}", "{folder}", "whole")
 
     def test_bash(self) -> None:
         self.keeps_the_rule(f"{ROOT}/examples/plain_member", "{node}", "{host}", "{port}", "{folder}")
 
     def test_c(self) -> None:
-        self.keeps_the_rule(self.make_in_c(), "{node}", "{front}", "{folder}")
+        self.keeps_the_rule(self.make_in_c(), "{node}", "{proxy}", "{folder}")
 
     def test_rust(self) -> None:
-        self.keeps_the_rule(self.make_in_rust(), "{node}", "{front}", "{folder}")
+        self.keeps_the_rule(self.make_in_rust(), "{node}", "{proxy}", "{folder}")
 
     def test_go(self) -> None:
-        self.keeps_the_rule(self.make_in_go_with_the_library(), "{node}", "{front}", "{folder}")
+        self.keeps_the_rule(self.make_in_go_with_the_library(), "{node}", "{proxy}", "{folder}")
 
     def test_go_without_the_library(self) -> None:
-        self.keeps_the_rule(self.make_in_plain_go(), "{node}", "{front}", "{folder}")
+        self.keeps_the_rule(self.make_in_plain_go(), "{node}", "{proxy}", "{folder}")
 
 
 class OneProcess(Made):
@@ -483,7 +484,7 @@ class OneProcess(Made):
 
     def allows_one_process(self, *command: str) -> None:
         folder = self.path("files")
-        words = [word.format(front=f"unix:{self.path('no front')}", folder=folder) for word in command]
+        words = [word.format(proxy=f"unix:{self.path('no proxy')}", folder=folder) for word in command]
         first = self.starts(*words)
         until("the first process has the folder", lambda: self.has_the_folder(first))
         second = self.starts(*words)
@@ -497,22 +498,22 @@ class OneProcess(Made):
         until("the next process has the folder", lambda: self.has_the_folder(third))
 
     def test_python(self) -> None:
-        self.allows_one_process(f"{EXAMPLES}/member.py", "1", "{front}", "{folder}")
+        self.allows_one_process(f"{EXAMPLES}/member.py", "1", "{proxy}", "{folder}")
 
     def test_bash(self) -> None:
         self.allows_one_process(f"{ROOT}/examples/plain_member", "1", "127.0.0.1", "1", "{folder}")
 
     def test_c(self) -> None:
-        self.allows_one_process(self.make_in_c(), "1", "{front}", "{folder}")
+        self.allows_one_process(self.make_in_c(), "1", "{proxy}", "{folder}")
 
     def test_rust(self) -> None:
-        self.allows_one_process(self.make_in_rust(), "1", "{front}", "{folder}")
+        self.allows_one_process(self.make_in_rust(), "1", "{proxy}", "{folder}")
 
     def test_go(self) -> None:
-        self.allows_one_process(self.make_in_go_with_the_library(), "1", "{front}", "{folder}")
+        self.allows_one_process(self.make_in_go_with_the_library(), "1", "{proxy}", "{folder}")
 
     def test_go_without_the_library(self) -> None:
-        self.allows_one_process(self.make_in_plain_go(), "1", "{front}", "{folder}")
+        self.allows_one_process(self.make_in_plain_go(), "1", "{proxy}", "{folder}")
 
 
 class Durable(Made):
@@ -520,6 +521,7 @@ class Durable(Made):
     no power cut restores an earlier start. This test is member 2 of the group."""
 
     takes = 20
+    programs = (*Made.programs, "RESETD_PROXY")
 
     def setUp(self) -> None:
         super().setUp()

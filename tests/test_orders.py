@@ -241,7 +241,7 @@ class Stores(Served):
             self.expect_closed(server, 0)
 
     def test_packets_between_any_two_nodes(self) -> None:
-        """Each two of the 64 nodes are linked once, as many at a time as possible. The front of each lane is sent at the start,
+        """Each two of the 64 nodes are linked once, as many at a time as possible. Each lane's front is sent at the start,
         taken and cleared."""
         rows, lane = [stores.node(at, epoch=3, version=2) for at in range(1, 65)], (0, 0, [stores.IS_READY])
         # nodes at the same distance on a ring are linked together, so that no node has more than 16 links at a time

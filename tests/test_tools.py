@@ -34,12 +34,11 @@ def failures_in(printed: str) -> str:
 class Run(Case):
     takes = 60
     most = 3_600
-    environment: dict[str, str] = {}  # for the commands in it, besides the time of the test
 
     def expect(self, *words: str, ends_with: str = "") -> str:
         """Checks that the command succeeds in time, and that its last line begins like this."""
         run = subprocess.Popen(words, stdin=subprocess.DEVNULL, stdout=subprocess.PIPE, stderr=subprocess.STDOUT, text=True,
-                               cwd=ROOT, env={**os.environ, "RESETD": PROGRAM, "TMPDIR": self.folder, **self.environment},
+                               cwd=ROOT, env={**os.environ, "RESETD": PROGRAM, "TMPDIR": self.folder},
                                start_new_session=True)
         is_late = False
         try:
@@ -60,7 +59,7 @@ class Run(Case):
 
 class Door(Run):
     takes = 120
-    programs = ("RESETD", "RESETD_MEMBER")
+    programs = ("RESETD", "RESETD_PROXY", "RESETD_MEMBER")
 
     def test_a_short_soak(self) -> None:
         """It runs some rounds with all 64 members. How long they may be stuck is not tested here."""
@@ -74,9 +73,10 @@ class Nightly(Case):
     """`tools/nightly` with parts whose package or library is missing."""
 
     takes = 10
+    programs = ("RESETD", "RESETD_PROXY")
 
     def nightly(self, *words: str) -> subprocess.CompletedProcess[str]:
-        return subprocess.run([tool("nightly"), "--program", PROGRAM, "--library", self.folder, "--results", self.path("results"), *words],
+        return subprocess.run([tool("nightly"), "--program", PROGRAM, "--proxy", os.environ["RESETD_PROXY"], "--library", self.folder, "--results", self.path("results"), *words],
                               env={**os.environ, "TMPDIR": self.folder, "PATH": self.path("bin")}, stdin=subprocess.DEVNULL,
                               capture_output=True, text=True, check=False)
 
@@ -95,7 +95,7 @@ class Nightly(Case):
         self.assertEqual(len(lines), 3)
         for line, (part, missing) in zip(lines[1:], (("powercut", "qemu-system-x86"), ("soak-door", "there is no library of the members"))):
             name, result, _, minutes, commit, kit, seed, last = line.split("\t")
-            self.assertEqual((name, result, seed, kit), (part, "FAILED (1)", "7", "the kit, another program than bin/resetd"))
+            self.assertEqual((name, result, seed, kit), (part, "FAILED (1)", "7", "the kit, another program than bin/resetd, another program than bin/resetd-proxy"))
             self.assertIn(missing, last)
             self.assertRegex(f"{commit} {minutes}", r"^[0-9a-f]{7,40}\+? \d+\.\d$")
         repeat = next(line for line in again if line.endswith("/powercut has what it printed)"))
@@ -135,9 +135,6 @@ class Tools(Run):
 
     def test_a_closed_output(self) -> None:
         self.expect(tool("closed_output"), PROGRAM)
-
-    def test_what_members_hear_through_others(self) -> None:
-        self.expect(tool("test_services"), "--program", PROGRAM, "--seconds", "300", "second-hand", ends_with="services lose no reset")
 
     def test_the_search_of_the_members_rule(self) -> None:
         """The search ends with nothing left to try, and finds the mix if a part of the rule is left out."""
@@ -220,6 +217,8 @@ class ShortInstances(Run):
 class Services(Run):
     """The trials of tools/test_services, some in parallel."""
 
+    programs = ("RESETD", "RESETD_PROXY")
+
     def trials(self, *names: str) -> None:
         self.expect(tool("test_services"), *names, ends_with="services lose no reset")
 
@@ -229,11 +228,14 @@ class Services(Run):
     def test_a_work_queue(self) -> None:
         self.trials("starts", "queue")
 
+    def test_what_members_hear_through_others(self) -> None:
+        self.trials("second-hand")
+
     def test_lines_that_do_not_come(self) -> None:
         self.trials("torn", "lost", "unread", "doubled")
 
     def test_lines_that_do_not_come_at_the_port(self) -> None:
-        """Services read the lines themselves, without a front."""
+        """Services read the lines themselves, without a proxy."""
         self.trials("--at-port", "torn", "lost", "unread", "doubled")
 
     def test_services_at_the_port(self) -> None:
@@ -244,7 +246,7 @@ class Services(Run):
 
     def test_no_trial_is_left_out(self) -> None:
         with open(tool("test_services"), encoding="utf-8") as file:
-            known = set(re.findall(r'"(\w+)": \(', file.read()))
+            known = set(re.findall(r'"([\w-]+)": \(', file.read()))
         with open(__file__, encoding="utf-8") as file:
-            tried = set(re.findall(r'"(\w+)"', "".join(line for line in file if "self.trials(" in line)))
+            tried = set(re.findall(r'"(\w[\w-]*)"', "".join(line for line in file if "self.trials(" in line)))
         self.assertEqual(tried, known)

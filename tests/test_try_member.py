@@ -87,6 +87,7 @@ class Member:
 
 class Watching(Case):
     takes = 10
+    programs = ("RESETD", "RESETD_PROXY")
 
     def setUp(self) -> None:
         super().setUp()

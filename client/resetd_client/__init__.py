@@ -4,17 +4,17 @@ Which class or function to use
     a service that is one node                       Member: begins, confirms, and says when to talk
     many services of a host behind one process       Gateway there, and Served (or three files) in each
     to look, once                                    Port.show, which returns a View
-    a member's or gateway's orders, at a front       AtFront: no client and no order book, and the wake-ups too
+    a member's or gateway's orders, at the proxy     AtFront: no client and no order book, and the wake-ups too
     to give orders, each carried out once            Orders, with its own client (1 to 16) and a folder
     either of the two, by the address                orders_of(port, client, folder)
     to be woken                                      wakes_of(port, signals, orders): the AtFront itself, a Follower of the file of
-                                                     signals where it is on this host, Watched at a front, else Clock
-    to see each change                               views(port), where the address is a front's
+                                                     signals where it is on this host, Watched at the proxy, else Clock
+    to see each change                               views(port), where the address is one of the proxy
     to retry while the coordinator is away           patiently(call), for calls outside Member and Gateway
     asyncio                                          the module resetd_client.aio
     on the command line                              resetctl
 
-    port = Port("unix:/run/resetd-front/socket")     # or HOST:PORT, tls:HOST:PORT, or several with commas between
+    port = Port("unix:/run/resetd-proxy/order")      # or HOST:PORT, tls:HOST:PORT, or several with commas between
     orders = Orders(port, 3, "/var/lib/check3")      # client 3, whose last order is kept in this folder
     orders.order("reset", node=3)                    # Reply(kind='started', step=17)
     port.show().node(3)                              # Node(node=3, group=1, mode='ready', parent=0, ..)

@@ -1,10 +1,10 @@
-"""The addresses of a coordinator, or of the proxy or front before it, and the connections to them.
+"""The addresses of a coordinator, or of the proxy before it, and the connections to them.
 
 | Written | Means |
 |---|---|
 | `HOST:PORT` | the server's port |
-| `unix:PATH` | a socket of the proxy, or of a front, on this host; PATH is absolute |
-| `tls:HOST:PORT` | a proxy or a front on any host: TLS 1.3, with a certificate at each end |
+| `unix:PATH` | a socket of the proxy on this host; PATH is absolute |
+| `tls:HOST:PORT` | the proxy on any host: TLS 1.3, with a certificate at each end |
 """
 
 from __future__ import annotations
@@ -25,22 +25,22 @@ from .errors import BadWords, Unreadable, Untrusted
 CONNECT_SECONDS = 5.0  # at most, until a connection is made
 SERVER = "127.0.0.1:4170"
 PROXY_SOCKETS = "/run/resetd-proxy"  # the folder of the proxy's sockets, each named after its principal
-FRONT_SOCKET = "/run/resetd-front/socket"
+OLD_SOCKET = "/run/resetd-front/socket"  # another socket of `order`, removed in the next release
 CREDENTIALS: Mapping[str, str] = {
     "certificate": "this client's certificate", "key": "the key of this client's certificate",
-    "authority": "the certificate of the authority that signs the fronts' certificates"}
+    "authority": "the certificate of the authority that signs the hosts' certificates"}
 
 
 class Address(Protocol):
     """One address. Its string form is the text that was parsed."""
 
-    is_front: bool  # whether it is a front, which also reports changes
+    is_front: bool  # whether it is one of the proxy, which also reports changes
 
     def connect(self, seconds: float) -> socket.socket:
         """Opens a connection on which each answer may take this many seconds. Raises Away and Untrusted."""
 
     def refusal(self) -> Untrusted | None:
-        """Returns the reason why a front ends each connection without an answer, if the reason is this client's certificate."""
+        """Returns the reason why the other end closes each connection without an answer, if the reason is this client's certificate."""
 
 
 @dataclass(frozen=True)
@@ -114,8 +114,8 @@ class Tls:
             raise untrusted(self, fault) or away(self, fault) from fault
 
     def refusal(self) -> Untrusted | None:
-        """In TLS 1.3 a front checks the client's certificate after the client considers the handshake complete, and data that
-        the client sends after that may hide the alert. So this connection sends nothing. A front that accepts a certificate
+        """In TLS 1.3 the other end checks the client's certificate after the client considers the handshake complete, and data that
+        the client sends after that may hide the alert. So this connection sends nothing. One that accepts a certificate
         sends a ticket; if it ends the connection without a ticket and without an alert, it has not accepted the certificate."""
         try:
             with self.connect(CONNECT_SECONDS) as connection:
@@ -130,13 +130,13 @@ class Tls:
             return untrusted(self, fault)
         except Away:
             return None
-        return None if is_taken else Untrusted(f"{self}: the front ended the handshake, because it does not accept this client's certificate")
+        return None if is_taken else Untrusted(f"{self}: it ended the handshake, because it does not accept this client's certificate")
 
 
 @dataclass(frozen=True)
 class Credentials:
     """The credentials of a TLS client, as paths of PEM files: its certificate, its key, and the certificate of the authority that
-    signs those of fronts."""
+    signs those of the hosts."""
 
     certificate: str = ""
     key: str = ""
@@ -223,8 +223,8 @@ def host_and_port(text: str) -> tuple[str, int]:
 
 def default_address() -> str:
     """Returns the first socket of these that this process may open: the proxy's socket of this user, of the group that may order
-    (`order`), of the group that may look (`look`), and the front's. If there is none, returns the server's port."""
-    paths = [*(os.path.join(PROXY_SOCKETS, name) for name in (own_name(), "order", "look") if name), FRONT_SOCKET]
+    (`order`), of the group that may look (`look`), and its old path. If there is none, returns the server's port."""
+    paths = [*(os.path.join(PROXY_SOCKETS, name) for name in (own_name(), "order", "look") if name), OLD_SOCKET]
     return next((f"unix:{path}" for path in paths if may_open(path)), SERVER)
 
 

@@ -5,7 +5,7 @@
 
     member = aio.Member(port, orders, 3, begun, begin)
     async with asyncio.TaskGroup() as tasks:
-        tasks.create_task(member.follow(wakes_of(port, signals)))    # at a front: member.follow(orders)
+        tasks.create_task(member.follow(wakes_of(port, signals)))    # at the proxy: member.follow(orders)
         ...
         async with member.in_run(wait=5) as run:         # there is a run, or OutOfRun after 5 s
             writer.write(f"{run.tag}\\n".encode())

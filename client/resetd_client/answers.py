@@ -47,7 +47,7 @@ class Fault(enum.Enum):
     BAD_REQUEST = "BadRequest"
     UNKNOWN_OP = "UnknownOp"
     OUT_OF_MEMORY = "OutOfMemory"
-    NOT_ALLOWED = "NotAllowed"  # from a front whose policy does not allow it to this client
+    NOT_ALLOWED = "NotAllowed"  # from the proxy, whose policy does not allow it to this client
 
 
 MOST_SHOWN = 60  # characters shown of a line that is no coordinator's answer

@@ -1,8 +1,8 @@
-"""A member's orders at a front, and its wake-ups, over one connection.
+"""A member's orders at the proxy, and its wake-ups, over one connection.
 
-The front numbers a member's orders (`confirm` and `reset` without a client and a number). So the member needs no client and
+The proxy numbers a member's orders (`confirm` and `reset` without a client and a number). So the member needs no client and
 no order book, and writes nothing to the disk for an order. Both orders may be sent twice without harm: a confirm names its
-epoch, and so does a reset, which the front passes on only while the node still has the epoch that the sender saw.
+epoch, and so does a reset, which the proxy passes on only while the node still has the epoch that the sender saw.
 """
 
 from __future__ import annotations
@@ -20,17 +20,17 @@ from .view import View
 from .watching import Watched
 
 FIRST_VIEW_SECONDS = 1.0
-LOST_COUNT = frozenset({Refusal.OUT_OF_TURN, Refusal.NUMBER_REUSED})  # the front's own, which the front finds again by itself
+LOST_COUNT = frozenset({Refusal.OUT_OF_TURN, Refusal.NUMBER_REUSED})  # of the proxy's own number, which the proxy finds again by itself
 
 
 class EarlierFront(NotTaken):
-    """The front does not know orders without a number, or resets that name an epoch, because it is older than this library.
-    Needs a person: upgrade the front first."""
+    """The proxy does not know orders without a number, or resets that name an epoch, because it is older than this library.
+    Needs a person: upgrade the proxy first."""
 
     name = "EarlierFront"
 
     def __init__(self) -> None:
-        super().__init__("the front is of an earlier version than this library, and does not know its orders: upgrade the front first")
+        super().__init__("the proxy is of an earlier version than this library, and does not know its orders: upgrade the proxy first")
 
 
 class AtFront:
@@ -38,10 +38,10 @@ class AtFront:
     folder has the member's files, and only one process at a time can hold it."""
 
     def __init__(self, port: Port, folder: str, *, held_seconds: float = 0.0) -> None:
-        """Waits at most `held_seconds` for another process to release the folder. Raises BadWords if an address is not a
-        front's, and Held if the folder is still held."""
+        """Waits at most `held_seconds` for another process to release the folder. Raises BadWords if an address is not
+        one of the proxy, and Held if the folder is still held."""
         if not all(address.is_front for address in port.addresses):
-            raise BadWords("orders without a number need the address of a front (unix:PATH, tls:HOST:PORT)")
+            raise BadWords("orders without a number need an address of the proxy (unix:PATH, tls:HOST:PORT)")
         self.port, self.folder = port, folder
         self._lock = files.hold(folder, held_seconds)
         self._watched = Watched(port)
@@ -60,7 +60,7 @@ class AtFront:
     def order_all(self, orders: Sequence[Order], *, on_view: Callable[[View], None] = lambda view: None,
                   view: View | None = None) -> list[Outcome]:
         """Sends orders together, and returns the outcome of each; a refused order does not stop those after it. Until the
-        answers arrive it calls `on_view` with `view`, and then with each view that the front pushes. After Away, call it
+        answers arrive it calls `on_view` with `view`, and then with each view that the proxy pushes. After Away, call it
         again with the same orders. Raises Away, BadWords for a number out of its range (before anything is sent),
         EarlierFront, Garbled and Untrusted."""
         for order in orders:
@@ -72,7 +72,7 @@ class AtFront:
             reply = reply_of(members_of(line))
         except Refused as refused:
             if refused.refusal in LOST_COUNT:
-                raise Away(f"the front has lost its order number: {refused}") from refused
+                raise Away(f"the proxy has lost its order number: {refused}") from refused
             return refused
         except NotTaken as fault:
             if isinstance(fault, Garbled):
@@ -109,18 +109,18 @@ class AtFront:
 
 def orders_of(port: Port, client: int | None, folder: str, *, held_seconds: float = 0.0,
               told: Callable[[str], None] = warn) -> Orders | AtFront:
-    """Returns an AtFront if every address is a front's, and otherwise the numbered Orders of a client (1 to 16), for a Member
+    """Returns an AtFront if every address is one of the proxy, and otherwise the numbered Orders of a client (1 to 16), for a Member
     or a Gateway. Raises BadWords if a client is needed and is None, and whatever the two classes raise."""
     if all(address.is_front for address in port.addresses):
         return AtFront(port, folder, held_seconds=held_seconds)
     if client is None:
-        raise BadWords("the server's own port needs a client, 1 to 16; only a front (unix:PATH, tls:HOST:PORT) needs none")
+        raise BadWords("the server's own port needs a client, 1 to 16; only the proxy (unix:PATH, tls:HOST:PORT) needs none")
     return Orders(port, client, folder, recovers=True, held_seconds=held_seconds, told=told)
 
 
 def wakes_of(port: Port, signals: str | None = None, orders: Orders | AtFront | None = None) -> Wakes:
-    """Returns the wake-ups for a member: the connection of `orders` if it orders at a front; else a Follower of the file
-    `signals`, if given; else a Watched if the port is a front's; else a Clock."""
+    """Returns the wake-ups for a member: the connection of `orders` if it orders at the proxy; else a Follower of the file
+    `signals`, if given; else a Watched if the port is one of the proxy; else a Clock."""
     if isinstance(orders, AtFront):
         return orders
     if signals is not None:

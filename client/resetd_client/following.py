@@ -23,8 +23,8 @@ LOOK_SECONDS = 30.0  # between two looks, if nothing wakes it
 STOP_SECONDS = 0.1  # between two checks for a `stop`, while it waits for wake-ups that have no descriptor
 FIRST_WAIT = 0.01  # seconds between looks while others are not through: nothing wakes a member when another one confirms
 MOST_WAITS = 20  # at which that wait, longer by 1.3 each time, stops growing: about 2 seconds
-PUSH_SECONDS = 1.0  # to wait for a view that a front pushes after an order
-TOLD_SECONDS = 2.0  # between looks while others are not through, if a front reports each change
+PUSH_SECONDS = 1.0  # to wait for a view that the proxy pushes after an order
+TOLD_SECONDS = 2.0  # between looks while others are not through, if the proxy reports each change
 PAST_SECONDS = 30.0  # for which all answering addresses may show the past, until one reset is asked for to find out
 DOUBT_SECONDS = 0.1  # between a message of another run and the look for it: more such messages cause no more looks
 
@@ -46,7 +46,7 @@ class Following:
 
     def __init__(self, orders: Orders | AtFront, told: Callable[[str], None] = warn) -> None:
         self.orders, self._told = orders, told
-        self._front = orders if isinstance(orders, AtFront) else None
+        self._at_proxy = orders if isinstance(orders, AtFront) else None
         self.past_seconds = PAST_SECONDS
         self._settled = 0  # the number of steps in the last view
         self._bell = Bell()
@@ -119,26 +119,26 @@ class Following:
         """Returns how long to wait for a wake-up. The wait is shorter while the group is not through, because nothing wakes a
         member when another one confirms; it grows each time, because a member that is down delays the others."""
         self._waits = 0 if is_through else min(self._waits + 1, MOST_WAITS)
-        if not is_through and self._front and self._front.descriptors():
+        if not is_through and self._at_proxy and self._at_proxy.descriptors():
             return min(every, TOLD_SECONDS)
         return every if is_through else min(every, FIRST_WAIT * 1.3 ** self._waits)
 
     def _view(self) -> View:
-        """Returns the view that a front has pushed after the last order, unless it was used already; otherwise queries one."""
-        view = self._front.take() if self._front else None
+        """Returns the view that the proxy has pushed after the last order, unless it was used already; otherwise queries one."""
+        view = self._at_proxy.take() if self._at_proxy else None
         if view is None or view.settled < self._settled:
             view = self.port.show()
         self._settled = view.settled
         return view
 
     def _await_view(self) -> None:
-        """Waits, after an order, until a front has pushed a view that includes it."""
-        if self._front:
-            self._front.await_view(PUSH_SECONDS)
+        """Waits, after an order, until the proxy has pushed a view that includes it."""
+        if self._at_proxy:
+            self._at_proxy.await_view(PUSH_SECONDS)
 
     def _confirm(self, epochs: Mapping[int, int], foresee: Callable[[View], None], view: View) -> None:
         """Confirms epochs of nodes, however long the coordinator is away. While the confirms are on their way, it calls
-        `foresee` with the view that led to them, and with each view that a front pushes. It is not an error if an epoch was
+        `foresee` with the view that led to them, and with each view that the proxy pushes. It is not an error if an epoch was
         already confirmed, or if a node was removed or went back meanwhile: the next look finds that. Raises Refused for any
         other refusal, and Stopped."""
         orders: list[Order] = [{"op": "confirm", "node": node, "epoch": epoch} for node, epoch in epochs.items()]
@@ -146,7 +146,7 @@ class Following:
             return
         passed = {Refusal.BAD_EPOCH, Refusal.UNKNOWN_NODE}
         if isinstance(self.orders, AtFront):
-            self._order_at_front(self.orders, orders, passed, foresee, view)
+            self._order_at_proxy(self.orders, orders, passed, foresee, view)
         else:
             self._order(self.orders, orders, passed)
             foresee(view)
@@ -160,7 +160,7 @@ class Following:
         passed = {Refusal.UNKNOWN_NODE, Refusal.BAD_EPOCH}
         if isinstance(self.orders, AtFront):
             seen = {} if epoch is None else {"epoch": epoch}
-            self._order_at_front(self.orders, [{"op": "reset", "node": node, **seen}], passed)
+            self._order_at_proxy(self.orders, [{"op": "reset", "node": node, **seen}], passed)
         else:
             self._order(self.orders, [{"op": "reset", "node": node}], passed)
 
@@ -171,10 +171,10 @@ class Following:
             raise_unless(outcomes, passed)
             orders = orders[len(outcomes):]
 
-    def _order_at_front(self, front: AtFront, orders: list[Order], passed: set[Refusal],
+    def _order_at_proxy(self, at_proxy: AtFront, orders: list[Order], passed: set[Refusal],
                         on_view: Callable[[View], None] = lambda view: None, view: View | None = None) -> None:
         """Carries out orders without numbers. The refusals in `passed` do not stop it."""
-        outcomes = patiently(lambda: self._unless_stopped(lambda sent: front.order_all(sent, on_view=on_view, view=view), orders))
+        outcomes = patiently(lambda: self._unless_stopped(lambda sent: at_proxy.order_all(sent, on_view=on_view, view=view), orders))
         raise_unless(outcomes, passed)
 
     def _unless_stopped(self, call: Callable[[list[Order]], list[Outcome]], orders: list[Order]) -> list[Outcome]:

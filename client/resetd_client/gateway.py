@@ -104,7 +104,7 @@ class Gateway(Following):
 
     def __init__(self, port: Port, orders: Orders | AtFront, members: Mapping[int, Iterable[str]], folder: str, *,
                  word: str = "", told: Callable[[str], None] = warn) -> None:
-        """`orders` is an AtFront if every address of the port is a front's. Raises Unreadable if a file of the gateway can't be
+        """`orders` is an AtFront if every address of the port is one of the proxy. Raises Unreadable if a file of the gateway can't be
         read, and BadWords if the name of a member is invalid."""
         super().__init__(orders, told)
         self.port, self._word, self._boot = port, word, boot_name()
@@ -140,12 +140,12 @@ class Gateway(Following):
             self._written = set()
 
     def _look_at_last(self) -> View | None:
-        """Judges the last view again, if members have begun and the front has pushed no other view. Returns None if that is not
+        """Judges the last view again, if members have begun and the proxy has pushed no other view. Returns None if that is not
         so, or if the coordinator is away."""
-        if self._front is None or self._last is None or not self._front.descriptors():
+        if self._at_proxy is None or self._last is None or not self._at_proxy.descriptors():
             return None
         try:
-            return self._look_from(self._front.take() or self._last)
+            return self._look_from(self._at_proxy.take() or self._last)
         except (Away, Stopped):
             return None
 

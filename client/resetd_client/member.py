@@ -84,7 +84,7 @@ class Member(Following):
                  word: str = "", told: Callable[[str], None] = warn, wakes: Wakes | None = None,
                  every: float = LOOK_SECONDS, on_run: Callable[[Run | None], None] = lambda run: None, work: Work = Work.PARTS,
                  generation: int = 0) -> None:
-        """`orders` is an AtFront if every address of the port is a front's; it also wakes the member if `wakes` is not given.
+        """`orders` is an AtFront if every address of the port is one of the proxy; it also wakes the member if `wakes` is not given.
         `generation` is for the fence: one number for all members, 0 to 8,388,607; after each restore of the coordinator's
         store it must be one that no member had before. Raises Unreadable if a file of the member can't be read, and BadWords
         if `begun` is given for work in memory, or for an invalid generation."""
@@ -99,7 +99,7 @@ class Member(Following):
             self._shelf.keep_no_starts()
         self._begin, self._word, self._on_run = begin, word, on_run
         self._work = work
-        self._wakes, self._every = wakes or self._front or Clock(), every
+        self._wakes, self._every = wakes or self._at_proxy or Clock(), every
         self._thread: threading.Thread | None = None
         self._fault: BaseException | None = None
         self._run: Run | None = None

@@ -171,7 +171,7 @@ class Orders:
 
     def recover(self, most: int = MOST_TRIED, node: int | None = None) -> int:
         """Finds the number of this client's last order, stores it, and returns it. Drops an order that has no answer: `show`
-        shows whether it was carried out. `node` is a node that the client may name, in case a front's policy allows it no
+        shows whether it was carried out. `node` is a node that the client may name, in case the proxy's policy allows it no
         other. Raises CountNotFound, Away, Garbled and Untrusted."""
         with self._turn:
             number = find_count(self.port, self.client, self.number, most, node)

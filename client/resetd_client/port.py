@@ -1,4 +1,4 @@
-"""The administration port of a coordinator, or of the front before it, at one address or at the first of several that answers."""
+"""The administration port of a coordinator, or of the proxy before it, at one address or at the first of several that answers."""
 
 from __future__ import annotations
 
@@ -53,7 +53,7 @@ class Port:
 
     @property
     def is_front(self) -> bool:
-        """Returns whether one of the addresses is a front's, which also reports changes (`Watched`)."""
+        """Returns whether one of the addresses is one of the proxy, which also reports changes (`Watched`)."""
         return any(address.is_front for address in self.addresses)
 
     def ask(self, request: Request) -> dict[str, Any]:

@@ -9,12 +9,12 @@ from typing import Any
 from .finding import Finding
 from .view import Node, Part, View
 
-AUDIT = "/var/log/resetd-front/audit"  # of a front; it has the times
+AUDIT = "/var/log/resetd-proxy/audit"  # it has the times
 Entry = Mapping[str, Any]
 
 
 def of_groups(view: View, audit: str) -> Iterator[Finding]:
-    """Yields, for each group that is not through, what it waits for. `audit` is the path of a front's audit file, which has the
+    """Yields, for each group that is not through, what it waits for. `audit` is the path of the proxy's audit file, which has the
     times."""
     parts = {part.nodes[0].node: part for node in view.nodes if not (part := view.part(node.node)).is_through}
     if not parts:
@@ -23,7 +23,7 @@ def of_groups(view: View, audit: str) -> Iterator[Finding]:
     for part in parts.values():
         yield from of_group(part, entries)
     if fault:
-        yield Finding("group", f"no times, since the audit of a front can't be read: {fault}", left_out="how long a group has waited")
+        yield Finding("group", f"no times, since the proxy's audit can't be read: {fault}", left_out="how long a group has waited")
 
 
 def of_group(part: Part, entries: list[Entry]) -> Iterator[Finding]:
@@ -53,7 +53,7 @@ def sign_of_life(node: Node, entries: list[Entry]) -> str:
 
 
 def name_of(who: object) -> object:
-    """Returns the principal of an entry; for a front, the certificate or the user."""
+    """Returns the principal of an entry; in an audit of an earlier version, the certificate or the user."""
     return who.get("certificate") or who.get("user") if isinstance(who, dict) else who
 
 

@@ -1,4 +1,4 @@
-"""Watching through a front: the front pushes a view at each change, and every 15 seconds so that a dead connection is noticed."""
+"""Watching through the proxy: it pushes a view at each change, and every 15 seconds so that a dead connection is noticed."""
 
 from __future__ import annotations
 
@@ -18,15 +18,15 @@ from .port import Port, Request, line_of
 from .signals import Wake
 from .view import View
 
-SILENCE_SECONDS = 45.0  # after this many seconds without a line, the front or the connection to it counts as dead
-REPLY_SECONDS = 30.0  # a front's time limit for the server's answer
+SILENCE_SECONDS = 45.0  # after this many seconds without a line, the proxy or the connection to it counts as dead
+REPLY_SECONDS = 30.0  # the proxy's time limit for the server's answer
 FIRST_PAUSE, PAUSE = 0.1, 2.0  # seconds between two attempts to connect, at first and at most
 VIEW = '{"accepted":'  # the beginning of a view's line
 MOST_BYTES = 1 << 20  # of a line: one with 64 nodes and 128 links has about ten thousand
 
 
 class Pushed:
-    """One connection to a front, over which the front pushes views."""
+    """One connection to the proxy, over which it pushes views."""
 
     def __init__(self, address: Address, seconds: float) -> None:
         """`seconds` is the time limit for connecting. Raises Away and Untrusted."""
@@ -120,15 +120,15 @@ class Pushed:
 
 
 class Watched:
-    """Wakes its waiters within milliseconds of a change, on any host, if one of a port's addresses is a front's. It reconnects
+    """Wakes its waiters within milliseconds of a change, on any host, if one of a port's addresses is one of the proxy. It reconnects
     by itself, and then assumes that something has changed."""
 
     def __init__(self, port: Port, seconds: float = 5.0) -> None:
-        """`seconds` is the time limit for connecting. Raises BadWords if none of the addresses is a front's."""
+        """`seconds` is the time limit for connecting. Raises BadWords if none of the addresses is one of the proxy."""
         self._newest = port.newest
-        self._fronts = [address for address in port.addresses if address.is_front]
-        if not self._fronts:
-            raise BadWords("no address of a front (unix:PATH, tls:HOST:PORT) to watch")
+        self._addresses = [address for address in port.addresses if address.is_front]
+        if not self._addresses:
+            raise BadWords("no address of the proxy (unix:PATH, tls:HOST:PORT) to watch")
         self._pushed: Pushed | None = None
         self._seconds, self._turn = seconds, 0
         self._pause, self._not_before = FIRST_PAUSE, 0.0
@@ -189,7 +189,7 @@ class Watched:
         if self._pushed is None:
             self._connect(self._seconds)
         if self._pushed is None:
-            raise Away(f"{self._front}: no connection")
+            raise Away(f"{self._address}: no connection")
         return self._pushed
 
     def _take(self, pushed: Pushed, view: View) -> None:
@@ -204,8 +204,8 @@ class Watched:
             self._is_untold = True
 
     @property
-    def _front(self) -> Address:
-        return self._fronts[self._turn % len(self._fronts)]
+    def _address(self) -> Address:
+        return self._addresses[self._turn % len(self._addresses)]
 
     def wait(self, seconds: float) -> Wake:
         """Waits until a view arrives that differs from the last one, at most this many seconds. Never returns END. Raises
@@ -231,8 +231,8 @@ class Watched:
             self._pushed = None
 
     def _wait_for_view(self, seconds: float) -> None:
-        """Waits for a view, at most this many seconds, and keeps the newest. If the front is away or shows the past, the next
-        front is tried."""
+        """Waits for a view, at most this many seconds, and keeps the newest. If the proxy is away or shows the past, the
+        next address is tried."""
         try:
             if self._pushed is None:
                 self._connect(seconds)
@@ -258,15 +258,15 @@ class Watched:
                 self._is_untold, self._new, self._seen = is_untold, new, seen
 
     def _connect(self, seconds: float) -> None:
-        """Connects to the next front, once its pause is over. Waits at most this many seconds."""
+        """Connects to the next address, once its pause is over. Waits at most this many seconds."""
         left = self._not_before - time.monotonic()
         if left > 0:
             time.sleep(max(0.0, min(left, seconds)))
         if time.monotonic() >= self._not_before:
-            self._pushed = Pushed(self._front, self._seconds)
+            self._pushed = Pushed(self._address, self._seconds)
 
     def _put_off(self) -> None:
-        """Records that the front was away. The next one is tried after a growing pause, and its first view counts as new."""
+        """Records that the proxy was away. The next address is tried after a growing pause, and its first view counts as new."""
         self._turn += 1
         self._seen = self._new = None
         self._is_untold = False
@@ -284,13 +284,13 @@ def view_of(line: str, where: str) -> View:
 
 
 def views(port: Port, seconds: float = 5.0) -> Iterator[View]:
-    """Yields the views that a front at one of the port's addresses pushes over one connection: the present view, and one at
+    """Yields the views that the proxy at one of the port's addresses pushes over one connection: the present view, and one at
     each change. Raises Away when the connection ends, or can't be opened within this many seconds; NotTaken; Untrusted; and
-    BadWords if none of the addresses is a front's."""
-    fronts = [address for address in port.addresses if address.is_front]
-    if not fronts:
-        raise BadWords("no address of a front (unix:PATH, tls:HOST:PORT) to watch")
-    pushed = Pushed(fronts[0], seconds)
+    BadWords if none of the addresses is one of the proxy."""
+    proxies = [address for address in port.addresses if address.is_front]
+    if not proxies:
+        raise BadWords("no address of the proxy (unix:PATH, tls:HOST:PORT) to watch")
+    pushed = Pushed(proxies[0], seconds)
     try:
         seen: View | None = None
         while not pushed.is_over:
@@ -298,6 +298,6 @@ def views(port: Port, seconds: float = 5.0) -> Iterator[View]:
                 if view != seen:
                     yield view
                 seen = view
-        raise Away(f"{fronts[0]}: it ended the connection")
+        raise Away(f"{proxies[0]}: it ended the connection")
     finally:
         pushed.close()

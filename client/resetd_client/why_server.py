@@ -28,7 +28,7 @@ CONDITIONS = {
 
 def of_address(text: str, seconds: float, path: str, audit: str = AUDIT) -> Iterator[Finding]:
     """Reports what listens at an address, whether a server could listen there, whether a coordinator there has the store in
-    this file, and which members its groups wait for, with the times from a front's audit file."""
+    this file, and which members its groups wait for, with the times from the proxy's audit file."""
     yield from of_network(path)
     try:
         host, port = host_and_port(text)

@@ -1,6 +1,6 @@
 """A page in a browser that shows the nodes, the links and resets in progress as they change: `resetd-page --help`.
 
-It is one more client of a front, one that needs no right but `show` and `watch`, and it sends no orders.
+It is one more client of the proxy, one that needs no right but `show` and `watch`, and it sends no orders.
 """
 
 import os

@@ -15,10 +15,10 @@ from .state import State
 
 ABOUT = """Shows the nodes, the links and resets in progress on a page for browsers, read-only, as they change.
 
-It is a client of a front that may `show` and `watch`, and sends no orders. It needs Debian's python3-aiohttp. Put a proxy with authentication
+It is a client of resetd-proxy that may `show` and `watch`, and sends no orders. It needs Debian's python3-aiohttp. Put a web proxy with authentication
 before it for people on other hosts, or use `ssh -L`.
 
-Exit statuses: 0 stopped; 1 it can't listen, or an address is not a front's; 2 wrong arguments."""
+Exit statuses: 0 stopped; 1 it can't listen, or an address is not one of resetd-proxy; 2 wrong arguments."""
 
 
 class Arguments(argparse.Namespace):
@@ -33,11 +33,11 @@ class Arguments(argparse.Namespace):
 def read_arguments() -> Arguments:
     parser = argparse.ArgumentParser(prog="resetd-page", description=ABOUT, formatter_class=argparse.RawDescriptionHelpFormatter)
     parser.add_argument("--address", required=True, metavar="ADDRESS",
-                        help="unix:PATH or tls:HOST:PORT of a front; tls: takes its certificate from RESETD_CERTIFICATE, RESETD_KEY, RESETD_AUTHORITY or RESETD_TLS")
+                        help="unix:PATH or tls:HOST:PORT of resetd-proxy; tls: takes its certificate from RESETD_CERTIFICATE, RESETD_KEY, RESETD_AUTHORITY or RESETD_TLS")
     parser.add_argument("--listen", default="127.0.0.1:4173", metavar="ADDRESS",
                         help="unix:PATH (mode 0660), HOST:PORT of the loopback, or systemd: the socket that it passes (%(default)s)")
     parser.add_argument("--host", action="append", default=[], metavar="NAME", help="a name of the page in the Host header, beside localhost; may be repeated")
-    parser.add_argument("--audit", default="", metavar="FILE", help="the front's audit file, to show the last orders too")
+    parser.add_argument("--audit", default="", metavar="FILE", help="the proxy's audit file, to show the last orders too")
     return parser.parse_args(namespace=Arguments())
 
 
@@ -47,7 +47,7 @@ def main() -> int:
     try:
         port = Port(arguments.address)
         if not port.is_front:
-            raise BadWords(f"{arguments.address}: not a front's address (unix:PATH, tls:HOST:PORT)")
+            raise BadWords(f"{arguments.address}: not an address of the proxy (unix:PATH, tls:HOST:PORT)")
         asyncio.run(serve(arguments, port))
     except (BadListener, BadWords, Unreadable, OSError) as fault:
         print(f"resetd-page: {fault}", file=sys.stderr)
@@ -58,7 +58,7 @@ def main() -> int:
 
 
 async def serve(arguments: Arguments, port: Port) -> None:
-    """Serves, and follows the front in another thread. Raises BadListener and OSError."""
+    """Serves, and follows the proxy in another thread. Raises BadListener and OSError."""
     state = State(Recent(arguments.audit) if arguments.audit else None)
     server, loop = Server(state, arguments.host), asyncio.get_running_loop()
     print(f"resetd-page: the page is at {await server.listen(arguments.listen)}", file=sys.stderr, flush=True)

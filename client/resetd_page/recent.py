@@ -9,7 +9,7 @@ from resetd_client.control.audit import entry_of
 
 MOST_ORDERS = 20
 MOST_BYTES = 32_768  # that are read from the file's end
-EVENTS = ("answered", "unanswered", "denied")
+EVENTS = ("answered", "denied")
 
 
 class Recent:

@@ -1,4 +1,4 @@
-"""The content of the page: the last view that a front has pushed, and since when each node has its row."""
+"""The content of the page: the last view that the proxy has pushed, and since when each node has its row."""
 
 from __future__ import annotations
 
@@ -26,8 +26,8 @@ class State:
         self._recent = recent
 
     def follow(self, port: Port, changed: Callable[[], None]) -> None:
-        """Takes each view that a front pushes, and calls `changed` after each change, until its thread ends with the process.
-        Raises BadWords if no address of the port is a front's."""
+        """Takes each view that the proxy pushes, and calls `changed` after each change, until its thread ends with the process.
+        Raises BadWords if no address of the port is one of the proxy."""
         while True:
             try:
                 for view in views(port):

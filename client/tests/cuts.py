@@ -154,7 +154,7 @@ def in_memory(without: str) -> Iterator[None]:
         yield
 
 
-class Front(AtFront):
+class Proxy(AtFront):
     """Carries out all orders, and pushes nothing."""
 
     def __init__(self, disk: Disk) -> None:
@@ -257,7 +257,7 @@ class Life:
         steps = self.rng.randint(0, 14) if self.is_calm and place == 0 else self.rng.randint(0, 40)
         self.disk.left = self.rng.choice([steps, steps, 1 << 30]) if not (self.is_calm and place == 0) else steps
         try:
-            member = Member(cast(Port, self.looks), Front(self.disk), 1, self.start[0] if self.start else None, self.begin,
+            member = Member(cast(Port, self.looks), Proxy(self.disk), 1, self.start[0] if self.start else None, self.begin,
                             told=lambda text: None, work=self.work, on_run=self.note_run)
             leave_out(self.disk.without, member._shelf)
             for _ in range(self.rng.randint(1, 8)):

@@ -1,4 +1,4 @@
-"""Does what a front does for its clients, before a coordinator in memory: over a socket of this host or TLS, and with pushed
+"""Does what a proxy does for its clients, before a coordinator in memory: over a socket of this host or TLS, and with pushed
 views."""
 
 from __future__ import annotations
@@ -15,7 +15,7 @@ from typing import Any
 from fake import Fake
 from wire import SOMEBODY
 
-SUBJECTS = {"authority": "CA:TRUE", "front": "", "client": "", "foreign": "CA:TRUE", "stranger": ""}  # and their types
+SUBJECTS = {"authority": "CA:TRUE", "proxy": "", "client": "", "foreign": "CA:TRUE", "stranger": ""}  # and their types
 
 
 class Pushing:
@@ -129,15 +129,15 @@ def name_in(connection: ssl.SSLSocket) -> str:
 
 
 def make_certificates(folder: str) -> None:
-    """Makes NAME.pem and NAME.key for an authority, a front and a client that it has signed, and for a foreign authority with a
+    """Makes NAME.pem and NAME.key for an authority, a proxy and a client that it has signed, and for a foreign authority with a
     stranger that it has signed."""
-    signers = {"front": "authority", "client": "authority", "stranger": "foreign"}
+    signers = {"proxy": "authority", "client": "authority", "stranger": "foreign"}
     for name, what in SUBJECTS.items():
         signed_by = signers.get(name)
         ran("openssl", "req", "-x509", "-newkey", "ec", "-pkeyopt", "ec_paramgen_curve:prime256v1", "-nodes", "-days", "2",
             "-keyout", f"{folder}/{name}.key", "-out", f"{folder}/{name}.pem", "-subj", f"/CN={name}",
             "-addext", f"basicConstraints=critical,{what or 'CA:FALSE'}",
-            *(["-addext", "subjectAltName=IP:127.0.0.1"] if name == "front" else []),
+            *(["-addext", "subjectAltName=IP:127.0.0.1"] if name == "proxy" else []),
             *(["-CA", f"{folder}/{signed_by}.pem", "-CAkey", f"{folder}/{signed_by}.key"] if signed_by else []))
 
 
@@ -154,8 +154,8 @@ def of_unix(fake: Fake, path: str) -> Pushing:
     return Pushing(fake, listener)
 
 
-def context_of(folder: str, name: str = "front") -> ssl.SSLContext:
-    """Returns the TLS context of a front that shows this certificate, and requires one signed by the authority."""
+def context_of(folder: str, name: str = "proxy") -> ssl.SSLContext:
+    """Returns the TLS context of a proxy that shows this certificate, and requires one signed by the authority."""
     context = ssl.SSLContext(ssl.PROTOCOL_TLS_SERVER)
     context.minimum_version = ssl.TLSVersion.TLSv1_3
     context.load_cert_chain(os.path.join(folder, f"{name}.pem"), os.path.join(folder, f"{name}.key"))
@@ -164,7 +164,7 @@ def context_of(folder: str, name: str = "front") -> ssl.SSLContext:
     return context
 
 
-def of_tls(fake: Fake, folder: str, name: str = "front") -> tuple[Pushing, str]:
-    """Starts a front that shows this certificate. Returns the front and its address."""
+def of_tls(fake: Fake, folder: str, name: str = "proxy") -> tuple[Pushing, str]:
+    """Starts a proxy that shows this certificate. Returns the proxy and its address."""
     listener = socket.create_server(("127.0.0.1", 0))
     return Pushing(fake, listener, context_of(folder, name)), f"tls:127.0.0.1:{listener.getsockname()[1]}"

@@ -1,4 +1,4 @@
-"""Addresses of a front: a socket of this host, and TLS with a certificate at each end."""
+"""Addresses of a proxy: a socket of this host, and TLS with a certificate at each end."""
 
 from __future__ import annotations
 
@@ -23,7 +23,7 @@ from resetd_client.control import main
 
 class Words(unittest.TestCase):
     def test_what_an_address_is(self) -> None:
-        text = "127.0.0.1:4170,unix:/run/front, tls:host.example:443,host:1"
+        text = "127.0.0.1:4170,unix:/run/proxy, tls:host.example:443,host:1"
         found = addresses_of(text, Credentials())
         self.assertEqual(",".join(map(str, found)), text.replace(" ", ""))
         self.assertEqual([each.is_front for each in found], [False, True, True, False])
@@ -40,9 +40,9 @@ class Sockets(Case):
     def setUp(self) -> None:
         super().setUp()
         self.server.ring(2)
-        self.path = f"{self.folder}/front"
-        self.front = of_unix(self.server, self.path)
-        self.addCleanup(self.front.close)
+        self.path = f"{self.folder}/proxy"
+        self.proxy = of_unix(self.server, self.path)
+        self.addCleanup(self.proxy.close)
 
     def test_it_is_asked_as_a_port_is(self) -> None:
         port = Port(f"unix:{self.path}", 30)
@@ -77,7 +77,7 @@ class Default(Case):
         os.chmod(reachable.name, 0o755)
         self.sockets = f"{reachable.name}/resetd-proxy"
         os.mkdir(self.sockets)
-        for name, value in (("PROXY_SOCKETS", self.sockets), ("FRONT_SOCKET", f"{self.folder}/front")):
+        for name, value in (("PROXY_SOCKETS", self.sockets), ("OLD_SOCKET", f"{self.folder}/old")):
             patched = mock.patch(f"resetd_client.address.{name}", value)
             patched.start()
             self.addCleanup(patched.stop)
@@ -97,7 +97,7 @@ class Default(Case):
         self.assertEqual(default_address(), SERVER)
         os.rmdir(f"{self.sockets}/{user}")
         self.listen(f"{self.sockets}/somebody")
-        for path in (f"{self.folder}/front", f"{self.sockets}/look", f"{self.sockets}/order", f"{self.sockets}/{user}"):
+        for path in (f"{self.folder}/old", f"{self.sockets}/look", f"{self.sockets}/order", f"{self.sockets}/{user}"):
             address = self.listen(path)
             self.assertEqual(default_address(), address)
 
@@ -116,8 +116,8 @@ class Default(Case):
 
     def test_resetctl_and_a_port_take_it(self) -> None:
         self.server.ring(2)
-        front = of_unix(self.server, f"{self.sockets}/order")
-        self.addCleanup(front.close)
+        proxy = of_unix(self.server, f"{self.sockets}/order")
+        self.addCleanup(proxy.close)
         with mock.patch.dict(os.environ, {"RESETD_ADDRESS": ""}):
             self.assertEqual(main(["--quiet", "--state", self.folder, "reset", "1"]), 0)
         self.assertEqual(self.server.row(1)[1], 1)
@@ -141,26 +141,26 @@ class Certificates(Case):
     def setUp(self) -> None:
         super().setUp()
         self.server.ring(2)
-        self.front, self.address = of_tls(self.server, self.pem)
-        self.addCleanup(self.front.close)
+        self.proxy, self.address = of_tls(self.server, self.pem)
+        self.addCleanup(self.proxy.close)
 
     def test_it_is_asked_as_a_port_is(self) -> None:
         port = Port(self.address, 30, self.credentials())
         self.assertEqual(len(list(port.ask_many([{"op": "show"}] * 70))), 70)
-        self.assertEqual(self.front.names, ["client"])
+        self.assertEqual(self.proxy.names, ["client"])
 
-    def test_a_front_that_the_authority_has_not_signed(self) -> None:
+    def test_a_proxy_that_the_authority_has_not_signed(self) -> None:
         stranger, address = of_tls(self.server, self.pem, "stranger")
         self.addCleanup(stranger.close)
         with self.assertRaisesRegex(Untrusted, "its certificate is not accepted"):
             Port(address, 30, self.credentials()).show()
         self.assertEqual(self.server.seen, [])
 
-    def test_a_front_of_another_name(self) -> None:
+    def test_a_proxy_of_another_name(self) -> None:
         with self.assertRaisesRegex(Untrusted, "its certificate is not accepted"):
             Port(self.address.replace("127.0.0.1", "localhost"), 30, self.credentials()).show()
 
-    def test_a_client_that_the_front_does_not_take(self) -> None:
+    def test_a_client_that_the_proxy_does_not_take(self) -> None:
         for _ in range(3):
             with self.assertRaisesRegex(Untrusted, "does not accept this client's certificate"):
                 Port(self.address, 30, self.credentials("stranger")).show()
@@ -174,7 +174,7 @@ class Certificates(Case):
             asyncio.get_running_loop().set_exception_handler(lambda *_: None)
             async with await asyncio.start_server(lambda _, writer: writer.close(), sock=listener, ssl=context_of(self.pem)):
                 await asyncio.to_thread(stop.wait)
-            await asyncio.sleep(0.1)  # the connection that the front has ended is closed
+            await asyncio.sleep(0.1)  # the connection that the proxy has ended is closed
 
         thread = threading.Thread(target=lambda: asyncio.run(serve()), daemon=True)
         thread.start()
@@ -187,8 +187,8 @@ class Certificates(Case):
         stop.set()
         thread.join(60)
 
-    def test_a_front_that_takes_a_client_and_ends_is_away(self) -> None:
-        self.front.ends = True
+    def test_a_proxy_that_takes_a_client_and_ends_is_away(self) -> None:
+        self.proxy.ends = True
         for _ in range(3):
             self.assertRaises(Away, Port(self.address, 30, self.credentials()).show)
 
@@ -198,9 +198,9 @@ class Certificates(Case):
         for credentials in wrong:
             with self.subTest(credentials=credentials):
                 self.assertRaises(Untrusted, Port(self.address, 30, credentials).show)
-        self.assertEqual(self.front.connections, 0)
+        self.assertEqual(self.proxy.connections, 0)
 
-    def test_a_front_that_is_not_there(self) -> None:
+    def test_a_proxy_that_is_not_there(self) -> None:
         self.assertRaises(Away, Port("tls:127.0.0.1:1", 30, self.credentials()).show)
 
     def test_where_credentials_are_found(self) -> None:

@@ -48,7 +48,7 @@ class Bash(unittest.TestCase):
 
     def test_values_are_not_commands(self) -> None:
         """In bash an address consists of several words, because bash splits at a colon and at an equals sign."""
-        for before in (("--client", "3"), ("--address", "127.0.0.1", ":", "4170"), ("--address", "=", "unix", ":", "/run/front"),
+        for before in (("--client", "3"), ("--address", "127.0.0.1", ":", "4170"), ("--address", "=", "unix", ":", "/run/proxy"),
                        ("--address", "a", ":", "1,b", ":", "2"), ("--quiet",), ("--state", "show")):
             with self.subTest(before=before):
                 self.assertEqual(self.offered(*before, "show", "--j"), {"--json"})

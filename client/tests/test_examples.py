@@ -21,11 +21,11 @@ def ran(*words: str) -> tuple[int, str, str]:
 
 class Lines(Case):
     def test_ask(self) -> None:
-        """Tries the exit statuses of an example, and the address of a front."""
-        front = of_unix(self.server, f"{self.folder}/front")
-        self.addCleanup(front.close)
+        """Tries the exit statuses of an example, and the address of a proxy."""
+        proxy = of_unix(self.server, f"{self.folder}/proxy")
+        self.addCleanup(proxy.close)
         show, fly = '{"op":"show"}', '{"op":"fly"}'
-        for address in (self.server.address, f"unix:{self.folder}/front"):
+        for address in (self.server.address, f"unix:{self.folder}/proxy"):
             status, out, told = ran(f"{EXAMPLES}/ask", address, show)
             self.assertEqual((status, out.count('"settled"'), told), (0, 1, ""))
             self.assertEqual(ran(f"{EXAMPLES}/ask", address, fly)[:2], (1, '{"fault":"UnknownOp"}\n'))

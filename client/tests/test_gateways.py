@@ -565,13 +565,13 @@ class AtAFront(Case):
     def setUp(self) -> None:
         super().setUp()
         self.server.ring(3)
-        path = f"{self.folder}/front"
-        self.front = of_unix(self.server, path)
-        self.addCleanup(self.front.close)
-        self.at_front = AtFront(Port(f"unix:{path}", 30), f"{self.folder}/members")
-        self.addCleanup(self.at_front.close)
-        self.gateway = Gateway(self.at_front.port, self.at_front, {node: [f"{node}"] for node in (1, 2, 3)}, f"{self.folder}/members", told=self.told.append)
-        self.following = threading.Thread(target=self.gateway.follow, args=(self.at_front, 3_600.0), daemon=True)
+        path = f"{self.folder}/proxy"
+        self.proxy = of_unix(self.server, path)
+        self.addCleanup(self.proxy.close)
+        self.at_proxy = AtFront(Port(f"unix:{path}", 30), f"{self.folder}/members")
+        self.addCleanup(self.at_proxy.close)
+        self.gateway = Gateway(self.at_proxy.port, self.at_proxy, {node: [f"{node}"] for node in (1, 2, 3)}, f"{self.folder}/members", told=self.told.append)
+        self.following = threading.Thread(target=self.gateway.follow, args=(self.at_proxy, 3_600.0), daemon=True)
         self.following.start()
         self.addCleanup(self.end)
 
@@ -593,15 +593,15 @@ class AtAFront(Case):
         self.expect(lambda: len({each.tag() for each in served}) == 1 and served[0].tag() is not None)
 
     def test_resets(self) -> None:
-        """Its members are confirmed together, and their files cause no request to the server: the front pushes each change."""
+        """Its members are confirmed together, and their files cause no request to the server: the proxy pushes each change."""
         self.begin_all(1)
         shows = [request for request in self.server.seen if request["op"] == "show"]
         for epoch in (2, 3):
             self.server.by_somebody("reset", node=2)
-            self.front.push()
+            self.proxy.push()
             self.begin_all(epoch)
         self.assertEqual([request for request in self.server.seen if request["op"] == "show"], shows)
-        self.assertEqual([order["node"] for order in self.front.ordered if order["op"] == "confirm"], [1, 2, 3] * 3)
+        self.assertEqual([order["node"] for order in self.proxy.ordered if order["op"] == "confirm"], [1, 2, 3] * 3)
         self.assertFalse(os.path.exists(f"{self.folder}/members/order.json"))
 
     def test_syncs_of_a_reset(self) -> None:
@@ -610,7 +610,7 @@ class AtAFront(Case):
         synced = list[int]()
         with mock.patch("os.fsync", side_effect=synced.append), mock.patch("os.fdatasync", side_effect=synced.append):
             self.server.by_somebody("reset", node=2)
-            self.front.push()
+            self.proxy.push()
             self.begin_all(2)
         self.assertEqual(len(synced), 3)
 

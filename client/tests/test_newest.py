@@ -119,8 +119,8 @@ class Silent:
         return Wake.QUIET
 
 
-class Fronts(Case):
-    """The same for fronts that push views."""
+class Proxies(Case):
+    """The same for proxies that push views."""
 
     def setUp(self) -> None:
         super().setUp()
@@ -130,9 +130,9 @@ class Fronts(Case):
             self.addCleanup(server.close)
             server.ring(2)
         self.new.by_somebody("reset", node=1)
-        self.fronts = [of_unix(server, path) for server, path in zip((self.old, self.new), self.paths)]
-        for front in self.fronts:
-            self.addCleanup(front.close)
+        self.proxies = [of_unix(server, path) for server, path in zip((self.old, self.new), self.paths)]
+        for proxy in self.proxies:
+            self.addCleanup(proxy.close)
 
     def test_an_older_view_is_not_taken(self) -> None:
         port = Port(f"unix:{self.paths[1]},unix:{self.paths[0]}", 30)
@@ -140,14 +140,14 @@ class Fronts(Case):
         self.addCleanup(watched.close)
         self.assertIs(watched.wait(60), Wake.CAME)
         self.assertEqual(epoch_of(watched.take()), 1)
-        self.fronts[1].drop()
+        self.proxies[1].drop()
         self.assertIs(watched.wait(60), Wake.CAME)  # it has skipped the old one
         self.assertEqual(epoch_of(watched.take()), 1)
 
     def test_a_look_is_no_older_than_a_view_that_was_pushed(self) -> None:
-        """Looks and pushed views share one count: after the new front has pushed a view, a look finds the old front, which
+        """Looks and pushed views share one count: after the new proxy has pushed a view, a look finds the old proxy, which
         returned later."""
-        self.fronts[0].close()
+        self.proxies[0].close()
         with AtFront(Port(f"unix:{self.folder}/later,unix:{self.paths[1]}", 30), f"{self.folder}/m") as orders:
             self.assertIs(orders.wait(60), Wake.CAME)
             self.addCleanup(of_unix(self.old, f"{self.folder}/later").close)

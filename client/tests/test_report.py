@@ -70,7 +70,7 @@ class Report(Case):
         self.assertIn(f"held by process {self.server.process.pid}".encode(), found["why.txt"])
         self.assertIn(f"{checksum_of(PROGRAM)}  {PROGRAM}, run by process {self.server.process.pid}".encode(), found["versions.txt"])
         self.assertIn(b"control/report.py\n", found["versions.txt"])
-        self.assertIn(b"--unit other --unit other-front --unit other-health\n", found["journal.txt"])
+        self.assertIn(b"--unit other --unit other-proxy --unit other-health\n", found["journal.txt"])
         self.assertIn(b"Max open files", found["process.txt"])
         self.assertIn(mount_of(self.store).encode(), found["filesystem.txt"])
 

@@ -1,4 +1,4 @@
-"""`resetctl` for scripts and for looking back: JSON, topologies without a server, measures, the front's audit file."""
+"""`resetctl` for scripts and for looking back: JSON, topologies without a server, measures, the proxy's audit file."""
 
 from __future__ import annotations
 

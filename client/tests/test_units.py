@@ -12,7 +12,9 @@ import unittest
 
 from case import ROOT
 from resetd_client import View
+from resetd_client.address import OLD_SOCKET, PROXY_SOCKETS
 from resetd_client.health import metrics
+from resetd_client.waiting import AUDIT
 
 EXAMPLES = os.path.join(ROOT, "examples")
 # The alerts that the rules should raise for ten minutes of metrics: each alert fires in its own case, and none in the last cases.
@@ -67,20 +69,19 @@ class Units(unittest.TestCase):
             self.assertEqual(self.unit(name)["Unit"]["OnFailure"], "resetd-alert@%n.service")
         self.assertTrue(self.unit("resetd-alert@.service")["Service"]["ExecStart"])
 
-    def test_four_units_share_a_network_that_nobody_else_has(self) -> None:
-        """Each names the three others: a network is named after the unit that began it."""
-        names = {"resetd.service", "resetd-proxy.service", "resetd-front.service", "resetd-health.service"}
+    def test_three_units_share_a_network_that_nobody_else_has(self) -> None:
+        """Each names the two others: a network is named after the unit that began it."""
+        names = {"resetd.service", "resetd-proxy.service", "resetd-health.service"}
         for name in names:
             unit = self.unit(name)
             self.assertEqual(unit["Service"]["PrivateNetwork"], "yes", name)
             self.assertEqual(set(unit["Unit"]["JoinsNamespaceOf"].split()), names - {name})
 
-    def test_members_and_other_hosts_come_through_the_front(self) -> None:
-        front, passed = self.unit("resetd-front.service")["Service"], self.unit("resetd-front-tls.socket")["Socket"]
-        self.assertIn(" unix:/run/resetd-front/socket ", self.unit("resetd-member@.service")["Service"]["ExecStart"])
-        self.assertIn(" --socket /run/resetd-front/socket --group resetd-look,resetd --policy /etc/resetd/front.toml ",
-                      re.sub(" +", " ", front["ExecStart"]))
-        self.assertEqual((passed["Service"], passed["FileDescriptorName"]), ("resetd-front.service", "tls"))
+    def test_members_come_through_the_proxy(self) -> None:
+        self.assertIn(f" unix:{PROXY_SOCKETS}/order ", self.unit("resetd-member@.service")["Service"]["ExecStart"])
+
+    def test_the_old_socket_is_one_of_order(self) -> None:
+        self.assertEqual(re.findall("^ListenStream=(.*)$", shipped("resetd-proxy-order.socket"), re.MULTILINE), [f"{PROXY_SOCKETS}/order", OLD_SOCKET])
 
     def test_each_socket_of_the_proxy_is_its_principals(self) -> None:
         """The names are those that the proxy is passed, and only the named can open the sockets."""
@@ -106,7 +107,7 @@ class Units(unittest.TestCase):
     @unittest.skipUnless(shutil.which("systemd-analyze"), "it needs systemd-analyze: no unit is verified")
     def test_the_units_are_understood(self) -> None:
         names = [name for name in os.listdir(EXAMPLES) if name.endswith((".service", ".timer", ".socket"))]
-        self.assertLessEqual({"resetd.service", "resetd-front.service", "resetd-proxy.service", "resetd-proxy@.socket", "resetd-health.timer", "resetd-member@.service"},
+        self.assertLessEqual({"resetd.service", "resetd-proxy.service", "resetd-proxy@.socket", "resetd-health.timer", "resetd-member@.service"},
                              {*names})
         for name in names:
             with open(os.path.join(self.folder, name), "w", encoding="utf-8") as file:
@@ -139,25 +140,19 @@ class Units(unittest.TestCase):
         with open(f"{signals}.1", encoding="utf-8") as file:
             self.assertEqual(file.read(), "signal 1 1\n")
 
-
     @unittest.skipUnless(shutil.which("logrotate"), "it needs logrotate: nothing is rotated")
     def test_the_audit_is_rotated(self) -> None:
-        """It is renamed: the front opens it again when it is signalled, and the proxy notices by itself."""
-        audit, told = (os.path.join(self.folder, name) for name in ("audit", "told"))
-        text = shipped("resetd.logrotate").replace("/var/log/resetd-front/audit", audit).replace("su resetd resetd\n", "\n")
-        proxys = os.path.join(self.folder, "proxy", "audit")
-        os.mkdir(os.path.dirname(proxys))
+        """It is renamed, which the proxy notices by itself."""
+        audit = os.path.join(self.folder, "audit")
         with open(os.path.join(self.folder, "conf"), "w", encoding="utf-8") as file:
-            file.write(text.replace("systemctl try-reload-or-restart resetd-front.service", f"touch {told}").replace("/var/log/resetd-proxy/audit", proxys))
+            file.write(shipped("resetd.logrotate").replace(AUDIT, audit).replace("su resetd resetd\n", "\n"))
         os.chmod(os.path.join(self.folder, "conf"), 0o644)
-        for name in (audit, proxys):
-            with open(name, "w", encoding="utf-8") as file:
-                file.write("{}\n")
+        with open(audit, "w", encoding="utf-8") as file:
+            file.write("{}\n")
         done = subprocess.run(["logrotate", "--force", "--state", f"{self.folder}/state", f"{self.folder}/conf"],
                               capture_output=True, encoding="utf-8", check=False)
         self.assertEqual((done.returncode, done.stderr), (0, ""))
-        self.assertEqual((os.path.exists(audit), os.path.exists(f"{audit}.1"), os.path.exists(told)), (False, True, True))
-        self.assertEqual((os.path.exists(proxys), os.path.exists(f"{proxys}.1")), (False, True))
+        self.assertEqual((os.path.exists(audit), os.path.exists(f"{audit}.1")), (False, True))
 
 
 class Table(unittest.TestCase):

@@ -11,8 +11,8 @@ from resetd_client import Gateway, keep
 
 # The first two columns of a row, and its tests: a file, and the names in it.
 ROWS = {
-    ("server, front", "library"): ("client/tests_front/test_orders.py", "test_the_library_orders_through_it"),
-    ("library", "server, front"): ("client/tests/test_at_front.py", "test_a_front_of_an_earlier_version"),
+    ("server, proxy", "library"): ("client/tests_proxy/test_orders.py", "test_the_library_orders_through_it"),
+    ("library", "server, proxy or front"): ("client/tests/test_at_proxy.py", "test_a_proxy_of_an_earlier_version"),
     ("library", "its own files"): (
         "client/tests/test_starts.py", "test_a_start_that_had_not_talked_goes_on", "test_a_start_that_talked_goes_on",
         "test_one_whose_party_an_earlier_version_fixed_has_none"),

@@ -1,4 +1,4 @@
-"""Watching through a front, instead of polling."""
+"""Watching through a proxy, instead of polling."""
 
 from __future__ import annotations
 
@@ -18,9 +18,9 @@ class Told(Case):
     def setUp(self) -> None:
         super().setUp()
         self.server.ring(1)
-        self.path = f"{self.folder}/front"
-        self.front = of_unix(self.server, self.path)
-        self.addCleanup(self.front.close)
+        self.path = f"{self.folder}/proxy"
+        self.proxy = of_unix(self.server, self.path)
+        self.addCleanup(self.proxy.close)
         self.port = Port(f"unix:{self.path}", 30)
         self.watched = Watched(self.port)
         self.addCleanup(self.watched.close)
@@ -28,13 +28,13 @@ class Told(Case):
     def test_it_wakes_at_once_and_at_each_change(self) -> None:
         """It does not wake when the same view is pushed again."""
         self.assertIs(self.watched.wait(SECONDS), Wake.CAME)
-        self.front.push()
+        self.proxy.push()
         self.assertIs(self.watched.wait(0.3), Wake.QUIET)
         for _ in range(3):
             self.server.reset(1)
-            self.front.push()
+            self.proxy.push()
             self.assertIs(self.watched.wait(SECONDS), Wake.CAME)
-        self.assertEqual(self.front.connections, 1)
+        self.assertEqual(self.proxy.connections, 1)
 
     def test_it_says_what_to_wait_for(self) -> None:
         self.assertIsNone(self.watched.descriptors())
@@ -43,10 +43,10 @@ class Told(Case):
         descriptors = self.watched.descriptors() or []
         self.assertEqual(select.select(descriptors, [], [], 0)[0], [])
         self.server.reset(1)
-        self.front.push()
+        self.proxy.push()
         self.assertEqual(select.select(descriptors, [], [], SECONDS)[0], descriptors)
         self.assertIs(self.watched.wait(0), Wake.CAME)
-        self.front.drop()
+        self.proxy.drop()
         self.assertEqual(select.select(descriptors, [], [], SECONDS)[0], descriptors)
         self.assertIs(self.watched.wait(0), Wake.QUIET)
         self.assertIsNone(self.watched.descriptors())
@@ -55,24 +55,24 @@ class Told(Case):
         self.assertIs(self.watched.wait(SECONDS), Wake.CAME)
         for _ in range(50):
             self.server.reset(1)
-            self.front.push()
+            self.proxy.push()
         self.assertIs(self.watched.wait(SECONDS), Wake.CAME)
 
     def test_a_connection_that_ends_is_made_again_and_something_is_new(self) -> None:
         self.assertIs(self.watched.wait(SECONDS), Wake.CAME)
         for _ in range(3):
-            self.front.drop()
+            self.proxy.drop()
             self.assertIs(self.watched.wait(SECONDS), Wake.CAME)
-        self.assertEqual(self.front.connections, 4)
+        self.assertEqual(self.proxy.connections, 4)
 
-    def test_a_front_that_is_away_is_quiet_and_then_there(self) -> None:
+    def test_a_proxy_that_is_away_is_quiet_and_then_there(self) -> None:
         watched = Watched(Port(f"unix:{self.folder}/later", 30))
         self.addCleanup(watched.close)
         self.assertIs(watched.wait(0.3), Wake.QUIET)
         self.addCleanup(of_unix(self.server, f"{self.folder}/later").close)
         self.assertIs(watched.wait(SECONDS), Wake.CAME)
 
-    def test_the_next_front_is_tried(self) -> None:
+    def test_the_next_proxy_is_tried(self) -> None:
         watched = Watched(Port(f"{self.server.address},unix:{self.folder}/none,unix:{self.path}", 30))
         self.addCleanup(watched.close)
         self.assertIs(watched.wait(SECONDS), Wake.CAME)
@@ -81,11 +81,11 @@ class Told(Case):
         self.assertIs(self.watched.wait(SECONDS), Wake.CAME)
         with mock.patch("resetd_client.watching.SILENCE_SECONDS", 1.0):
             self.assertIs(self.watched.wait(SECONDS), Wake.CAME)  # of the next connection
-        self.assertGreater(self.front.connections, 1)
+        self.assertGreater(self.proxy.connections, 1)
 
     def test_what_is_no_view(self) -> None:
         for answer, kind in (('{"fault":"NotAllowed"}', Faulted), ("<!DOCTYPE HTML>", Garbled), ('{"nodes":3}', Garbled)):
-            self.front.answer = answer
+            self.proxy.answer = answer
             with self.subTest(answer=answer):
                 self.assertRaises(kind, self.watched.wait, SECONDS)
 
@@ -93,14 +93,14 @@ class Told(Case):
         pushed = views(self.port)
         self.assertEqual(next(pushed).nodes[0].epoch, 0)
         self.server.reset(1)
-        self.front.push()
-        self.front.push()
+        self.proxy.push()
+        self.proxy.push()
         self.assertEqual(next(pushed).nodes[0].epoch, 1)
-        self.front.drop()
+        self.proxy.drop()
         with self.assertRaises(Away):
             next(pushed)
 
-    def test_without_a_front(self) -> None:
+    def test_without_a_proxy(self) -> None:
         port = Port(self.server.address)
         self.assertRaises(BadWords, Watched, port)
         self.assertRaises(BadWords, next, views(port))
@@ -126,16 +126,16 @@ class Told(Case):
         following = threading.Thread(target=member.follow, args=(self.watched, 3_600.0), daemon=True)
         following.start()
         wait_for([1])
-        self.assertTrue(self.front.wait_for_watchers(1))
+        self.assertTrue(self.proxy.wait_for_watchers(1))
         self.server.by_somebody("reset", node=1)
-        self.front.push()
+        self.proxy.push()
         wait_for([1, 2])
         member.stop()
         following.join(SECONDS)
         self.assertFalse(following.is_alive())
 
     def test_resetctl_watch(self) -> None:
-        """It looks when the front reports a change, and not at intervals."""
+        """It looks when the proxy reports a change, and not at intervals."""
         pictures: list[str] = []
 
         def note(picture: list[str]) -> None:
@@ -144,12 +144,12 @@ class Told(Case):
                 raise KeyboardInterrupt
 
         threading.Thread(target=self.change_behind_the_first_view, daemon=True).start()
-        with mock.patch("resetd_client.control.looks.note", note), mock.patch("resetd_client.control.looks.FRONT_SECONDS", 3_600.0):
+        with mock.patch("resetd_client.control.looks.note", note), mock.patch("resetd_client.control.looks.PROXY_SECONDS", 3_600.0):
             status, _, told = self.run_words("watch", "--for", str(SECONDS), address=f"unix:{self.path}")
         self.assertEqual((status, told), (130, ""), pictures)
         self.assertIn("[·]", pictures[0])
 
     def change_behind_the_first_view(self) -> None:
-        if self.front.wait_for_watchers(1):
+        if self.proxy.wait_for_watchers(1):
             self.server.reset(1)
-            self.front.push()
+            self.proxy.push()

@@ -167,7 +167,7 @@ class Files(Case):
         self.server.by_somebody("confirm", node=1, epoch=1)
         lines = self.why(store, self.server.address, "--audit", f"{self.folder}/none")[1]
         self.assertIn("group    node 2 has not confirmed epoch 1: the 3 nodes of its group wait", lines)
-        self.assertTrue(any("the audit of a front can't be read" in line for line in lines), lines)
+        self.assertTrue(any("the proxy's audit can't be read" in line for line in lines), lines)
         with open(f"{self.folder}/audit", "w", encoding="utf-8") as audit:
             for time, op, node, kind in (("11:01", "confirm", 2, "done"), ("11:02", "reset", 3, "started"), ("11:03", "reset", 3, "joined"), ("11:04", "confirm", 1, "done")):
                 audit.write(json.dumps({"time": time, "event": "answered", "who": {"user": "service"} if node == 2 else "service", "line": {"op": op, "node": node},

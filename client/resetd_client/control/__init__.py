@@ -33,8 +33,8 @@ def parser() -> argparse.ArgumentParser:
     top = argparse.ArgumentParser(prog="resetctl", description=__doc__, formatter_class=argparse.RawDescriptionHelpFormatter)
     top.add_argument("--version", action="version", version=f"resetctl {__version__}")
     top.add_argument("--address", default=os.environ.get("RESETD_ADDRESS") or default_address(),
-                     help="HOST:PORT of the coordinator, unix:PATH or tls:HOST:PORT of a front, or several separated by commas "
-                     "(RESETD_ADDRESS; the front's socket if it exists, else 127.0.0.1:4170)")
+                     help="HOST:PORT of the coordinator, unix:PATH or tls:HOST:PORT of resetd-proxy, or several separated by commas "
+                     "(RESETD_ADDRESS; a socket of resetd-proxy that you may open, else 127.0.0.1:4170)")
     for name, about in CREDENTIALS.items():
         top.add_argument(f"--{name}", metavar="PEM", help=f"for tls: {about} (RESETD_{name.upper()})")
     top.add_argument("--client", type=ranges.of("client"), metavar="C",

@@ -1,4 +1,4 @@
-"""Formats the front's audit file for people: who ordered what, when, and with which result."""
+"""Formats the proxy's audit file for people: who ordered what, when, and with which result."""
 
 from __future__ import annotations
 
@@ -8,10 +8,10 @@ import sys
 from collections.abc import Iterable, Mapping
 from typing import Any
 
+from ..waiting import AUDIT
 from . import ranges
 from .base import DONE, Command, Control
 
-FILE = "/var/log/resetd-front/audit"
 Entry = Mapping[str, Any]
 
 
@@ -42,7 +42,7 @@ def printable(text: str) -> str:
 
 
 def entry_of(line: str) -> Entry | None:
-    """Returns the members of a line, or None if no front wrote it."""
+    """Returns the members of a line, or None if the proxy did not write it."""
     try:
         entry = json.loads(line)
     except (ValueError, RecursionError):
@@ -80,7 +80,7 @@ def told(entry: Entry) -> str:
 
 
 def who(found: object) -> str:
-    """Formats the actor: the principal, or the user or the certificate, and the address."""
+    """Formats the actor: the principal; in an audit of an earlier version, the user or the certificate, and the address."""
     if not isinstance(found, dict):
         return found if isinstance(found, str) else ""
     name = found.get("certificate") or found.get("user") or (f"uid {found['uid']}" if "uid" in found else "")
@@ -119,7 +119,7 @@ def came_of(entry: Entry) -> str:
 
 
 def add_log_words(parser: argparse.ArgumentParser) -> None:
-    parser.add_argument("file", metavar="FILE", nargs="?", default=FILE, help=f"the front's audit file, - for standard input ({FILE})")
+    parser.add_argument("file", metavar="FILE", nargs="?", default=AUDIT, help=f"the proxy's audit file, - for standard input ({AUDIT})")
     parser.add_argument("--reset", action="store_true", help="only resets that were carried out, or may have been")
     parser.add_argument("--denied", action="store_true", help="only denied requests")
     parser.add_argument("--node", type=ranges.of("node"), help="only orders at this node")
@@ -128,4 +128,4 @@ def add_log_words(parser: argparse.ArgumentParser) -> None:
     parser.add_argument("--json", action="store_true", help="print the lines as they are in the file")
 
 
-COMMANDS = (Command("log", "prints who ordered what and when, from the audit file of a front", log, add_log_words, is_look=True),)
+COMMANDS = (Command("log", "prints who ordered what and when, from the proxy's audit file", log, add_log_words, is_look=True),)

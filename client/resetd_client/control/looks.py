@@ -18,7 +18,7 @@ from . import ranges
 from .base import DONE, Command, Control, add_json, print_json
 
 MARKS = {"ready": "·", "abort": "A", "converge": "C"}
-FRONT_SECONDS = 30.0  # between two looks, if a front reports changes
+PROXY_SECONDS = 30.0  # between two looks, if the proxy reports changes
 LEGEND = "· through  o not confirmed yet  A abort  C converge; epoch/confirmed"
 
 
@@ -51,11 +51,11 @@ def table(view: View) -> str:
 
 def watch(control: Control) -> int:
     """Draws the mode of each node, in place, as it changes. If the output is not a terminal, writes a line with the time for
-    each change. A front reports changes; a server's port is queried repeatedly."""
+    each change. The proxy reports changes; a server's port is queried repeatedly."""
     until = math.inf if control.words.for_seconds is None else time.monotonic() + control.words.for_seconds
     is_terminal = sys.stdout.isatty()
     wakes = wakes_of(control.port)
-    every = FRONT_SECONDS if control.port.is_front else control.words.every
+    every = PROXY_SECONDS if control.port.is_front else control.words.every
     seen: list[str] | None = None
     with closing(wakes) if isinstance(wakes, Watched) else nullcontext():
         while (left := until - time.monotonic()) > 0:
@@ -94,7 +94,7 @@ def note(picture: list[str]) -> None:
 
 def add_watch_words(parser: argparse.ArgumentParser) -> None:
     parser.add_argument("--every", type=ranges.some_seconds, default=0.2, metavar="SECONDS",
-                        help="how often to look if no front reports changes (0.2)")
+                        help="how often to look if no proxy reports changes (0.2)")
     parser.add_argument("--for", dest="for_seconds", type=ranges.span, metavar="SECONDS", help="end after this many seconds (never)")
 
 

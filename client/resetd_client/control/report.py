@@ -45,9 +45,9 @@ def parts(control: Control) -> Iterator[Part]:
     yield Part("steps-before.txt", "the steps of the previous half", lambda: steps_text(words.store, True))
     for name, path in memories(control):
         yield Part(name, f"what resetctl health remembers ({path})", lambda path=path: bytes_of(path))  # type: ignore[misc]
-    yield Part("journal.txt", f"the last {MOST_LINES} lines of the units {words.unit}, {words.unit}-front and {words.unit}-health",
+    yield Part("journal.txt", f"the last {MOST_LINES} lines of the units {words.unit}, {words.unit}-proxy and {words.unit}-health",
                lambda: said("journalctl", "--no-pager", "--quiet", "--output", "short-iso-precise", "--lines", MOST_LINES,
-                            "--unit", words.unit, "--unit", f"{words.unit}-front", "--unit", f"{words.unit}-health"))
+                            "--unit", words.unit, "--unit", f"{words.unit}-proxy", "--unit", f"{words.unit}-health"))
     yield Part("versions.txt", "versions, and checksums of the program and the library", lambda: versions(words.store))
     yield Part("process.txt", "the server's limits, and the state of each of its threads", lambda: process_text(words.store))
     yield Part("filesystem.txt", "mount, space and device of the store", lambda: file_system(words.store))
@@ -55,7 +55,7 @@ def parts(control: Control) -> Iterator[Part]:
 
 
 def why_text(control: Control) -> str:
-    port = next((str(each) for each in addresses_of(control.words.address) if isinstance(each, Tcp)), SERVER)  # because it is not a front's
+    port = next((str(each) for each in addresses_of(control.words.address) if isinstance(each, Tcp)), SERVER)  # because it is not the proxy's
     findings = list(looked_at(control.words.store, None, port, control.seconds))
     return "".join(f"{each.about:8s} {each.text}\n" for each in findings) + told_start(findings) + "\n"
 

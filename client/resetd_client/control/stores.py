@@ -143,7 +143,7 @@ def add_why_words(parser: argparse.ArgumentParser) -> None:
     add_json(parser)
     add_file_words(parser)
     parser.add_argument("at", metavar="ADDRESS", nargs="?", help="the address of the server, A.B.C.D:P")
-    parser.add_argument("--audit", metavar="FILE", default=AUDIT, help=f"a front's audit file, which shows how long a group has waited ({AUDIT})")
+    parser.add_argument("--audit", metavar="FILE", default=AUDIT, help=f"the proxy's audit file, which shows how long a group has waited ({AUDIT})")
     parser.add_argument("--user", type=ranges.account, metavar="NAME", help="the user that the server runs as (the folder's owner)")
 
 
