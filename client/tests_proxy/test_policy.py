@@ -60,9 +60,10 @@ class Rights(Case):
         assert self.server.process
         self.server.process.send_signal(signal.SIGSTOP)
         self.addCleanup(self.server.process.send_signal, signal.SIGCONT)
-        for client, request in ((looking, {"op": "show"}), (ordering, {"op": "reset", "node": 1})):
-            client.send(request)
-            until("the proxy's reading", lambda: not unread(client))
+        looking.send({"op": "show"})
+        until("the proxy's reading", lambda: not unread(looking))
+        ordering.send({"op": "reset", "node": 1})
+        until("the proxy's reading", lambda: not unread(ordering))
         write_policy(self.path, policy((USER, ["show"])))
         self.assertEqual(ordering.line(), b"")
         self.server.process.send_signal(signal.SIGCONT)
