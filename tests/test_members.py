@@ -396,7 +396,7 @@ class Searches(OfLibrary):
 class Made(Case):
     """A test of a member that is compiled."""
 
-    programs = ("RESETD", "RESETD_MEMBER")
+    programs: tuple[str, ...] = ("RESETD", "RESETD_MEMBER")
 
     def make(self, compiler: str, *words: str, env: dict[str, str] | None = None) -> str:
         """Compiles a member without a warning, and returns its program."""

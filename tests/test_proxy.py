@@ -12,7 +12,7 @@ FOLDER = f"{ROOT}/client/tests_proxy"
 
 class Files(Run):
     takes = 30
-    programs = ("RESETD", "RESETD_PROXY")
+    programs: tuple[str, ...] = ("RESETD", "RESETD_PROXY")
 
     def files(self, *names: str) -> None:
         for name in names:

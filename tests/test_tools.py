@@ -228,8 +228,8 @@ class Services(Run):
     def test_a_work_queue(self) -> None:
         self.trials("starts", "queue")
 
-    def test_what_members_hear_through_others(self) -> None:
-        self.trials("second-hand")
+    def test_members_that_are_taken_out_and_added_again(self) -> None:
+        self.trials("second-hand", "re-add")
 
     def test_lines_that_do_not_come(self) -> None:
         self.trials("torn", "lost", "unread", "doubled")

@@ -122,3 +122,7 @@ class Passed(Case):
             with self.subTest(names):
                 status, line = self.ended(names, [self.paths[0]])
                 self.assertEqual(status, 2)
+
+
+if __name__ == "__main__":
+    unittest.main()

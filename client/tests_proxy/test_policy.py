@@ -11,7 +11,8 @@ from case import DEADLINE, DENIED, RESETD_PROXY, ROOT, USER, Case, needs_proxy, 
 
 WHOLE = policy((USER, ["show"]))
 REFUSED = (
-    "[[allow]]\n", "[[allow]\n", "[[deny]]\n", "allow = 1\n", "allow = [1]\n", "all = 1\n" + WHOLE, f"[[allow]]\nprincipals = ['{USER}']\n", "[[allow]]\nops = ['show']\n",
+    "[[allow]]\n", "[[allow]\n", "[[deny]]\n", "allow = 1\n", "allow = [1]\n", "all = 1\n" + WHOLE,
+    f"[[allow]]\nprincipals = ['{USER}']\n", "[[allow]]\nops = ['show']\n",
     WHOLE + "days = 3\n", WHOLE + "[[deny]]\n", WHOLE + "nodes = [0]\n", WHOLE + "nodes = [65]\n", WHOLE + "nodes = []\n", WHOLE + "nodes = 1\n",
     WHOLE + "nodes = [true]\n", WHOLE + "clients = [0]\n", WHOLE + "clients = [17]\n", WHOLE.replace("show", "fly"), WHOLE.replace("['show']", "'show'"),
     WHOLE.replace("['show']", "[]"), WHOLE.replace(USER, ""), WHOLE.replace(USER, "a b"), WHOLE.replace("principals", "user"))
@@ -59,9 +60,10 @@ class Rights(Case):
         assert self.server.process
         self.server.process.send_signal(signal.SIGSTOP)
         self.addCleanup(self.server.process.send_signal, signal.SIGCONT)
-        for client, request in ((looking, {"op": "show"}), (ordering, {"op": "reset", "node": 1})):
-            client.send(request)
-            until("the proxy's reading", lambda: not unread(client))
+        looking.send({"op": "show"})
+        until("the proxy's reading", lambda: not unread(looking))
+        ordering.send({"op": "reset", "node": 1})
+        until("the proxy's reading", lambda: not unread(ordering))
         write_policy(self.path, policy((USER, ["show"])))
         self.assertEqual(ordering.line(), b"")
         self.server.process.send_signal(signal.SIGCONT)

@@ -60,10 +60,10 @@ class Principals(Case):
 
     def test_a_header_with_a_line_one_in_pieces_and_one_that_does_not_come(self) -> None:
         slow, silent = self.connect(self.tls), self.connect(self.tls)
-        self.assertIn("nodes", self.connect(self.tls, header(b"service3") + b'{"op":"show"}\n').reply())
         for byte in header(b"service3") + b'{"op":"show"}\n':
             slow.send(bytes([byte]))
         self.assertIn("nodes", slow.reply())
+        self.assertIn("nodes", self.connect(self.tls, header(b"service3") + b'{"op":"show"}\n').reply())
         self.assertEqual(silent.line(), b"")
 
     def test_one_more_than_the_limit(self) -> None:
