@@ -10,8 +10,8 @@ from .view import Node, View
 
 # The last column of the table of refusals in docs/PROTOCOL.md, in its words; some refusals say all by themselves.
 WHAT_TO_DO = {
-    Refusal.STOPPED: "the same order with the same number after the next start; `close` ends the server",
-    Refusal.OUT_OF_MEMORY: "the same order again",
+    Refusal.STOPPED: "send the same order with the same number after the next start; `close` ends the server",
+    Refusal.OUT_OF_MEMORY: "send the same order again",
     Refusal.EXHAUSTED: "this store takes no further step: make a new one",
     Refusal.OUT_OF_TURN: "the client lost its count, or the store is an older copy: find the count (`resetctl count`)",
     Refusal.NUMBER_REUSED: "two processes send as one client, or the client lost its count: find the count (`resetctl count`)",
@@ -25,8 +25,8 @@ WHAT_TO_DO = {
     Refusal.OLD: "nothing: repeats are expected",
     Refusal.EARLY: "`resend` shows which packets are due",
     Refusal.DIFFERS: "find the origin of the packet, which this world did not send",
-    Refusal.NOT_RELEASED: "the same",
-    Refusal.PENDING_FULL: "the same order after a while",
+    Refusal.NOT_RELEASED: "find the origin of the packet, which this world has not released",
+    Refusal.PENDING_FULL: "send the same order after a while",
 }
 
 RANGES = "nodes are 1 to 64, groups and clients 1 to 16, a number and an epoch below 2^64"

@@ -187,8 +187,8 @@ class Controls(Case):
 
     def test_stopped_says_what_to_do(self) -> None:
         self.server.is_stopped = True
-        self.assertEqual(self.run_words("reset", "1")[2], "resetctl: the server answers Stopped: the same order with the same "
-                                                          "number after the next start; `close` ends the server\n")
+        self.assertEqual(self.run_words("reset", "1")[2], "resetctl: the server answers Stopped: send the same order with the "
+                                                          "same number after the next start; `close` ends the server\n")
 
     def test_show(self) -> None:
         self.server.reset(1)
