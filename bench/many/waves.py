@@ -22,15 +22,17 @@ class Group:
     """Members that confirm as soon as they have their signals."""
 
     def __init__(self, server: Server, links: Links) -> None:
-        self.server, self.signals = server, Signals(server.signals)
+        self.server = server
+        self.signals: Signals
         self.resets = NODES + len(links)  # orders of client 16 so far, which asks for the resets
 
     async def open(self) -> Connection:
         """Opens a connection over which this group orders."""
         return await self.server.port()
 
-    async def connect(self) -> None:
-        """Opens the connections that last."""
+    async def begin(self) -> None:
+        """Follows the file of signals, and opens the connections that last, in this event loop."""
+        self.signals = Signals(self.server.signals)
 
     def confirms(self, epoch: int) -> Confirms:
         raise NotImplementedError
@@ -54,7 +56,8 @@ class Own(Group):
     async def open(self) -> Connection:
         return await at_socket(self.path)
 
-    async def connect(self) -> None:
+    async def begin(self) -> None:
+        await super().begin()
         self.connections = [await self.open() for _ in range(NODES)]
 
     def confirms(self, epoch: int) -> Confirms:
@@ -81,7 +84,7 @@ class One(Group):
 
 async def measure(group: Group, count: int) -> tuple[float, float]:
     """Milliseconds and syncs, the medians of this many resets."""
-    await group.connect()
+    await group.begin()
     took, syncs = list[float](), list[int]()
     for epoch in range(1, count + 1):
         before, began = group.server.syncs(), time.monotonic()
