@@ -76,6 +76,15 @@ class Watching(Case):
                 answers.append(answer)
         self.assertEqual((answers[0]["kind"], answers[1]), ("started", {"fault": "BadJson"}))
 
+    def test_lines_behind_a_watch_wait_for_its_view(self) -> None:
+        """A view is the answer to a `watch`, and answers come in turn: over a new connection, and at a second `watch`."""
+        for _ in range(10):
+            client = self.client()
+            for _ in range(2):
+                client.send({"op": "watch"}, {"op": "confirm", "node": 1, "epoch": 0}, b"fly\n")
+                self.assertIn("nodes", client.reply())
+                self.assertEqual([client.reply().get("fault") for _ in range(2)], [None, "BadJson"])
+
     def test_who_may_watch_no_more_is_disconnected(self) -> None:
         self.proxy.kill()
         path = f"{self.folder}/policy"

@@ -53,7 +53,7 @@ pub(crate) struct Connection {
     /// Since when its client has taken none of its answers.
     pub blocked_since: Option<Duration>,
     pub is_watching: bool,
-    /// It is sent a view that is asked for after this many, even if no row is new.
+    /// Its last line is a `watch`, which is answered with a view that is asked for after this many.
     pub view_after: Option<u64>,
     /// The newest view is sent to it after all its answers.
     pub owes_view: bool,

@@ -52,8 +52,8 @@ impl Views {
 }
 
 impl<G: Gateway> EventLoop<G> {
-    /// Takes a `watch` of the connection at a place, after all answers to its earlier lines. It gets the next view
-    /// that is asked for from now on.
+    /// Takes a `watch` of the connection at a place, after all answers to its earlier lines. Its answer is the next view
+    /// that is asked for from now on, and its later lines wait for that view.
     pub(crate) fn take_watch(&mut self, place: usize) -> Result<(), AllocError> {
         let Some(connection) = self.connections.get_mut(place) else {
             return Ok(());
@@ -68,6 +68,8 @@ impl<G: Gateway> EventLoop<G> {
             connection.is_watching = true;
         }
         connection.view_after = Some(self.own.views);
+        connection.asked.push_back(self.at.now)?;
+        connection.is_deferred = true;
         self.own.wants_view = true;
         Ok(())
     }
@@ -108,7 +110,6 @@ impl<G: Gateway> EventLoop<G> {
                 None => is_new,
             };
             if is_awaited {
-                connection.view_after = None;
                 connection.owes_view = true;
                 self.activate(place)?;
             }
@@ -116,13 +117,21 @@ impl<G: Gateway> EventLoop<G> {
         Ok(())
     }
 
-    /// Sends the newest view to the connection at a place, if it is owed one and has taken all before it.
+    /// Sends the newest view to the connection at a place, if it is owed one and has taken all before it. After the first
+    /// view of a `watch` the connection's next line may be taken.
     pub(crate) fn send_view(&mut self, place: usize) -> Result<(), AllocError> {
-        if let Some(connection) = self.connections.get_mut(place) {
-            if connection.owes_view && connection.unsent() == 0 {
-                connection.owes_view = false;
-                connection.show(self.views.line.as_slice())?;
-            }
+        let Some(connection) = self.connections.get_mut(place) else {
+            return Ok(());
+        };
+        if !connection.owes_view || connection.unsent() > 0 {
+            return Ok(());
+        }
+        connection.owes_view = false;
+        connection.show(self.views.line.as_slice())?;
+        if connection.view_after.take().is_some() {
+            connection.asked.pop_front();
+            connection.is_deferred = false;
+            self.activate(place)?;
         }
         Ok(())
     }
