@@ -1,12 +1,14 @@
 -- The numbers of lines in the map, after each change.
-use Rattle.std.proofs.Common.{◌≡◌, ℕ, ◌+◌, ◌-◌, ◌==◌, not, Bool, true, false, List, [], ◌∷◌, ◌++◌, length, filter, count_by, refl, sym, ap, subst, ◌∙◌, arith, cond}
+use Rattle.std.proofs.Common.{◌≡◌, ℕ, ◌+◌, ◌-◌, ◌≤◌, ◌<◌, ◌==◌, not, Bool, true, false, List, [], ◌∷◌, ◌++◌, length, filter, count_by, get_or, take, refl, sym, ap, subst, ◌∙◌, arith, cond}
 use Rattle.std.specs.BTreeMap.{BTreeMap}
 use Rattle.std.proofs.lemmas.Bool.Decides.{nat_tests}
+use Rattle.std.proofs.lemmas.List.{take_more}
 use Rattle.std.proofs.lemmas.List.Sums.{sum_by-cons}
 use Rattle.proxy_core.specs.Pending.{Pending, is_from}
-use Rattle.proxy_core.specs.Machine.{is_none, left, picked}
+use Rattle.proxy_core.specs.Machine.{is_none, left, picked, put_back}
 use Rattle.proxy_core.specs.Held.{AreHeld, held_at}
-use Rattle.proxy_core.proofs.Lists.{count_picked, count_push}
+use Rattle.proxy_core.proofs.Hand.{kept_within}
+use Rattle.proxy_core.proofs.Lists.{count_picked, count_push, count_put}
 
 count_cons : (c : ℕ) (a : Pending) (xs : List Pending) → count_by (is_from c) (a ∷ xs) ≡ cond {A = ℕ} (a.from == c) 1 0 + count_by (is_from c) xs
 count_cons c a xs = sum_by-cons (λ y. cond {A = ℕ} (is_from c y) 1 0) a xs
@@ -42,12 +44,16 @@ held_less m m' all flight waiting a k held first from updates c =
       | false ↦ λ no now. (let none : cond {A = ℕ} (a.from == c) 1 0 ≡ 0 = ap (λ b. cond {A = ℕ} b 1 0) (sym at ∙ no) in omega (arith, before, whole, now, none))
     ] refl now
 
+-- one line more of so many
+pub count_more : (c : ℕ) (xs : List Pending) (i : ℕ) (a : Pending) → i < length xs → a ≡ get_or xs i a → count_by (is_from c) (take (i + 1) xs) ≡ count_by (is_from c) (take i xs) + cond (a.from == c) 1 0
+count_more c xs i a less at = ap (λ l. count_by (is_from c) l) (take_more xs i a less ∙ ap (λ x. take i xs ++ x ∷ []) (sym at)) ∙ count_push (is_from c) (take i xs) a
+
 -- it waits again
-pub held_retry : (m : BTreeMap ℕ ℕ) (all flight waiting later : List Pending) (a : Pending) → AreHeld m all waiting → all ≡ a ∷ flight → later ≡ a ∷ waiting → AreHeld m flight later
-held_retry m all flight waiting later a held first next c =
+pub held_retry : (m : BTreeMap ℕ ℕ) (all flight waiting later : List Pending) (k : ℕ) (a : Pending) → AreHeld m all waiting → all ≡ a ∷ flight → later ≡ put_back k (a ∷ []) waiting → AreHeld m flight later
+held_retry m all flight waiting later k a held first next c =
     let before : held_at m c ≡ count_by (is_from c) (a ∷ flight) + count_by (is_from c) waiting = subst (λ l. held_at m c ≡ count_by (is_from c) l + count_by (is_from c) waiting) first (held c) in
     let one = count_cons c a flight in
-    let two = count_cons c a waiting in
+    let two = count_put (is_from c) k a waiting in
     subst (λ l. held_at m c ≡ count_by (is_from c) flight + count_by (is_from c) l) (sym next) (omega (arith, before, one, two))
 
 -- a flight is made
@@ -100,6 +106,13 @@ filtered k c (x ∷ xs) =
     stays true false is here other few some all kept rest whole more = omega (arith, rest, more)
     stays false true is here other few some all kept rest whole more = omega (arith, rest, whole, more)
     stays false false is here other few some all kept rest whole more = omega (arith, rest, whole, more)
+
+-- so many of the first ones still wait again
+pub within_dropped : (c k n kept : ℕ) (waiting later : List Pending) → k ≤ length waiting → n ≡ count_by (is_from c) (take k waiting) → kept ≡ k - n → later ≡ filter (λ a. not (is_from c a)) waiting → kept ≤ length later
+within_dropped c k n kept waiting later within count left_over is =
+    let few = kept_within (is_from c) k waiting within in
+    let long : length later ≡ length (filter (λ a. not (is_from c a)) waiting) = ap length is in
+    omega (arith, few, count, left_over, long)
 
 pub held_without : (m m' : BTreeMap ℕ ℕ) (flight waiting later : List Pending) (k n : ℕ) → AreHeld m flight waiting → later ≡ filter (λ a. not (is_from k a)) waiting → n ≡ length waiting - length later
     → ((c : ℕ) → held_at m' c ≡ cond (k == c) (held_at m c - n) (held_at m c)) → AreHeld m' flight later

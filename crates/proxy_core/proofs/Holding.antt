@@ -1,20 +1,23 @@
 -- What every event keeps.
-use Rattle.std.proofs.Common.{◌≡◌, ℕ, ◌+◌, ◌≤◌, ◌<◌, ◌==◌, ◌&&◌, ◌||◌, not, nat_le, nat_lt, Bool, true, false, List, [], ◌∷◌, ◌++◌, Option, Some, None, length, map, filter, count_by, refl, sym, ap, subst, ◌∙◌, arith, append_assoc, append-nil, cond, Contains}
+use Rattle.std.proofs.Common.{◌≡◌, ℕ, ◌+◌, ◌≤◌, ◌<◌, ◌==◌, ◌&&◌, ◌||◌, not, nat_le, nat_lt, Bool, true, false, List, [], ◌∷◌, ◌++◌, Option, Some, None, length, map, filter, take, count_by, refl, sym, ap, subst, ◌∙◌, arith, append_assoc, append-nil, cond, Contains}
 use Rattle.std.specs.List.{AllByRecursion, list_all}
 use Rattle.std.proofs.lemmas.Bool.Decides.{nat_tests}
 use Rattle.std.proofs.lemmas.List.{map-append, length_push}
+use Rattle.std.proofs.lemmas.List.Edits.{length-insert}
 use Rattle.std.proofs.lemmas.List.Sums.{sum_by-cons, sum_by-append}
 use Rattle.std.proofs.lemmas.List.Elements.{All-contains, All-contains_itself, All-from_recursion, Contains-append_left, Contains-append_right, Contains-push, recursion_from_All}
 use Rattle.proxy_core.specs.declared.proxy.Admission.{Admission}
 use Rattle.proxy_core.specs.declared.proxy.Admission.TheVariants.{Queued, Denied, Deferred}
+use Rattle.proxy_core.specs.declared.proxy.Outcome.{Outcome}
 use Rattle.proxy_core.specs.declared.proxy.Outcome.TheVariants.{To, Ended, Retry, Unsolicited}
 use Rattle.proxy_core.specs.Rules.{Rules, next, needs_number}
 use Rattle.proxy_core.specs.Pending.{Pending, is_from, step, text_of}
-use Rattle.proxy_core.specs.Machine.{Proxy, outcome, outcome_of, flown, held, is_in_turn, left, picked, rest, is_alike, is_flight, is_none, is_ready, lost_of, may_go, after_first_answer, admission, begins_order}
+use Rattle.proxy_core.specs.Machine.{Proxy, outcome, outcome_of, flown, held, is_in_turn, left, picked, rest, is_alike, is_flight, is_none, is_ready, lost_of, may_go, after_first_answer, admission, begins_order, is_late, put_back}
 use Rattle.proxy_core.specs.Run.{Request, Sent, Delivery, Answer, Run, Event, Arrives, Leaves, Flies, Answers, Breaks, TakesBack, Connects, Counts, broke, came, connected, happens, answer_of, is_ended, run, new_run, next_request, said, delivered_too, took, went, without, written}
 use Rattle.proxy_core.specs.Numbers.{AreSerial, HasOneNumber, IsFresh, IsInOrder}
-use Rattle.proxy_core.specs.Promises.{AreNumbered, AreOf, IsAllowed, IsAnswerTo, IsKnown, IsDenied, IsDeniedRightly, Keeps, by_server, bytes_of, pending_of, is_first_at, is_once_at, refuses_number_at, place_if, places_of, places_delivered, sending, sendings}
-use Rattle.proxy_core.proofs.Lists.{AreLast, alike_rest, all_append, all_filter, all_left, all_picked, all_weaker, are_more, are_push, are_weaker, both_true, count_filter, count_less, count_sendings, count_picked, count_push, count_rest, either, ended_apart, flight_is, flight_rest, from_other, from_picked, last_picked, left_pending_of, none_from, numbered_push, of_push, one_place, picked_pending_of, rest_twice, server-append, text_same, delivered_push, without_pending_of, written_of}
+use Rattle.proxy_core.specs.Promises.{AreNumbered, AreOf, IsAllowed, IsAnswerTo, IsKnown, IsDenied, IsDeniedRightly, Keeps, hand, by_server, bytes_of, pending_of, is_first_at, is_once_at, refuses_number_at, place_if, places_of, places_delivered, sending, sendings}
+use Rattle.proxy_core.proofs.Hand.{hand_again, hand_first, hand_flies, hand_none, hand_other, hand_push, hand_rest, none_late, refused_without, within_without}
+use Rattle.proxy_core.proofs.Lists.{alike_rest, all_append, all_filter, all_left, all_picked, all_put, all_weaker, are_more, are_push, are_weaker, both_false, both_true, count_filter, count_less, count_sendings, count_picked, count_push, count_put, count_rest, either, ended_apart, flight_is, flight_rest, left_pending_of, map_put, none_from, numbered_push, of_push, one_place, picked_pending_of, rest_twice, server-append, text_same, delivered_push, without_pending_of, written_of}
 
 abbrev pub is_twice : Pending → Bool
 is_twice a = not a.is_once
@@ -44,8 +47,8 @@ abbrev pub IsAgain : List Sent → Sent → Type 0
 IsAgain sent s = s.is_first ≡ false → IsKnown sent s
 
 -- those of a connection that is not over: its answers and its lines in hand are those that it asked
-abbrev pub Turn : List ℕ → List Delivery → List Request → List Request → List Request → Type 0
-Turn ended delivered in_flight queued requests = (c : ℕ) → is_ended c ended ≡ false → places_delivered c delivered ++ (places_of c in_flight ++ places_of c queued) ≡ places_of c requests
+abbrev pub Turn : List ℕ → List Delivery → ℕ → List Request → List Request → List Request → Type 0
+Turn ended delivered refused in_flight queued requests = (c : ℕ) → is_ended c ended ≡ false → places_delivered c delivered ++ hand c refused in_flight queued ≡ places_of c requests
 
 abbrev pub Over : List ℕ → List Delivery → List Request → Type 0
 Over ended delivered requests = (c : ℕ) → is_ended c ended ≡ true → (more : List ℕ) × (places_delivered c delivered ++ more ≡ places_of c requests)
@@ -62,7 +65,8 @@ pub record Holds (r : Rules) (w : Run) : Type 0 where
   pub wired : AllByRecursion (Contains w.sent) w.wire
   pub single : w.proxy.is_up ≡ true → is_flight w.proxy.flight ≡ true
   pub twice : w.proxy.is_up ≡ false → list_all is_twice w.proxy.flight ≡ true
-  pub turn : Turn w.ended w.delivered w.in_flight w.queued w.requests
+  pub within : w.proxy.refused ≤ length w.queued
+  pub turn : Turn w.ended w.delivered w.proxy.refused w.in_flight w.queued w.requests
   pub over : Over w.ended w.delivered w.requests
   pub own : AreOf (IsAnswerTo r w.requests w.sent) (by_server w.delivered) w.answers
   pub denied : AllByRecursion (IsDeniedRightly r w.requests) w.delivered
@@ -73,7 +77,6 @@ pub record Holds (r : Rules) (w : Run) : Type 0 where
   pub few : Few w.proxy.flight w.proxy.waiting
   pub flight : length w.proxy.flight ≤ 256
   pub alike : is_alike w.proxy.flight ≡ true
-  pub last : AreLast r w.in_flight
   pub fresh : Fresh r w.sent w.queued w.requests w.answers
   pub known : AllByRecursion (IsKnown w.sent) (sendings r 0 true 0 w.proxy.number w.in_flight)
   pub again : AllByRecursion (IsAgain w.sent) w.sent
@@ -94,6 +97,7 @@ begins r = record {
   wired = tt;
   single = λ up. refl;
   twice = λ down. refl;
+  within = omega arith;
   turn = λ c going. refl;
   over = λ c over. absurd (cc over);
   own = tt;
@@ -105,7 +109,6 @@ begins r = record {
   few = λ c. omega arith;
   flight = omega arith;
   alike = refl;
-  last = tt;
   fresh = λ p. omega arith;
   known = tt;
   again = tt;
@@ -120,20 +123,20 @@ going_of : (c d : ℕ) (ended : List ℕ) → is_ended d (c ∷ ended) ≡ false
 going_of c d ended h = elim (c == d) as (λ b. (b || is_ended d ended) ≡ false → is_ended d ended ≡ false) [ true ↦ λ t. absurd (cc t) | false ↦ λ f. f ] h
 
 -- a connection that is over had the answers to its first lines, whether it is over now or was before
-over_all : (ended : List ℕ) (delivered : List Delivery) (in_flight queued requests : List Request) → Turn ended delivered in_flight queued requests → Over ended delivered requests
+over_all : (ended : List ℕ) (delivered : List Delivery) (k : ℕ) (in_flight queued requests : List Request) → Turn ended delivered k in_flight queued requests → Over ended delivered requests
     → (c : ℕ) → (more : List ℕ) × (places_delivered c delivered ++ more ≡ places_of c requests)
-over_all ended delivered in_flight queued requests turn over c =
+over_all ended delivered k in_flight queued requests turn over c =
     elim (is_ended c ended) as (λ b. is_ended c ended ≡ b → (more : List ℕ) × (places_delivered c delivered ++ more ≡ places_of c requests)) [
       | true ↦ λ is. over c is
-      | false ↦ λ going. (places_of c in_flight ++ places_of c queued, turn c going)
+      | false ↦ λ going. (hand c k in_flight queued, turn c going)
     ] refl
 
-turn_forgetting : (c : ℕ) (ended : List ℕ) (delivered : List Delivery) (in_flight queued requests : List Request)
-    → ((d : ℕ) → (c == d) ≡ false → is_ended d ended ≡ false → places_delivered d delivered ++ (places_of d in_flight ++ places_of d queued) ≡ places_of d requests)
-    → Turn (c ∷ ended) delivered in_flight (without c queued) requests
-turn_forgetting c ended delivered in_flight queued requests turn d going =
+turn_forgetting : (r : Rules) (c : ℕ) (ended : List ℕ) (delivered : List Delivery) (k : ℕ) (in_flight queued requests : List Request)
+    → ((d : ℕ) → (c == d) ≡ false → is_ended d ended ≡ false → places_delivered d delivered ++ hand d k in_flight queued ≡ places_of d requests)
+    → Turn (c ∷ ended) delivered (refused_without r c k queued) in_flight (without c queued) requests
+turn_forgetting r c ended delivered k in_flight queued requests turn d going =
     let apart : (c == d) ≡ false = apart_of c d ended going in
-    ap (λ l. places_delivered d delivered ++ (places_of d in_flight ++ l)) (from_other c d apart queued) ∙ turn d apart (going_of c d ended going)
+    ap (λ l. places_delivered d delivered ++ l) (hand_other r c d k in_flight queued apart) ∙ turn d apart (going_of c d ended going)
 
 once_forgetting : (r : Rules) (c : ℕ) (sent : List Sent) (queued requests : List Request) → Once r sent queued requests → Once r sent (without c queued) requests
 once_forgetting r c sent queued requests once p =
@@ -166,8 +169,9 @@ leaves_holds r w in_flight queued c h = record {
   wired = h.wired;
   single = h.single;
   twice = h.twice;
-  turn = turn_forgetting c w.ended w.delivered in_flight queued w.requests (λ d apart going. h.turn d going);
-  over = λ d is. over_all w.ended w.delivered in_flight queued w.requests h.turn h.over d;
+  within = within_without r c w.proxy.refused queued h.within;
+  turn = turn_forgetting r c w.ended w.delivered w.proxy.refused in_flight queued w.requests (λ d apart going. h.turn d going);
+  over = λ d is. over_all w.ended w.delivered w.proxy.refused in_flight queued w.requests h.turn h.over d;
   own = h.own;
   denied = h.denied;
   in_flight = h.in_flight;
@@ -177,7 +181,6 @@ leaves_holds r w in_flight queued c h = record {
   few = few_forgetting c (map (pending_of r) in_flight) (map (pending_of r) queued) h.few;
   flight = h.flight;
   alike = h.alike;
-  last = h.last;
   fresh = fresh_forgetting r c w.sent queued w.requests w.answers h.fresh;
   known = h.known;
   again = h.again;
@@ -226,15 +229,12 @@ admission_cases r c role line f P queued denied later =
     (λ may_not. either P (held c f == 0) Denied Deferred (λ none. denied may_not (grind (arith, nat_tests))) (λ some. later))
 
 -- one more line of a connection that is not over, at the end of both
-turn_queued : (a : Request) (ended : List ℕ) (delivered : List Delivery) (in_flight queued requests : List Request) → Turn ended delivered in_flight queued requests → Turn ended delivered in_flight (queued ++ a ∷ []) (requests ++ a ∷ [])
-turn_queued a ended delivered in_flight queued requests turn d going =
+turn_queued : (a : Request) (ended : List ℕ) (delivered : List Delivery) (k : ℕ) (in_flight queued requests : List Request) → k ≤ length queued → Turn ended delivered k in_flight queued requests → Turn ended delivered k in_flight (queued ++ a ∷ []) (requests ++ a ∷ [])
+turn_queued a ended delivered k in_flight queued requests within turn d going =
     let own : List ℕ = place_if (a.from == d) a.place in
-    let f : List ℕ = places_of d in_flight in
-    let v : List ℕ = places_of d queued in
     let t : List ℕ = places_delivered d delivered in
-    ap (λ l. t ++ (f ++ l)) (of_push d queued a)
-    ∙ ap (λ l. t ++ l) (sym (append_assoc f v own))
-    ∙ sym (append_assoc t (f ++ v) own)
+    ap (λ l. t ++ l) (hand_push d k in_flight queued a within)
+    ∙ sym (append_assoc t (hand d k in_flight queued) own)
     ∙ ap (λ l. l ++ own) (turn d going)
     ∙ sym (of_push d requests a)
 
@@ -271,28 +271,26 @@ few_queued c flight waiting a from room few d =
     ] refl more
 
 -- a refusal comes where nothing of the connection is in hand
-turn_denied : (r : Rules) (a : Request) (ended : List ℕ) (delivered : List Delivery) (in_flight queued requests : List Request)
+turn_denied : (r : Rules) (a : Request) (ended : List ℕ) (delivered : List Delivery) (k : ℕ) (in_flight queued requests : List Request)
     → count_by (is_from a.from) (map (pending_of r) in_flight) + count_by (is_from a.from) (map (pending_of r) queued) ≡ 0
-    → Turn ended delivered in_flight queued requests
-    → Turn ended (delivered ++ (record { to = a.from; place = a.place; answer = None }) ∷ []) in_flight queued (requests ++ a ∷ [])
-turn_denied r a ended delivered in_flight queued requests none turn d going =
+    → Turn ended delivered k in_flight queued requests
+    → Turn ended (delivered ++ (record { to = a.from; place = a.place; answer = None }) ∷ []) k in_flight queued (requests ++ a ∷ [])
+turn_denied r a ended delivered k in_flight queued requests none turn d going =
     let t : Delivery = record { to = a.from; place = a.place; answer = None } in
     elim (a.from == d) as (λ b. (a.from == d) ≡ b → places_delivered d (delivered ++ t ∷ []) ≡ places_delivered d delivered ++ place_if b a.place → places_of d (requests ++ a ∷ []) ≡ places_of d requests ++ place_if b a.place
-    → places_delivered d (delivered ++ t ∷ []) ++ (places_of d in_flight ++ places_of d queued) ≡ places_of d (requests ++ a ∷ [])) [
+    → places_delivered d (delivered ++ t ∷ []) ++ hand d k in_flight queued ≡ places_of d (requests ++ a ∷ [])) [
       | true ↦ λ so p q. (
           let is : a.from ≡ d = grind (arith, nat_tests) in
           let empty = subst (λ x. count_by (is_from x) (map (pending_of r) in_flight) + count_by (is_from x) (map (pending_of r) queued) ≡ 0) is none in
-          let f : places_of d in_flight ≡ [] = none_from r d in_flight (omega (arith, empty)) in
-          let v : places_of d queued ≡ [] = none_from r d queued (omega (arith, empty)) in
-          let before : places_delivered d delivered ≡ places_of d requests = sym (append-nil (places_delivered d delivered)) ∙ sym (ap (λ l. places_delivered d delivered ++ (l ++ places_of d queued)) f ∙ ap (λ l. places_delivered d delivered ++ l) v) ∙ turn d going in
-          ap (λ l. l ++ (places_of d in_flight ++ places_of d queued)) p
-          ∙ ap (λ l. (places_delivered d delivered ++ a.place ∷ []) ++ (l ++ places_of d queued)) f
-          ∙ ap (λ l. (places_delivered d delivered ++ a.place ∷ []) ++ l) v
+          let nothing : hand d k in_flight queued ≡ [] = hand_none d k in_flight queued (none_from r d in_flight (omega (arith, empty))) (none_from r d queued (omega (arith, empty))) in
+          let before : places_delivered d delivered ≡ places_of d requests = sym (append-nil (places_delivered d delivered)) ∙ sym (ap (λ l. places_delivered d delivered ++ l) nothing) ∙ turn d going in
+          ap (λ l. l ++ hand d k in_flight queued) p
+          ∙ ap (λ l. (places_delivered d delivered ++ a.place ∷ []) ++ l) nothing
           ∙ append-nil (places_delivered d delivered ++ a.place ∷ [])
           ∙ ap (λ l. l ++ a.place ∷ []) before
           ∙ sym q)
       | false ↦ λ so p q.
-          ap (λ l. l ++ (places_of d in_flight ++ places_of d queued)) (p ∙ append-nil (places_delivered d delivered))
+          ap (λ l. l ++ hand d k in_flight queued) (p ∙ append-nil (places_delivered d delivered))
           ∙ turn d going
           ∙ sym (q ∙ append-nil (places_of d requests))
     ] refl (delivered_push d delivered t) (of_push d requests a)
@@ -314,7 +312,8 @@ came_queued r w in_flight queued c role line going may room h =
       wired = h.wired;
       single = h.single;
       twice = h.twice;
-      turn = turn_queued a w.ended w.delivered in_flight queued w.requests h.turn;
+      within = (let less = h.within in omega (arith, less, length_push queued a));
+      turn = turn_queued a w.ended w.delivered w.proxy.refused in_flight queued w.requests h.within h.turn;
       over = over_push a w.ended w.delivered w.requests going h.over;
       own = own_requested r w.requests w.sent a (by_server w.delivered) w.answers h.own;
       denied = all_weaker (IsDeniedRightly r w.requests) (IsDeniedRightly r (w.requests ++ a ∷ [])) (λ t. more_denied_rightly r w.requests (a ∷ []) t) w.delivered h.denied;
@@ -325,7 +324,6 @@ came_queued r w in_flight queued c role line going may room h =
       few = few_queued c (map (pending_of r) in_flight) (map (pending_of r) queued) (pending_of r a) refl room h.few;
       flight = h.flight;
       alike = h.alike;
-      last = h.last;
       fresh = λ p. (let before = h.fresh p in omega (arith, before, count_push (is_at p) queued a, count_push (is_at p) w.requests a));
       known = h.known;
       again = h.again;
@@ -345,7 +343,8 @@ came_denied r w in_flight queued c role line going may_not none h =
       wired = h.wired;
       single = h.single;
       twice = h.twice;
-      turn = turn_denied r a w.ended w.delivered in_flight queued w.requests none h.turn;
+      within = h.within;
+      turn = turn_denied r a w.ended w.delivered w.proxy.refused in_flight queued w.requests none h.turn;
       over = over_told t w.ended w.delivered (w.requests ++ a ∷ []) going (over_push a w.ended w.delivered w.requests going h.over);
       own = own_denied (IsAnswerTo r (w.requests ++ a ∷ []) w.sent) w.delivered w.answers c a.place (own_requested r w.requests w.sent a (by_server w.delivered) w.answers h.own);
       denied = all_append (IsDeniedRightly r (w.requests ++ a ∷ [])) w.delivered (t ∷ []) (all_weaker (IsDeniedRightly r w.requests) (IsDeniedRightly r (w.requests ++ a ∷ [])) (λ x. more_denied_rightly r w.requests (a ∷ []) x) w.delivered h.denied) ((a, Contains-push w.requests a, refl, refl, may_not), tt);
@@ -356,7 +355,6 @@ came_denied r w in_flight queued c role line going may_not none h =
       few = h.few;
       flight = h.flight;
       alike = h.alike;
-      last = h.last;
       fresh = λ p. (let before = h.fresh p in omega (arith, before, count_push (is_at p) w.requests a));
       known = h.known;
       again = h.again;
@@ -465,7 +463,8 @@ went_holds r w in_flight queued picks may h =
       wired = all_append (Contains (w.sent ++ sends)) w.wire (sends) (subst (AllByRecursion (Contains (w.sent ++ sends))) (sym clear) tt) (sent_right w.sent (sends));
       single = λ up. s.0;
       twice = λ down. absurd (cc (down, p.0));
-      turn = λ c going. ap (λ l. places_delivered c w.delivered ++ l) (from_picked r c [] picks queued turn) ∙ sym (ap (λ l. places_delivered c w.delivered ++ (places_of c l ++ places_of c queued)) none) ∙ h.turn c going;
+      within = omega arith;
+      turn = λ c going. ap (λ l. places_delivered c w.delivered ++ l) (hand_flies r c w.proxy.refused picks queued turn) ∙ sym (ap (λ l. places_delivered c w.delivered ++ hand c w.proxy.refused l queued) none) ∙ h.turn c going;
       over = h.over;
       own = own_sent r w.requests w.sent (sends) (by_server w.delivered) w.answers h.own;
       denied = h.denied;
@@ -477,7 +476,6 @@ went_holds r w in_flight queued picks may h =
       flight = (let fits = few_lines.0 in grind (arith, nat_tests));
       alike = t.0;
       quiet = λ down new. absurd (cc (down, p.0));
-      last = last_picked r [] picks queued turn;
       fresh = fresh_goes r picks n m f.last w.sent queued w.requests w.answers h.fresh;
       known = first_known r (w.sent ++ sends) n m 0 f.last all (sent_right w.sent sends);
       again = all_append (IsAgain (w.sent ++ sends)) w.sent sends (all_weaker (IsAgain w.sent) (IsAgain (w.sent ++ sends)) (more_again w.sent sends) w.sent h.again) (first_again r (w.sent ++ sends) n m f.last all);
@@ -493,19 +491,18 @@ flies_holds r w in_flight queued picks h =
 all_twice_rest : (a : Pending) (more : List Pending) → list_all is_twice (a ∷ more) ≡ true → list_all is_twice more ≡ true
 all_twice_rest a more all = (both_true (is_twice a) (list_all is_twice more) all).1
 
-turn_rest : (a : Request) (more : List Request) (delivered : List Delivery) (queued requests : List Request) (d : ℕ) → (a.from == d) ≡ false
-    → places_delivered d delivered ++ (places_of d (a ∷ more) ++ places_of d queued) ≡ places_of d requests
-    → places_delivered d delivered ++ (places_of d more ++ places_of d queued) ≡ places_of d requests
-turn_rest a more delivered queued requests d apart turn = sym (ap (λ b. places_delivered d delivered ++ ((place_if b a.place ++ places_of d more) ++ places_of d queued)) apart) ∙ turn
+turn_rest : (a : Request) (more : List Request) (delivered : List Delivery) (k : ℕ) (queued requests : List Request) (d : ℕ) → (a.from == d) ≡ false
+    → places_delivered d delivered ++ hand d k (a ∷ more) queued ≡ places_of d requests → places_delivered d delivered ++ hand d k more queued ≡ places_of d requests
+turn_rest a more delivered k queued requests d apart turn = sym (ap (λ l. places_delivered d delivered ++ l) (hand_rest d k a more queued apart)) ∙ turn
 
-turn_told : (a : Request) (more : List Request) (ended : List ℕ) (delivered : List Delivery) (queued requests : List Request) (answer : List ℕ)
-    → Turn ended delivered (a ∷ more) queued requests
-    → Turn ended (delivered ++ (record { to = a.from; place = a.place; answer = Some answer }) ∷ []) more queued requests
-turn_told a more ended delivered queued requests answer turn d going =
+turn_told : (a : Request) (more : List Request) (ended : List ℕ) (delivered : List Delivery) (k : ℕ) (queued requests : List Request) (answer : List ℕ) → places_of a.from (take k queued) ≡ []
+    → Turn ended delivered k (a ∷ more) queued requests
+    → Turn ended (delivered ++ (record { to = a.from; place = a.place; answer = Some answer }) ∷ []) k more queued requests
+turn_told a more ended delivered k queued requests answer oldest turn d going =
     let own : List ℕ = place_if (a.from == d) a.place in
-    ap (λ l. l ++ (places_of d more ++ places_of d queued)) (delivered_push d delivered (record { to = a.from; place = a.place; answer = Some answer }))
-    ∙ append_assoc (places_delivered d delivered) own (places_of d more ++ places_of d queued)
-    ∙ ap (λ l. places_delivered d delivered ++ l) (sym (append_assoc own (places_of d more) (places_of d queued)))
+    ap (λ l. l ++ hand d k more queued) (delivered_push d delivered (record { to = a.from; place = a.place; answer = Some answer }))
+    ∙ append_assoc (places_delivered d delivered) own (hand d k more queued)
+    ∙ ap (λ l. places_delivered d delivered ++ l) (sym (hand_first d k a more queued oldest))
     ∙ turn d going
 
 few_rest : (a : Pending) (more waiting : List Pending) → Few (a ∷ more) waiting → Few more waiting
@@ -517,8 +514,8 @@ own_told P delivered answers c place answer h own is =
     let t : Delivery = record { to = c; place = place; answer = Some answer } in
     subst (λ l. AreOf P l (answers ++ h ∷ [])) (sym (server-append delivered (t ∷ []))) (are_push P (by_server delivered) answers t h own is)
 
-said_to : (r : Rules) (w : Run) (answer : List ℕ) (a : Request) (more queued : List Request) → w.proxy.is_up ≡ true → Holds r (with_hand r (a ∷ more) queued w) → Holds r (said r (with_hand r (a ∷ more) queued w) answer (To a.from))
-said_to r w answer a more queued up h =
+said_to : (r : Rules) (w : Run) (answer : List ℕ) (a : Request) (more queued : List Request) → w.proxy.is_up ≡ true → places_of a.from (take w.proxy.refused queued) ≡ [] → Holds r (with_hand r (a ∷ more) queued w) → Holds r (said r (with_hand r (a ∷ more) queued w) answer (To a.from))
+said_to r w answer a more queued up oldest h =
     let out = h.wire up in
     let n : ℕ = out.0 in
     let first : Bool = not w.proxy.is_resent in
@@ -543,7 +540,8 @@ said_to r w answer a more queued up h =
       quiet = λ down new. absurd (cc (down, up));
       single = λ now. flight_rest (pending_of r a) (map (pending_of r) more) (h.single now);
       twice = λ now. all_twice_rest (pending_of r a) (map (pending_of r) more) (h.twice now);
-      turn = λ d going. turn_rest a more w.delivered queued w.requests d (flipped d a.from (ended_apart d a.from w.ended going gone)) (h.turn d going);
+      within = h.within;
+      turn = λ d going. turn_rest a more w.delivered w.proxy.refused queued w.requests d (flipped d a.from (ended_apart d a.from w.ended going gone)) (h.turn d going);
       over = h.over;
       own = are_more (IsAnswerTo r w.requests w.sent) (by_server w.delivered) w.answers (record { sent = s; answer = answer } ∷ []) h.own;
       denied = h.denied;
@@ -554,7 +552,6 @@ said_to r w answer a more queued up h =
       few = few_rest (pending_of r a) (map (pending_of r) more) (map (pending_of r) queued) h.few;
       flight = (let long = h.flight in omega (arith, long));
       alike = alike_rest (pending_of r a) (map (pending_of r) more) h.alike;
-      last = h.last.1;
       fresh = fresh_heard r w.sent queued w.requests w.answers (record { sent = s; answer = answer } ∷ []) h.fresh;
       known = known_serial r w.sent 1 0 (step (needs_number r a.line) w.proxy.number) more h.known.1;
       again = h.again;
@@ -568,7 +565,8 @@ said_to r w answer a more queued up h =
       quiet = λ down new. absurd (cc (down, up));
       single = λ now. flight_rest (pending_of r a) (map (pending_of r) more) (h.single now);
       twice = λ now. all_twice_rest (pending_of r a) (map (pending_of r) more) (h.twice now);
-      turn = turn_told a more w.ended w.delivered queued w.requests answer h.turn;
+      within = h.within;
+      turn = turn_told a more w.ended w.delivered w.proxy.refused queued w.requests answer oldest h.turn;
       over = over_told (record { to = a.from; place = a.place; answer = Some answer }) w.ended w.delivered w.requests there h.over;
       own = own_told (IsAnswerTo r w.requests w.sent) w.delivered w.answers a.from a.place answer (record { sent = s; answer = answer }) h.own is;
       denied = all_append (IsDeniedRightly r w.requests) w.delivered (record { to = a.from; place = a.place; answer = Some answer } ∷ []) h.denied (tt, tt);
@@ -579,7 +577,6 @@ said_to r w answer a more queued up h =
       few = few_rest (pending_of r a) (map (pending_of r) more) (map (pending_of r) queued) h.few;
       flight = (let long = h.flight in omega (arith, long));
       alike = alike_rest (pending_of r a) (map (pending_of r) more) h.alike;
-      last = h.last.1;
       fresh = fresh_heard r w.sent queued w.requests w.answers (record { sent = s; answer = answer } ∷ []) h.fresh;
       known = known_serial r w.sent 1 0 (step (needs_number r a.line) w.proxy.number) more h.known.1;
       again = h.again;
@@ -606,8 +603,9 @@ said_ended r w answer a more queued up h =
       quiet = λ down new. absurd (cc (down, up));
       single = λ now. flight_rest (pending_of r a) (map (pending_of r) more) (h.single now);
       twice = λ now. all_twice_rest (pending_of r a) (map (pending_of r) more) (h.twice now);
-      turn = turn_forgetting a.from w.ended w.delivered more queued w.requests (λ d apart going. turn_rest a more w.delivered queued w.requests d apart (h.turn d going));
-      over = λ d is. over_all w.ended w.delivered (a ∷ more) queued w.requests h.turn h.over d;
+      within = within_without r a.from w.proxy.refused queued h.within;
+      turn = turn_forgetting r a.from w.ended w.delivered w.proxy.refused more queued w.requests (λ d apart going. turn_rest a more w.delivered w.proxy.refused queued w.requests d apart (h.turn d going));
+      over = λ d is. over_all w.ended w.delivered w.proxy.refused (a ∷ more) queued w.requests h.turn h.over d;
       own = are_more (IsAnswerTo r w.requests w.sent) (by_server w.delivered) w.answers (answer_of w.wire answer) h.own;
       denied = h.denied;
       in_flight = h.in_flight.1;
@@ -617,24 +615,10 @@ said_ended r w answer a more queued up h =
       few = few_forgetting a.from (map (pending_of r) more) (map (pending_of r) queued) (few_rest (pending_of r a) (map (pending_of r) more) (map (pending_of r) queued) h.few);
       flight = (let long = h.flight in omega (arith, long));
       alike = alike_rest (pending_of r a) (map (pending_of r) more) h.alike;
-      last = h.last.1;
       fresh = fresh_heard r w.sent (without a.from queued) w.requests w.answers (answer_of w.wire answer) (fresh_forgetting r a.from w.sent queued w.requests w.answers h.fresh);
       known = known_serial r w.sent 1 0 (step (needs_number r a.line) w.proxy.number) more h.known.1;
       again = h.again;
     }
-
--- the line that comes back is the last of its connection in the flight, so it is the first of it again
-turn_retry : (a : Request) (more : List Request) (delivered : List Delivery) (queued requests : List Request) (d : ℕ) → places_of a.from more ≡ []
-    → places_delivered d delivered ++ (places_of d (a ∷ more) ++ places_of d queued) ≡ places_of d requests
-    → places_delivered d delivered ++ (places_of d more ++ places_of d (a ∷ queued)) ≡ places_of d requests
-turn_retry a more delivered queued requests d last turn =
-    elim (a.from == d) as (λ b. (a.from == d) ≡ b → places_delivered d delivered ++ ((place_if b a.place ++ places_of d more) ++ places_of d queued) ≡ places_of d requests → places_delivered d delivered ++ (places_of d more ++ (place_if b a.place ++ places_of d queued)) ≡ places_of d requests) [
-      | true ↦ λ so before. (
-          let same : a.from ≡ d = grind (arith, nat_tests) in
-          let none : places_of d more ≡ [] = subst (λ c. places_of c more ≡ []) same last in
-          ap (λ l. places_delivered d delivered ++ (l ++ (a.place ∷ places_of d queued))) none ∙ sym (ap (λ l. places_delivered d delivered ++ ((a.place ∷ l) ++ places_of d queued)) none) ∙ before)
-      | false ↦ λ so before. before
-    ] refl turn
 
 said_retry : (r : Rules) (w : Run) (answer : List ℕ) (a : Request) (more queued : List Request) → w.proxy.is_up ≡ true → w.proxy.is_resent ≡ false → needs_number r a.line ≡ true → r.refuses_number answer ≡ true
     → Holds r (with_hand r (a ∷ more) queued w) → Holds r (said r (with_hand r (a ∷ more) queued w) answer (Retry a.from))
@@ -648,36 +632,36 @@ said_retry r w answer a more queued up new own turned h =
     let wired : AllByRecursion (Contains w.sent) (s ∷ later) = subst (AllByRecursion (Contains w.sent)) out.2 h.wired in
     let v : Run = with_hand r (a ∷ more) queued w in
     let not_once : r.is_once a.line ≡ false = never (r.is_unnumbered a.line) (r.is_once a.line) own in
-    subst (λ l. Holds r (record v { proxy = record (after_first_answer r answer v.proxy) { waiting = map (pending_of r) (a ∷ queued) }; in_flight = more; queued = a ∷ queued; wire = rest l; answers = w.answers ++ answer_of l answer })) (sym out.2) (record {
+    subst (λ l. Holds r (record v { proxy = record (after_first_answer r answer v.proxy) { waiting = put_back w.proxy.refused (pending_of r a ∷ []) (map (pending_of r) queued); refused = w.proxy.refused + 1 }; in_flight = more; queued = put_back w.proxy.refused (a ∷ []) queued; wire = rest l; answers = w.answers ++ answer_of l answer })) (sym out.2) (record {
       numbered = h.numbered;
       flying = refl;
-      waiting = refl;
+      waiting = map_put (pending_of r) w.proxy.refused a queued;
       wire = λ now. (n, m + 1, refl);
       quiet = λ down old. absurd (cc (down, up));
       wired = wired.1;
       single = λ now. flight_rest (pending_of r a) (map (pending_of r) more) (h.single now);
       twice = λ now. all_twice_rest (pending_of r a) (map (pending_of r) more) (h.twice now);
-      turn = λ d going. turn_retry a more w.delivered queued w.requests d (h.last.0 own) (h.turn d going);
+      within = (let less = h.within in omega (arith, less, length-insert queued w.proxy.refused a h.within));
+      turn = λ d going. ap (λ l. places_delivered d w.delivered ++ l) (hand_again d w.proxy.refused a more queued h.within) ∙ h.turn d going;
       over = h.over;
       own = are_more (IsAnswerTo r w.requests w.sent) (by_server w.delivered) w.answers (record { sent = s; answer = answer } ∷ []) h.own;
       denied = h.denied;
       in_flight = h.in_flight.1;
-      queued = (h.in_flight.0, h.queued);
+      queued = all_put (IsGood r w.requests) w.proxy.refused a queued h.queued h.in_flight.0;
       sent = h.sent;
       once = λ p. (
           let before = h.once p in
           let none : cond {A = ℕ} (is_once_request r p a) 1 0 ≡ 0 = ap (λ b. cond {A = ℕ} ((a.place == p) && b) 1 0) not_once ∙ ap (λ b. cond {A = ℕ} b 1 0) (and_false (a.place == p)) in
-          omega (arith, before, none, sum_by-cons (λ y. cond {A = ℕ} (is_once_request r p y) 1 0) a queued));
-      few = λ d. (let before = h.few d in omega (arith, before, sum_by-cons (λ y. cond {A = ℕ} (is_from d y) 1 0) (pending_of r a) (map (pending_of r) more), sum_by-cons (λ y. cond {A = ℕ} (is_from d y) 1 0) (pending_of r a) (map (pending_of r) queued)));
+          omega (arith, before, none, count_put (is_once_request r p) w.proxy.refused a queued));
+      few = λ d. (let before = h.few d in omega (arith, before, sum_by-cons (λ y. cond {A = ℕ} (is_from d y) 1 0) (pending_of r a) (map (pending_of r) more), count_put (is_from d) w.proxy.refused (pending_of r a) (map (pending_of r) queued)));
       flight = (let long = h.flight in omega (arith, long));
       alike = alike_rest (pending_of r a) (map (pending_of r) more) h.alike;
-      last = h.last.1;
       fresh = λ p. (
           let before = h.fresh p in
           let g : Answer = record { sent = s; answer = answer } in
           let counts : refuses_number_at r p g ≡ (a.place == p) = ap (λ b. (a.place == p) && (not b && (needs_number r a.line && r.refuses_number answer))) new ∙ ap (λ b. (a.place == p) && (b && r.refuses_number answer)) own ∙ ap (λ b. (a.place == p) && b) turned ∙ and_true (a.place == p) in
           let one : cond {A = ℕ} (refuses_number_at r p g) 1 0 ≡ cond {A = ℕ} (a.place == p) 1 0 = ap (λ b. cond {A = ℕ} b 1 0) counts in
-          omega (arith, before, one, count_push (refuses_number_at r p) w.answers g, sum_by-cons (λ y. cond {A = ℕ} (is_at p y) 1 0) a queued));
+          omega (arith, before, one, count_push (refuses_number_at r p) w.answers g, count_put (is_at p) w.proxy.refused a queued));
       known = known_serial r w.sent 1 0 (step (needs_number r a.line) w.proxy.number) more h.known.1;
       again = h.again;
     })
@@ -696,6 +680,7 @@ said_unsolicited r w answer queued h = record {
   wired = tt;
   single = λ up. absurd (cc up);
   twice = λ down. refl;
+  within = h.within;
   turn = h.turn;
   over = h.over;
   own = h.own;
@@ -707,34 +692,31 @@ said_unsolicited r w answer queued h = record {
   few = h.few;
   flight = h.flight;
   alike = h.alike;
-  last = tt;
   fresh = h.fresh;
   known = tt;
   again = h.again;
 }
 
 outcome_cases : (r : Rules) (w : Run) (answer : List ℕ) (in_flight queued : List Request) → w.proxy.is_up ≡ true → Holds r (with_hand r in_flight queued w)
-    → Holds r (said r (with_hand r in_flight queued w) answer (outcome_of r answer w.proxy.is_resent (map (pending_of r) in_flight)))
+    → Holds r (said r (with_hand r in_flight queued w) answer (outcome_of r answer w.proxy.is_resent (is_late (with_hand r in_flight queued w).proxy) (map (pending_of r) in_flight)))
 outcome_cases r w answer [] queued up h = said_unsolicited r w answer queued h
 outcome_cases r w answer (a ∷ more) queued up h =
+    let P : Outcome → Type 0 = λ g. Holds r (said r (with_hand r (a ∷ more) queued w) answer g) in
     let turned : Bool = needs_number r a.line && r.refuses_number answer in
-    either (λ g. Holds r (said r (with_hand r (a ∷ more) queued w) answer g)) (w.proxy.is_resent && (r.is_inconclusive answer || turned)) (Ended a.from) (cond turned (Retry a.from) (To a.from))
-    (λ unsure. said_ended r w answer a more queued up h)
-    (λ sure. either (λ g. Holds r (said r (with_hand r (a ∷ more) queued w) answer g)) turned (Retry a.from) (To a.from)
-    (λ is. (let p = both_true (needs_number r a.line) (r.refuses_number answer) is in said_retry r w answer a more queued up (sent_once w.proxy.is_resent (r.is_inconclusive answer) turned sure is) p.0 p.1 h))
-    (λ is_not. said_to r w answer a more queued up h))
-  where
-    sent_once : (again unsure turned : Bool) → (again && (unsure || turned)) ≡ false → turned ≡ true → again ≡ false
-    sent_once true true turned h is = absurd (cc h)
-    sent_once true false turned h is = absurd (cc (h, is))
-    sent_once false unsure turned h is = refl
+    let unclear : Bool = w.proxy.is_resent && r.is_inconclusive answer in
+    let late : Bool = is_late (with_hand r (a ∷ more) queued w).proxy a.from in
+    either P turned (cond w.proxy.is_resent (Ended a.from) (Retry a.from)) (cond (unclear || late) (Ended a.from) (To a.from))
+    (λ is. either P w.proxy.is_resent (Ended a.from) (Retry a.from) (λ again. said_ended r w answer a more queued up h)
+    (λ new. (let p = both_true (needs_number r a.line) (r.refuses_number answer) is in said_retry r w answer a more queued up new p.0 p.1 h)))
+    (λ is_not. either P (unclear || late) (Ended a.from) (To a.from) (λ ends. said_ended r w answer a more queued up h)
+    (λ in_turn. said_to r w answer a more queued up (none_late r a.from w.proxy.refused queued (both_false unclear late in_turn).1) h))
 
 answers_holds : (r : Rules) (w : Run) (in_flight queued : List Request) (answer : List ℕ) → Holds r (with_hand r in_flight queued w) → Holds r (happens r (with_hand r in_flight queued w) (Answers answer))
 answers_holds r w in_flight queued answer h =
     let v : Run = with_hand r in_flight queued w in
     either (Holds r) w.proxy.is_up (said r v answer (outcome r answer v.proxy)) v
     (λ up. (
-    let is : outcome r answer v.proxy ≡ outcome_of r answer w.proxy.is_resent (map (pending_of r) in_flight) = ap (λ b. cond b (outcome_of r answer w.proxy.is_resent (map (pending_of r) in_flight)) Unsolicited) up in
+    let is : outcome r answer v.proxy ≡ outcome_of r answer w.proxy.is_resent (is_late (with_hand r in_flight queued w).proxy) (map (pending_of r) in_flight) = ap (λ b. cond b (outcome_of r answer w.proxy.is_resent (is_late (with_hand r in_flight queued w).proxy) (map (pending_of r) in_flight)) Unsolicited) up in
     subst (λ g. Holds r (said r v answer g)) (sym is) (outcome_cases r w answer in_flight queued up h)))
     (λ down. h)
 
@@ -755,6 +737,7 @@ lost_none r w in_flight queued again h = record {
   wired = tt;
   single = λ up. absurd (cc up);
   twice = λ down. again;
+  within = h.within;
   turn = h.turn;
   over = h.over;
   own = h.own;
@@ -766,7 +749,6 @@ lost_none r w in_flight queued again h = record {
   few = h.few;
   flight = h.flight;
   alike = h.alike;
-  last = h.last;
   fresh = h.fresh;
   known = h.known;
   again = h.again;
@@ -782,8 +764,9 @@ lost_first r w a more queued unowned again h = record {
   wired = tt;
   single = λ up. absurd (cc up);
   twice = λ down. again;
-  turn = turn_forgetting a.from w.ended w.delivered more queued w.requests (λ d apart going. turn_rest a more w.delivered queued w.requests d apart (h.turn d going));
-  over = λ d is. over_all w.ended w.delivered (a ∷ more) queued w.requests h.turn h.over d;
+  within = within_without r a.from w.proxy.refused queued h.within;
+  turn = turn_forgetting r a.from w.ended w.delivered w.proxy.refused more queued w.requests (λ d apart going. turn_rest a more w.delivered w.proxy.refused queued w.requests d apart (h.turn d going));
+  over = λ d is. over_all w.ended w.delivered w.proxy.refused (a ∷ more) queued w.requests h.turn h.over d;
   own = h.own;
   denied = h.denied;
   in_flight = h.in_flight.1;
@@ -793,7 +776,6 @@ lost_first r w a more queued unowned again h = record {
   few = few_forgetting a.from (map (pending_of r) more) (map (pending_of r) queued) (few_rest (pending_of r a) (map (pending_of r) more) (map (pending_of r) queued) h.few);
   flight = (let long = h.flight in omega (arith, long));
   alike = alike_rest (pending_of r a) (map (pending_of r) more) h.alike;
-  last = h.last.1;
   fresh = fresh_forgetting r a.from w.sent queued w.requests w.answers h.fresh;
   known = subst (λ b. AllByRecursion (IsKnown w.sent) (sendings r 0 true 0 (step b w.proxy.number) more)) unowned (known_serial r w.sent 1 0 (step (needs_number r a.line) w.proxy.number) more h.known.1);
   again = h.again;
@@ -823,8 +805,9 @@ taken_first r w a more queued down owned h = record {
   wired = h.wired;
   single = λ up. absurd (cc (up, down));
   twice = λ is_down. all_twice_rest (pending_of r a) (map (pending_of r) more) (h.twice is_down);
-  turn = turn_forgetting a.from w.ended w.delivered more queued w.requests (λ d apart going. turn_rest a more w.delivered queued w.requests d apart (h.turn d going));
-  over = λ d is. over_all w.ended w.delivered (a ∷ more) queued w.requests h.turn h.over d;
+  within = within_without r a.from w.proxy.refused queued h.within;
+  turn = turn_forgetting r a.from w.ended w.delivered w.proxy.refused more queued w.requests (λ d apart going. turn_rest a more w.delivered w.proxy.refused queued w.requests d apart (h.turn d going));
+  over = λ d is. over_all w.ended w.delivered w.proxy.refused (a ∷ more) queued w.requests h.turn h.over d;
   own = h.own;
   denied = h.denied;
   in_flight = h.in_flight.1;
@@ -834,7 +817,6 @@ taken_first r w a more queued down owned h = record {
   few = few_forgetting a.from (map (pending_of r) more) (map (pending_of r) queued) (few_rest (pending_of r a) (map (pending_of r) more) (map (pending_of r) queued) h.few);
   flight = (let long = h.flight in omega (arith, long));
   alike = alike_rest (pending_of r a) (map (pending_of r) more) h.alike;
-  last = h.last.1;
   fresh = fresh_forgetting r a.from w.sent queued w.requests w.answers h.fresh;
   known = subst (λ b. AllByRecursion (IsKnown w.sent) (sendings r 0 true 0 (step b w.proxy.number) more)) owned (known_serial r w.sent 1 0 (step (needs_number r a.line) w.proxy.number) more h.known.1);
   again = h.again;
@@ -883,6 +865,7 @@ connected_holds r w in_flight queued down h =
       wired = sent_right w.sent (sends);
       single = λ up. flight_is (map (pending_of r) in_flight) h.flight (h.twice down);
       twice = λ now. absurd (cc now);
+      within = h.within;
       turn = h.turn;
       over = h.over;
       own = own_sent r w.requests w.sent (sends) (by_server w.delivered) w.answers h.own;
@@ -899,7 +882,6 @@ connected_holds r w in_flight queued down h =
       few = h.few;
       flight = h.flight;
       alike = h.alike;
-      last = h.last;
       fresh = λ p. (
           let before = h.fresh p in
           let none : count_by (is_first_at p) sends ≡ 0 = count_sendings r n false (is_first_at p) (λ a. false) (λ j i a. and_false (a.place == p)) m k in_flight ∙ none_false in_flight in
@@ -942,6 +924,7 @@ hand_happens r w in_flight queued (Counts last) h = record {
   wired = h.wired;
   single = h.single;
   twice = h.twice;
+  within = h.within;
   turn = h.turn;
   over = h.over;
   own = h.own;
@@ -953,7 +936,6 @@ hand_happens r w in_flight queued (Counts last) h = record {
   few = h.few;
   flight = h.flight;
   alike = h.alike;
-  last = h.last;
   fresh = h.fresh;
   known = h.known;
   again = h.again;
@@ -969,17 +951,18 @@ pub run_holds : (r : Rules) (w : Run) (events : List Event) → Holds r w → Ho
 run_holds r w [] h = h
 run_holds r w (event ∷ events) h = run_holds r (happens r w event) events (happens_holds r w event h)
 
-pub keeps_of : (r : Rules) (w : Run) → Holds r w → AreSerial 0 w.sent → HasOneNumber r w → IsFresh r w → IsInOrder w → Keeps r w
+pub keeps_of : (r : Rules) (w : Run) → Holds r w → AreSerial 0 w.sent → HasOneNumber r w → IsFresh r w → IsInOrder r w → Keeps r w
 keeps_of r w h serial one_number fresh in_order = record {
   in_order = in_order;
   serial = serial;
   one_number = one_number;
   fresh = fresh;
   numbered = h.numbered;
-  in_turn = over_all w.ended w.delivered w.in_flight w.queued w.requests h.turn h.over;
+  in_turn = over_all w.ended w.delivered w.proxy.refused w.in_flight w.queued w.requests h.turn h.over;
   in_hand = h.turn;
   flying = h.flying;
   waiting = h.waiting;
+  refused = h.within;
   wire = h.wire;
   text = λ up. (let out = h.wire up in ap (text_of r w.proxy.number) h.flying ∙ text_same r out.0 (not w.proxy.is_resent) out.1 w.proxy.number w.in_flight ∙ sym (ap bytes_of out.2));
   own = h.own;

@@ -1,5 +1,6 @@
 pub mod Texts
 pub mod Lists
+pub mod Hand
 pub mod Picks
 pub mod Parts
 pub mod Chosen
@@ -11,5 +12,6 @@ pub mod Fair
 pub mod Ordering
 pub mod WorkedSession
 pub mod Held
+pub mod Outcomes
 pub mod Server
 pub mod TakenBack

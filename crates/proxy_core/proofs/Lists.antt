@@ -1,11 +1,11 @@
 -- Lines by their connection and their places, answers by what was heard, and counts of them.
-use Rattle.std.proofs.Common.{◌≡◌, ℕ, ◌+◌, ◌≤◌, ◌<◌, ◌==◌, ◌&&◌, ◌||◌, not, nat_le, Bool, true, false, List, [], ◌∷◌, ◌++◌, length, map, filter, count_by, refl, sym, ap, subst, ◌∙◌, arith, inl, inr, append_assoc, append-nil, cond}
+use Rattle.std.proofs.Common.{◌≡◌, ℕ, zero, suc, ◌+◌, ◌≤◌, ◌<◌, ◌==◌, ◌&&◌, ◌||◌, not, nat_le, Bool, true, false, List, [], ◌∷◌, ◌++◌, length, map, filter, count_by, refl, sym, ap, subst, ◌∙◌, arith, inl, inr, append_assoc, append-nil, cond}
 use Rattle.std.specs.List.{AllByRecursion, list_all}
 use Rattle.std.proofs.lemmas.Bool.Decides.{nat_tests}
-use Rattle.std.proofs.lemmas.List.Sums.{sum_by-cons, sum_by_push}
+use Rattle.std.proofs.lemmas.List.Sums.{sum_by-cons, sum_by-insert, sum_by_push}
 use Rattle.proxy_core.specs.Rules.{Rules, as_sent, next, needs_number}
 use Rattle.proxy_core.specs.Pending.{Pending, is_from, step, text_of}
-use Rattle.proxy_core.specs.Machine.{is_alike, is_among, is_flight, is_in_turn, left, picked, rest, stay_with}
+use Rattle.proxy_core.specs.Machine.{is_alike, is_among, is_flight, is_in_turn, left, picked, put_back, rest}
 use Rattle.proxy_core.specs.Run.{Request, Sent, Delivery, Answer, is_ended, without, written}
 use Rattle.proxy_core.specs.Promises.{AreNumbered, AreOf, by_server, bytes_of, pending_of, one_by_server, place_if, places_of, places_delivered, sending, sendings}
 
@@ -18,6 +18,10 @@ either P false x y this that = that refl
 pub both_true : (a b : Bool) → (a && b) ≡ true → (a ≡ true) × (b ≡ true)
 both_true true b h = (refl, h)
 both_true false b h = absurd (cc h)
+
+pub both_false : (a b : Bool) → (a || b) ≡ false → (a ≡ false) × (b ≡ false)
+both_false true b h = absurd (cc h)
+both_false false b h = (refl, h)
 
 -- ---- lines by their connection
 
@@ -131,13 +135,15 @@ one_place p n (x ∷ xs) all =
       | false ↦ λ so e. (let fits = one_place p (n + 1) xs all.1 in omega (arith, e, fits))
     ] refl whole
 
+pub map_put : {X Y : Type 0} (f : X → Y) (k : ℕ) (x : X) (xs : List X) → put_back k (f x ∷ []) (map f xs) ≡ map f (put_back k (x ∷ []) xs)
+map_put f zero x xs = refl
+map_put f (suc k) x [] = refl
+map_put f (suc k) x (y ∷ ys) = ap (λ l. f y ∷ l) (map_put f k x ys)
+
 -- ---- what is picked, and what stays
 
 among_more : (c d : ℕ) (ds : List ℕ) → is_among c ds ≡ true → is_among c (d ∷ ds) ≡ true
 among_more c d ds is = elim (d == c) as (λ b. (b || is_among c ds) ≡ true) [ true ↦ refl | false ↦ is ]
-
-among_with : (c : ℕ) (a : Pending) (stay : List ℕ) → is_among c stay ≡ true → is_among c (stay_with a stay) ≡ true
-among_with c a stay is = either (λ l. is_among c l ≡ true) a.is_unnumbered (a.from ∷ stay) stay (λ own. among_more c a.from stay is) (λ other. is)
 
 -- of a connection of which a line stays none is picked
 none_picked : (r : Rules) (c : ℕ) (stay : List ℕ) (picks : List Bool) (xs : List Request) → is_among c stay ≡ true → is_in_turn stay picks (map (pending_of r) xs) ≡ true
@@ -145,9 +151,9 @@ none_picked : (r : Rules) (c : ℕ) (stay : List ℕ) (picks : List Bool) (xs : 
 none_picked r c stay [] xs stays turn = (refl, refl)
 none_picked r c stay (pick ∷ picks) [] stays turn = (refl, refl)
 none_picked r c stay (true ∷ picks) (a ∷ more) stays turn =
-    let p = both_true (not (is_among a.from stay)) (is_in_turn (stay_with (pending_of r a) stay) picks (map (pending_of r) more)) turn in
+    let p = both_true (not (is_among a.from stay)) (is_in_turn stay picks (map (pending_of r) more)) turn in
     let apart : (a.from == c) ≡ false = ended_apart a.from c stay (not_true (is_among a.from stay) p.0) stays in
-    let rest = none_picked r c (stay_with (pending_of r a) stay) picks more (among_with c (pending_of r a) stay stays) p.1 in
+    let rest = none_picked r c stay picks more stays p.1 in
     (ap (λ b. place_if b a.place ++ places_of c (picked picks more)) apart ∙ rest.0, rest.1 ∙ sym (ap (λ b. place_if b a.place ++ places_of c more) apart))
   where
     not_true : (b : Bool) → not b ≡ true → b ≡ false
@@ -163,9 +169,9 @@ pub from_picked : (r : Rules) (c : ℕ) (stay : List ℕ) (picks : List Bool) (x
 from_picked r c stay [] xs turn = refl
 from_picked r c stay (pick ∷ picks) [] turn = refl
 from_picked r c stay (true ∷ picks) (a ∷ more) turn =
-    let p = both_true (not (is_among a.from stay)) (is_in_turn (stay_with (pending_of r a) stay) picks (map (pending_of r) more)) turn in
+    let p = both_true (not (is_among a.from stay)) (is_in_turn stay picks (map (pending_of r) more)) turn in
     append_assoc (place_if (a.from == c) a.place) (places_of c (picked picks more)) (places_of c (left picks more))
-    ∙ ap (λ l. place_if (a.from == c) a.place ++ l) (from_picked r c (stay_with (pending_of r a) stay) picks more p.1)
+    ∙ ap (λ l. place_if (a.from == c) a.place ++ l) (from_picked r c stay picks more p.1)
 from_picked r c stay (false ∷ picks) (a ∷ more) turn =
     elim (a.from == c) as (λ b. (a.from == c) ≡ b → places_of c (picked picks more) ++ (place_if b a.place ++ places_of c (left picks more)) ≡ place_if b a.place ++ places_of c more) [
       | true ↦ λ so. (
@@ -174,24 +180,6 @@ from_picked r c stay (false ∷ picks) (a ∷ more) turn =
           ap (λ l. l ++ (a.place ∷ places_of c (left picks more))) none.0 ∙ ap (λ l. a.place ∷ l) none.1)
       | false ↦ λ so. from_picked r c (a.from ∷ stay) picks more turn
     ] refl
-
--- each line that may come back is the last one of its connection
-abbrev pub AreLast : Rules → List Request → Type 0
-AreLast r [] = Unit {0}
-AreLast r (a ∷ more) = (needs_number r a.line ≡ true → places_of a.from more ≡ []) × AreLast r more
-
-pub last_picked : (r : Rules) (stay : List ℕ) (picks : List Bool) (xs : List Request) → is_in_turn stay picks (map (pending_of r) xs) ≡ true → AreLast r (picked picks xs)
-last_picked r stay [] xs turn = tt
-last_picked r stay (pick ∷ picks) [] turn = tt
-last_picked r stay (true ∷ picks) (a ∷ more) turn =
-    let p = both_true (not (is_among a.from stay)) (is_in_turn (stay_with (pending_of r a) stay) picks (map (pending_of r) more)) turn in (
-      λ own. (
-          let same : (a.from == a.from) ≡ true = grind (arith, nat_tests) in
-          let here : is_among a.from (stay_with (pending_of r a) stay) ≡ true = ap (λ b. is_among a.from (cond b (a.from ∷ stay) stay)) own ∙ ap (λ b. b || is_among a.from stay) same in
-          (none_picked r a.from (stay_with (pending_of r a) stay) picks more here p.1).0),
-      last_picked r (stay_with (pending_of r a) stay) picks more p.1,
-    )
-last_picked r stay (false ∷ picks) (a ∷ more) turn = last_picked r (a.from ∷ stay) picks more turn
 
 -- ---- answers by what was heard
 
@@ -241,6 +229,12 @@ pub all_rest : {X : Type 0} (P : X → Type 0) (xs : List X) → AllByRecursion 
 all_rest P [] all = tt
 all_rest P (x ∷ xs) all = all.1
 
+-- a line that waits again
+pub all_put : {X : Type 0} (P : X → Type 0) (k : ℕ) (x : X) (xs : List X) → AllByRecursion P xs → P x → AllByRecursion P (put_back k (x ∷ []) xs)
+all_put P zero x xs all is = (is, all)
+all_put P (suc k) x [] all is = (is, tt)
+all_put P (suc k) x (y ∷ ys) all is = (all.0, all_put P k x ys all.1 is)
+
 -- ---- how many
 
 pub count_filter : {X : Type 0} (test p : X → Bool) (xs : List X) → count_by test (filter p xs) ≤ count_by test xs
@@ -282,6 +276,9 @@ count_less test more weaker (x ∷ xs) =
       | true ↦ λ so e. (let one : cond {A = ℕ} (more x) 1 0 ≡ 1 = ap (λ t. cond {A = ℕ} t 1 0) (weaker x so) in omega (arith, less, b, e, one))
       | false ↦ λ so e. omega (arith, less, b, e)
     ] refl a
+
+pub count_put : {X : Type 0} (test : X → Bool) (k : ℕ) (x : X) (xs : List X) → count_by test (put_back k (x ∷ []) xs) ≡ count_by test xs + cond (test x) 1 0
+count_put test k x xs = sum_by-insert (λ y. cond (test y) 1 0) xs k x
 
 pub count_map : {X Y : Type 0} (test : Y → Bool) (f : X → Y) (xs : List X) → count_by test (map f xs) ≡ count_by (λ x. test (f x)) xs
 count_map test f [] = refl

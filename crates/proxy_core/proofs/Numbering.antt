@@ -9,11 +9,12 @@ use Rattle.proxy_core.specs.declared.proxy.Outcome.TheVariants.{To, Ended, Retry
 use Rattle.proxy_core.specs.Rules.{Rules, next, needs_number}
 use Rattle.proxy_core.specs.Pending.{Pending, is_from, step}
 use Rattle.proxy_core.specs.declared.proxy.Outcome.{Outcome}
-use Rattle.proxy_core.specs.Machine.{Proxy, admission, after_first_answer, flown, is_alike, is_flight, is_in_turn, is_ready, left, may_go, outcome, outcome_of, picked, rest, begins_order, without_connection}
+use Rattle.proxy_core.specs.Machine.{Proxy, admission, after_first_answer, flown, is_alike, is_flight, is_in_turn, is_ready, left, may_go, outcome, outcome_of, picked, rest, begins_order, is_late, put_back, without_connection}
 use Rattle.proxy_core.specs.Run.{Request, Sent, Delivery, Answer, answer_of, delivered_too, Count, Run, Event, Arrives, Leaves, Flies, Answers, Breaks, TakesBack, Connects, Counts, broke, came, connected, happens, is_ended, new_run, next_request, run, said, took, went, without, written}
 use Rattle.proxy_core.specs.Numbers.{AreSerial, HasOneNumber, IsFresh, IsNumberRefused, IsUnused}
 use Rattle.proxy_core.specs.Promises.{AreNumbered, IsAllowed, pending_of, sending, sendings}
-use Rattle.proxy_core.proofs.Lists.{all_append, all_filter, all_left, all_picked, all_weaker, both_true, count_filter, count_picked, count_push, count_rest, either, one_place, picked_pending_of, written_of}
+use Rattle.proxy_core.proofs.Hand.{refused_without}
+use Rattle.proxy_core.proofs.Lists.{all_append, all_filter, all_left, all_picked, all_put, all_weaker, both_true, count_filter, count_picked, count_push, count_put, count_rest, either, one_place, picked_pending_of, written_of}
 use Rattle.proxy_core.proofs.Sendings.{AreApart, all_at, all_in, all_of, compare, cons_cases, in_head, in_tail, is_at, is_of, number_more, same_number, same_place, serial_append, serial_from, serial_less, serial_sendings, some_at}
 use Rattle.proxy_core.proofs.Holding.{Holds, happens_holds, with_hand}
 
@@ -366,9 +367,9 @@ module _ (r : Rules) (w : Run) (answer : List ℕ) (a : Request) (more queued : 
       ]
 
   -- the first line has its answer
-  abbrev dropped : List Pending → List Request → List Delivery → List ℕ → Run
-  dropped waiting rest delivered ended = record w {
-    proxy = record (after_first_answer r answer (with_hand r (a ∷ more) queued w).proxy) { waiting = waiting };
+  abbrev dropped : List Pending → ℕ → List Request → List Delivery → List ℕ → Run
+  dropped waiting refused rest delivered ended = record w {
+    proxy = record (after_first_answer r answer (with_hand r (a ∷ more) queued w).proxy) { waiting = waiting; refused = refused };
     in_flight = more;
     queued = rest;
     delivered = delivered;
@@ -410,9 +411,9 @@ module _ (r : Rules) (w : Run) (answer : List ℕ) (a : Request) (more queued : 
             | inr unused ↦ inr (inl unused)
           ]
 
-  dropped_numbers : (waiting : List Pending) (rest : List Request) (delivered : List Delivery) (ended : List ℕ)
-      → Hand more rest w.requests → AllByRecursion (WaitsAnew r w.sent (w.answers ++ answered ∷ [])) rest → Numbers r (dropped waiting rest delivered ended)
-  dropped_numbers waiting rest delivered ended hand waits =
+  dropped_numbers : (waiting : List Pending) (refused : ℕ) (rest : List Request) (delivered : List Delivery) (ended : List ℕ)
+      → Hand more rest w.requests → AllByRecursion (WaitsAnew r w.sent (w.answers ++ answered ∷ [])) rest → Numbers r (dropped waiting refused rest delivered ended)
+  dropped_numbers waiting refused rest delivered ended hand waits =
       let heard : List Answer = answered ∷ [] in
       record {
         serial = h.serial;
@@ -447,22 +448,22 @@ module _ (r : Rules) (w : Run) (answer : List ℕ) (a : Request) (more queued : 
   to_numbers : Numbers r (after (To a.from))
   to_numbers =
       subst (λ l. Numbers r (record (with_hand r (a ∷ more) queued w) { proxy = after_first_answer r answer (with_hand r (a ∷ more) queued w).proxy; in_flight = more; delivered = delivered_too w.ended w.delivered a.from a.place answer; wire = rest l; answers = w.answers ++ answer_of l answer })) (sym is_wire)
-      (dropped_numbers (map (pending_of r) queued) queued (delivered_too w.ended w.delivered a.from a.place answer) w.ended (hand_rest queued (λ p. omega arith)) (waits_heard queued h.waits))
+      (dropped_numbers (map (pending_of r) queued) w.proxy.refused queued (delivered_too w.ended w.delivered a.from a.place answer) w.ended (hand_rest queued (λ p. omega arith)) (waits_heard queued h.waits))
 
   ended_numbers : Numbers r (after (Ended a.from))
   ended_numbers =
       let kept : List Request = without a.from queued in
       subst (λ l. Numbers r (record (with_hand r (a ∷ more) queued w) { proxy = without_connection a.from (after_first_answer r answer (with_hand r (a ∷ more) queued w).proxy); in_flight = more; queued = kept; ended = a.from ∷ w.ended; wire = rest l; answers = w.answers ++ answer_of l answer })) (sym is_wire)
-      (dropped_numbers (filter (λ x. not (is_from a.from x)) (map (pending_of r) queued)) kept w.delivered (a.from ∷ w.ended) (hand_rest kept (λ p. count_filter (is_at p) (λ (x : Request). not (x.from == a.from)) queued))
+      (dropped_numbers (filter (λ x. not (is_from a.from x)) (map (pending_of r) queued)) (refused_without r a.from w.proxy.refused queued) kept w.delivered (a.from ∷ w.ended) (hand_rest kept (λ p. count_filter (is_at p) (λ (x : Request). not (x.from == a.from)) queued))
       (waits_heard kept (all_filter (WaitsAnew r w.sent w.answers) (λ (x : Request). not (x.from == a.from)) queued h.waits)))
 
   retry_numbers : w.proxy.is_resent ≡ false → r.refuses_number answer ≡ true → Numbers r (after (Retry a.from))
   retry_numbers new refuses =
       let anew : WaitsAnew r w.sent (w.answers ++ answered ∷ []) a = λ s in_it own at. only_first_refused s in_it own at in
-      subst (λ l. Numbers r (record (with_hand r (a ∷ more) queued w) { proxy = record (after_first_answer r answer (with_hand r (a ∷ more) queued w).proxy) { waiting = map (pending_of r) (a ∷ queued) }; in_flight = more; queued = a ∷ queued; wire = rest l; answers = w.answers ++ answer_of l answer })) (sym is_wire)
-      (dropped_numbers (map (pending_of r) (a ∷ queued)) (a ∷ queued) w.delivered w.ended
-      (λ p. (let all = h.hand p in omega (arith, all, sum_by-cons (λ y. cond {A = ℕ} (is_at p y) 1 0) a more, sum_by-cons (λ y. cond {A = ℕ} (is_at p y) 1 0) a queued)))
-      (anew, waits_heard queued h.waits))
+      subst (λ l. Numbers r (record (with_hand r (a ∷ more) queued w) { proxy = record (after_first_answer r answer (with_hand r (a ∷ more) queued w).proxy) { waiting = put_back w.proxy.refused (pending_of r a ∷ []) (map (pending_of r) queued); refused = w.proxy.refused + 1 }; in_flight = more; queued = put_back w.proxy.refused (a ∷ []) queued; wire = rest l; answers = w.answers ++ answer_of l answer })) (sym is_wire)
+      (dropped_numbers (put_back w.proxy.refused (pending_of r a ∷ []) (map (pending_of r) queued)) (w.proxy.refused + 1) (put_back w.proxy.refused (a ∷ []) queued) w.delivered w.ended
+      (λ p. (let all = h.hand p in omega (arith, all, sum_by-cons (λ y. cond {A = ℕ} (is_at p y) 1 0) a more, count_put (is_at p) w.proxy.refused a queued)))
+      (all_put (WaitsAnew r w.sent (w.answers ++ answered ∷ [])) w.proxy.refused a queued (waits_heard queued h.waits) anew))
     where
       only_first_refused : (s : Sent) → Contains w.sent s → s.is_unnumbered ≡ true → s.place ≡ a.place → IsNumberRefused r (w.answers ++ answered ∷ []) s
       only_first_refused s in_it own at = elim ((subst (AllByRecursion (IsOnly r w.sent w.answers)) is_wire (h.only new)).0 s in_it own (at ∙ sym of_a)) [
@@ -486,7 +487,7 @@ unsolicited_numbers r w answer queued h = record {
 }
 
 outcome_numbers : (r : Rules) (w : Run) (answer : List ℕ) (in_flight queued : List Request) → w.proxy.is_up ≡ true → Holds r (with_hand r in_flight queued w) → Numbers r (with_hand r in_flight queued w)
-    → Numbers r (said r (with_hand r in_flight queued w) answer (outcome_of r answer w.proxy.is_resent (map (pending_of r) in_flight)))
+    → Numbers r (said r (with_hand r in_flight queued w) answer (outcome_of r answer w.proxy.is_resent (is_late (with_hand r in_flight queued w).proxy) (map (pending_of r) in_flight)))
 outcome_numbers r w answer [] queued up held h = unsolicited_numbers r w answer queued h
 outcome_numbers r w answer (a ∷ more) queued up held h =
     let v : Run = with_hand r (a ∷ more) queued w in
@@ -495,24 +496,22 @@ outcome_numbers r w answer (a ∷ more) queued up held h =
     let later : List Sent = sendings r out.0 (not w.proxy.is_resent) (out.1 + 1) (step (needs_number r a.line) w.proxy.number) more in
     let is_wire : w.wire ≡ z ∷ later = out.2 in
     let sent_z : Contains w.sent z = (subst (AllByRecursion (Contains w.sent)) is_wire held.wired).0 in
+    let P : Outcome → Type 0 = λ g. Numbers r (said r v answer g) in
     let refused : Bool = needs_number r a.line && r.refuses_number answer in
-    either (λ g. Numbers r (said r v answer g)) (w.proxy.is_resent && (r.is_inconclusive answer || refused)) (Ended a.from) (cond refused (Retry a.from) (To a.from))
-    (λ unsure. ended_numbers r w answer a more queued z later h is_wire refl refl refl sent_z)
-    (λ sure. either (λ g. Numbers r (said r v answer g)) refused (Retry a.from) (To a.from)
-    (λ is. retry_numbers r w answer a more queued z later h is_wire refl refl refl sent_z (sent_once w.proxy.is_resent (r.is_inconclusive answer) refused sure is) (both_true (needs_number r a.line) (r.refuses_number answer) is).1)
-    (λ is_not. to_numbers r w answer a more queued z later h is_wire refl refl refl sent_z))
-  where
-    sent_once : (again unsure refused : Bool) → (again && (unsure || refused)) ≡ false → refused ≡ true → again ≡ false
-    sent_once true true refused t is = absurd (cc t)
-    sent_once true false refused t is = absurd (cc (t, is))
-    sent_once false unsure refused t is = refl
+    let unclear : Bool = w.proxy.is_resent && r.is_inconclusive answer in
+    let late : Bool = is_late v.proxy a.from in
+    either P refused (cond w.proxy.is_resent (Ended a.from) (Retry a.from)) (cond (unclear || late) (Ended a.from) (To a.from))
+    (λ is. either P w.proxy.is_resent (Ended a.from) (Retry a.from) (λ again. ended_numbers r w answer a more queued z later h is_wire refl refl refl sent_z)
+    (λ new. retry_numbers r w answer a more queued z later h is_wire refl refl refl sent_z new (both_true (needs_number r a.line) (r.refuses_number answer) is).1))
+    (λ is_not. either P (unclear || late) (Ended a.from) (To a.from) (λ ends. ended_numbers r w answer a more queued z later h is_wire refl refl refl sent_z)
+    (λ in_turn. to_numbers r w answer a more queued z later h is_wire refl refl refl sent_z))
 
 answers_numbers : (r : Rules) (w : Run) (in_flight queued : List Request) (answer : List ℕ) → Holds r (with_hand r in_flight queued w) → Numbers r (with_hand r in_flight queued w) → Numbers r (happens r (with_hand r in_flight queued w) (Answers answer))
 answers_numbers r w in_flight queued answer held h =
     let v : Run = with_hand r in_flight queued w in
     either (Numbers r) w.proxy.is_up (said r v answer (outcome r answer v.proxy)) v
     (λ up. (
-    let is : outcome r answer v.proxy ≡ outcome_of r answer w.proxy.is_resent (map (pending_of r) in_flight) = ap (λ b. cond b (outcome_of r answer w.proxy.is_resent (map (pending_of r) in_flight)) Unsolicited) up in
+    let is : outcome r answer v.proxy ≡ outcome_of r answer w.proxy.is_resent (is_late (with_hand r in_flight queued w).proxy) (map (pending_of r) in_flight) = ap (λ b. cond b (outcome_of r answer w.proxy.is_resent (is_late (with_hand r in_flight queued w).proxy) (map (pending_of r) in_flight)) Unsolicited) up in
     subst (λ g. Numbers r (said r v answer g)) (sym is) (outcome_numbers r w answer in_flight queued up held h)))
     (λ down. h)
 

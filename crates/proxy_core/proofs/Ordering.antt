@@ -1,17 +1,19 @@
 -- What every event keeps of the order of a connection's lines.
-use Rattle.std.proofs.Common.{◌≡◌, ◌⊎◌, ℕ, ◌+◌, ◌≤◌, ◌<◌, ◌==◌, ◌&&◌, ◌||◌, not, Bool, true, false, List, [], ◌∷◌, ◌++◌, Some, None, length, map, refl, sym, ap, subst, ◌∙◌, arith, inl, inr, append_assoc, append-nil, cond, Contains}
+use Rattle.std.proofs.Common.{◌≡◌, ◌⊎◌, ℕ, ◌+◌, ◌≤◌, ◌<◌, ◌==◌, ◌&&◌, ◌||◌, not, Bool, true, false, List, [], ◌∷◌, ◌++◌, Some, None, length, map, take, drop, refl, sym, ap, subst, ◌∙◌, arith, inl, inr, append_assoc, cond, Contains}
 use Rattle.std.specs.List.{AllByRecursion, list_all}
 use Rattle.std.proofs.lemmas.Bool.Decides.{nat_tests}
 use Rattle.std.proofs.lemmas.List.Elements.{Contains-append_cases, Contains-push_cases}
 use Rattle.proxy_core.specs.declared.proxy.Admission.TheVariants.{Queued, Denied, Deferred}
+use Rattle.proxy_core.specs.declared.proxy.Outcome.{Outcome}
 use Rattle.proxy_core.specs.declared.proxy.Outcome.TheVariants.{To, Ended, Retry, Unsolicited}
 use Rattle.proxy_core.specs.Rules.{Rules, next, needs_number}
 use Rattle.proxy_core.specs.Pending.{Pending, step}
-use Rattle.proxy_core.specs.Machine.{Proxy, admission, flown, is_alike, is_flight, is_in_turn, is_ready, left, may_go, outcome, outcome_of, picked, rest, begins_order}
+use Rattle.proxy_core.specs.Machine.{Proxy, admission, flown, is_alike, is_flight, is_in_turn, is_ready, left, may_go, outcome, outcome_of, picked, rest, begins_order, is_late}
 use Rattle.proxy_core.specs.Run.{Request, Sent, Answer, Run, Event, Arrives, Leaves, Flies, Answers, Breaks, TakesBack, Connects, Counts, answer_of, broke, came, connected, happens, is_ended, new_run, next_request, run, said, took, went, without, written}
-use Rattle.proxy_core.specs.Numbers.{IsInOrder}
-use Rattle.proxy_core.specs.Promises.{pending_of, place_if, places_of, sending, sendings}
-use Rattle.proxy_core.proofs.Lists.{both_true, either, from_other, from_picked, of_push, picked_pending_of, written_of}
+use Rattle.proxy_core.specs.Numbers.{IsInOrder, asks_again}
+use Rattle.proxy_core.specs.Promises.{hand, pending_of, place_if, places_of, sending, sendings}
+use Rattle.proxy_core.proofs.Hand.{hand_again, hand_first, hand_flies, hand_other, hand_own, hand_push, hand_waiting, none_late, refused_without}
+use Rattle.proxy_core.proofs.Lists.{both_false, both_true, either, picked_pending_of, written_of}
 use Rattle.proxy_core.proofs.Sendings.{all_at, all_of, cons_cases, is_of, serial_from, serial_less, serial_sendings}
 use Rattle.proxy_core.proofs.Holding.{Holds, IsGood, happens_holds, with_hand}
 use Rattle.proxy_core.proofs.Numbering.{Numbers, happens_numbers, none_sent}
@@ -38,6 +40,9 @@ all_more : (P Q : ℕ → Type 0) → ((p : ℕ) → P p → Q p) → (xs : List
 all_more P Q weaker [] all = tt
 all_more P Q weaker (x ∷ xs) all = (weaker x all.0, all_more P Q weaker xs all.1)
 
+all_drop : (P : ℕ → Type 0) (xs own ys : List ℕ) → AllByRecursion P (xs ++ (own ++ ys)) → AllByRecursion P (xs ++ ys)
+all_drop P xs own ys all = all_both P xs ys (all_left_of P xs (own ++ ys) all) (all_right_of P own ys (all_right_of P xs (own ++ ys) all))
+
 rising_left : (xs ys : List ℕ) → Rising (xs ++ ys) → Rising xs
 rising_left [] ys rising = tt
 rising_left (x ∷ xs) ys rising = (all_left_of (λ q. x < q) xs ys rising.0, rising_left xs ys rising.1)
@@ -55,37 +60,49 @@ rising_push (x ∷ xs) b p rising less = (all_both (λ q. x < q) xs (place_if b 
     one true = (less.0, tt)
     one false = tt
 
+-- one in the middle is left out
+rising_drop : (xs own ys : List ℕ) → Rising (xs ++ (own ++ ys)) → Rising (xs ++ ys)
+rising_drop [] own ys rising = rising_right own ys rising
+rising_drop (x ∷ xs) own ys rising = (all_drop (λ q. x < q) xs own ys rising.0, rising_drop xs own ys rising.1)
+
 -- ---- the places in hand
 
-abbrev pub hand : ℕ → List Request → List Request → List ℕ
-hand c in_flight queued = places_of c in_flight ++ places_of c queued
+-- those in flight
+rising_flight : (d k : ℕ) (flight queued : List Request) → Rising (hand d k flight queued) → Rising (places_of d flight)
+rising_flight d k flight queued rising = rising_left (places_of d flight) (places_of d (drop k queued)) (rising_right (places_of d (take k queued)) (places_of d flight ++ places_of d (drop k queued)) rising)
 
--- the lines of a connection are dropped, and no others
-kept_places : (c d : ℕ) (xs : List Request) → (places_of d (without c xs) ≡ places_of d xs) ⊎ (places_of d (without c xs) ≡ [])
-kept_places c d xs = elim (c == d) as (λ b. (c == d) ≡ b → (places_of d (without c xs) ≡ places_of d xs) ⊎ (places_of d (without c xs) ≡ [])) [
-  | true ↦ λ same. inr (none xs same)
-  | false ↦ λ other. inl (from_other c d other xs)
-] refl
-  where
-    none : (xs : List Request) → (c == d) ≡ true → places_of d (without c xs) ≡ []
-    none [] same = refl
-    none (x ∷ xs) same = elim (x.from == c) as (λ b. (x.from == c) ≡ b → places_of d (cond (not b) (x ∷ without c xs) (without c xs)) ≡ []) [
-      | true ↦ λ so. none xs same
-      | false ↦ λ no. (let other : (x.from == d) ≡ false = grind (arith, nat_tests) in ap (λ b. place_if b x.place ++ places_of d (without c xs)) other ∙ none xs same)
-    ] refl
+all_flight : (P : ℕ → Type 0) (d k : ℕ) (flight queued : List Request) → AllByRecursion P (hand d k flight queued) → AllByRecursion P (places_of d flight)
+all_flight P d k flight queued all = all_left_of P (places_of d flight) (places_of d (drop k queued)) (all_right_of P (places_of d (take k queued)) (places_of d flight ++ places_of d (drop k queued)) all)
 
--- so what holds of the places in hand still does
-module _ (c d : ℕ) (first : List ℕ) (queued : List Request) where
-  rising_without : Rising (first ++ places_of d queued) → Rising (first ++ places_of d (without c queued))
-  rising_without rising = elim (kept_places c d queued) [
-    | inl same ↦ subst (λ l. Rising (first ++ l)) (sym same) rising
-    | inr none ↦ subst (λ l. Rising (first ++ l)) (sym none) (subst Rising (sym (append-nil first)) (rising_left first (places_of d queued) rising))
+-- what holds of those in flight and of those that wait
+all_hand : (P : ℕ → Type 0) (d k : ℕ) (flight queued : List Request) → AllByRecursion P (places_of d flight) → AllByRecursion P (places_of d queued) → AllByRecursion P (hand d k flight queued)
+all_hand P d k flight queued flies waits =
+    let front : List ℕ = places_of d (take k queued) in
+    let back : List ℕ = places_of d (drop k queued) in
+    let both : AllByRecursion P (front ++ back) = subst (AllByRecursion P) (sym (hand_waiting d k queued)) waits in
+    all_both P front (places_of d flight ++ back) (all_left_of P front back both) (all_both P (places_of d flight) back flies (all_right_of P front back both))
+
+-- the lines of a connection are dropped, and no others: so what holds of the places in hand still does
+module _ (r : Rules) (c d k : ℕ) (flight queued : List Request) where
+  abbrev kept : List ℕ
+  kept = hand d (refused_without r c k queued) flight (without c queued)
+
+  kept_cases : (kept ≡ hand d k flight queued) ⊎ (kept ≡ places_of d flight)
+  kept_cases = elim (c == d) as (λ b. (c == d) ≡ b → (kept ≡ hand d k flight queued) ⊎ (kept ≡ places_of d flight)) [
+    | true ↦ λ same. inr (hand_own r c d k flight queued same)
+    | false ↦ λ other. inl (hand_other r c d k flight queued other)
+  ] refl
+
+  rising_without : Rising (hand d k flight queued) → Rising kept
+  rising_without rising = elim kept_cases [
+    | inl same ↦ subst Rising (sym same) rising
+    | inr flies ↦ subst Rising (sym flies) (rising_flight d k flight queued rising)
   ]
 
-  all_without : (P : ℕ → Type 0) → AllByRecursion P (first ++ places_of d queued) → AllByRecursion P (first ++ places_of d (without c queued))
-  all_without P all = elim (kept_places c d queued) [
-    | inl same ↦ subst (λ l. AllByRecursion P (first ++ l)) (sym same) all
-    | inr none ↦ subst (λ l. AllByRecursion P (first ++ l)) (sym none) (subst (AllByRecursion P) (sym (append-nil first)) (all_left_of P first (places_of d queued) all))
+  all_without : (P : ℕ → Type 0) → AllByRecursion P (hand d k flight queued) → AllByRecursion P kept
+  all_without P all = elim kept_cases [
+    | inl same ↦ subst (AllByRecursion P) (sym same) all
+    | inr flies ↦ subst (AllByRecursion P) (sym flies) (all_flight P d k flight queued all)
   ]
 
 -- the place of a request is among those of its connection
@@ -129,31 +146,31 @@ sends_order r n first m k (x ∷ xs) s z in_s in_z from less rising =
 -- ---- what is kept
 
 -- the requests in hand of its connection are not older than the one that an answer is of
-abbrev pub IsPast : List Request → List Request → Answer → Type 0
-IsPast in_flight queued h = AllByRecursion (λ p. h.sent.place ≤ p) (hand h.sent.from in_flight queued)
+abbrev pub IsPast : ℕ → List Request → List Request → Answer → Type 0
+IsPast refused in_flight queued h = AllByRecursion (λ p. h.sent.place ≤ p) (hand h.sent.from refused in_flight queued)
 
 -- a line without an answer comes after all sendings of older requests of its connection
 abbrev pub IsAfter : List Sent → Sent → Type 0
 IsAfter sent z = (s : Sent) → Contains sent s → s.from ≡ z.from → s.place < z.place → s.serial < z.serial
 
-pub record Order (w : Run) : Type 0 where
-  pub rising : (c : ℕ) → Rising (hand c w.in_flight w.queued)
-  pub past : (h : Answer) → Contains w.answers h → IsPast w.in_flight w.queued h
-  pub order : IsInOrder w
+pub record Order (r : Rules) (w : Run) : Type 0 where
+  pub rising : (c : ℕ) → Rising (hand c w.proxy.refused w.in_flight w.queued)
+  pub past : (h : Answer) → Contains w.answers h → asks_again r h ≡ false → IsPast w.proxy.refused w.in_flight w.queued h
+  pub order : IsInOrder r w
   pub after : AllByRecursion (IsAfter w.sent) w.wire
 
-pub begins : Order new_run
-begins = record {
+pub begins : (r : Rules) → Order r new_run
+begins r = record {
   rising = λ c. tt;
-  past = λ h in_it. tt;
-  order = λ h s in_h in_s from less. (let few = in_h.1 in absurd (omega (arith, few)));
+  past = λ h in_it final. tt;
+  order = λ h s in_h final in_s from less. (let few = in_h.1 in absurd (omega (arith, few)));
   after = tt;
 }
 
-leaves_order : (r : Rules) (w : Run) (c : ℕ) → Order w → Order (happens r w (Leaves c))
-leaves_order r w c h = record {
-  rising = λ d. rising_without c d (places_of d w.in_flight) w.queued (h.rising d);
-  past = λ g in_g. all_without c g.sent.from (places_of g.sent.from w.in_flight) w.queued (λ p. g.sent.place ≤ p) (h.past g in_g);
+leaves_order : (r : Rules) (w : Run) (in_flight queued : List Request) (c : ℕ) → Order r (with_hand r in_flight queued w) → Order r (happens r (with_hand r in_flight queued w) (Leaves c))
+leaves_order r w in_flight queued c h = record {
+  rising = λ d. rising_without r c d w.proxy.refused in_flight queued (h.rising d);
+  past = λ g in_g final. all_without r c g.sent.from w.proxy.refused in_flight queued (λ p. g.sent.place ≤ p) (h.past g in_g final);
   order = h.order;
   after = h.after;
 }
@@ -166,15 +183,16 @@ places_less n c (x ∷ xs) all = all_both (λ q. q < n) (place_if (x.from == c) 
     one true = (all.0, tt)
     one false = tt
 
-came_order : (r : Rules) (w : Run) (c role : ℕ) (line : List ℕ) → Holds r w → Numbers r w → Order w → Order (came r w c role line Queued)
+came_order : (r : Rules) (w : Run) (c role : ℕ) (line : List ℕ) → Holds r w → Numbers r w → Order r w → Order r (came r w c role line Queued)
 came_order r w c role line held numbers h =
     let a : Request = next_request w c role line in
     let n : ℕ = length w.requests in
+    let k : ℕ = w.proxy.refused in
     let below : (xs : List Request) → AllByRecursion (IsGood r w.requests) xs → AllByRecursion (λ (x : Request). x.place < n) xs = λ xs all. good_less xs all in
-    let pushed : (d : ℕ) → hand d w.in_flight (w.queued ++ a ∷ []) ≡ hand d w.in_flight w.queued ++ place_if (c == d) n = λ d. ap (λ l. places_of d w.in_flight ++ l) (of_push d w.queued a) ∙ sym (append_assoc (places_of d w.in_flight) (places_of d w.queued) (place_if (c == d) n)) in
+    let pushed : (d : ℕ) → hand d k w.in_flight (w.queued ++ a ∷ []) ≡ hand d k w.in_flight w.queued ++ place_if (c == d) n = λ d. hand_push d k w.in_flight w.queued a held.within in
     record {
-      rising = λ d. subst Rising (sym (pushed d)) (rising_push (hand d w.in_flight w.queued) (c == d) n (h.rising d) (all_both (λ q. q < n) (places_of d w.in_flight) (places_of d w.queued) (places_less n d w.in_flight (below w.in_flight held.in_flight)) (places_less n d w.queued (below w.queued held.queued))));
-      past = λ g in_g. subst (AllByRecursion (λ p. g.sent.place ≤ p)) (sym (pushed g.sent.from)) (all_both (λ p. g.sent.place ≤ p) (hand g.sent.from w.in_flight w.queued) (place_if (c == g.sent.from) n) (h.past g in_g)
+      rising = λ d. subst Rising (sym (pushed d)) (rising_push (hand d k w.in_flight w.queued) (c == d) n (h.rising d) (all_hand (λ q. q < n) d k w.in_flight w.queued (places_less n d w.in_flight (below w.in_flight held.in_flight)) (places_less n d w.queued (below w.queued held.queued))));
+      past = λ g in_g final. subst (AllByRecursion (λ p. g.sent.place ≤ p)) (sym (pushed g.sent.from)) (all_both (λ p. g.sent.place ≤ p) (hand g.sent.from k w.in_flight w.queued) (place_if (c == g.sent.from) n) (h.past g in_g final)
           (last (c == g.sent.from) g.sent.place (none_sent r w held g.sent (all_at (λ (x : Answer). Contains w.sent x.sent) w.answers g numbers.heard in_g))));
       order = h.order;
       after = h.after;
@@ -188,10 +206,10 @@ came_order r w c role line held numbers h =
     last true p less = (omega (arith, less), tt)
     last false p less = tt
 
-arrives_order : (r : Rules) (w : Run) (c role : ℕ) (line : List ℕ) → Holds r w → Numbers r w → Order w → Order (happens r w (Arrives c role line))
+arrives_order : (r : Rules) (w : Run) (c role : ℕ) (line : List ℕ) → Holds r w → Numbers r w → Order r w → Order r (happens r w (Arrives c role line))
 arrives_order r w c role line held numbers h =
-    either Order (is_ended c w.ended) w (came r w c role line (admission r c role line w.proxy)) (λ over. h)
-    (λ going. elim (admission r c role line w.proxy) as (λ t. Order (came r w c role line t)) [
+    either (Order r) (is_ended c w.ended) w (came r w c role line (admission r c role line w.proxy)) (λ over. h)
+    (λ going. elim (admission r c role line w.proxy) as (λ t. Order r (came r w c role line t)) [
       | Queued ↦ came_order r w c role line held numbers h
       | Denied ↦ record { rising = h.rising; past = h.past; order = h.order; after = h.after }
       | Deferred ↦ record { rising = h.rising; past = h.past; order = h.order; after = h.after }
@@ -199,16 +217,16 @@ arrives_order r w c role line held numbers h =
 
 -- ---- lines are written
 
-module _ (r : Rules) (w : Run) (numbers : Numbers r w) (h : Order w) (n : ℕ) (first : Bool) (k : ℕ) (xs : List Request) (rising : (c : ℕ) → Rising (places_of c xs)) (past : (g : Answer) → Contains w.answers g → AllByRecursion (λ p. g.sent.place ≤ p) (places_of g.sent.from xs)) where
+module _ (r : Rules) (w : Run) (numbers : Numbers r w) (h : Order r w) (n : ℕ) (first : Bool) (k : ℕ) (xs : List Request) (rising : (c : ℕ) → Rising (places_of c xs)) (past : (g : Answer) → Contains w.answers g → asks_again r g ≡ false → AllByRecursion (λ p. g.sent.place ≤ p) (places_of g.sent.from xs)) where
   abbrev writes : List Sent
   writes = sendings r n first (length w.sent) k xs
 
-  all_order : (g : Answer) (s : Sent) → Contains w.answers g → Contains (w.sent ++ writes) s → s.from ≡ g.sent.from → s.place < g.sent.place → s.serial < g.sent.serial
-  all_order g s in_g in_s from less = elim (Contains-append_cases w.sent writes s in_s) [
-    | inl old ↦ h.order g s in_g old from less
+  all_order : (g : Answer) (s : Sent) → Contains w.answers g → asks_again r g ≡ false → Contains (w.sent ++ writes) s → s.from ≡ g.sent.from → s.place < g.sent.place → s.serial < g.sent.serial
+  all_order g s in_g final in_s from less = elim (Contains-append_cases w.sent writes s in_s) [
+    | inl old ↦ h.order g s in_g final old from less
     | inr new ↦ (
         let o = is_of r n first (length w.sent) k xs s new in
-        let no_older : g.sent.place ≤ o.ask.place = places_at (λ p. g.sent.place ≤ p) xs o.ask g.sent.from o.in_it (o.from ∙ from) (past g in_g) in
+        let no_older : g.sent.place ≤ o.ask.place = places_at (λ p. g.sent.place ≤ p) xs o.ask g.sent.from o.in_it (o.from ∙ from) (past g in_g final) in
         let at = o.place in
         absurd (omega (arith, no_older, at, less)))
   ]
@@ -222,7 +240,7 @@ module _ (r : Rules) (w : Run) (numbers : Numbers r w) (h : Order w) (n : ℕ) (
     | inr new ↦ sends_order r n first (length w.sent) k xs s z new in_z from less (rising z.from)
   ])
 
-went_order : (r : Rules) (w : Run) (in_flight queued : List Request) (picks : List Bool) → may_go picks (with_hand r in_flight queued w).proxy ≡ true → Holds r (with_hand r in_flight queued w) → Numbers r (with_hand r in_flight queued w) → Order (with_hand r in_flight queued w) → Order (went r picks (with_hand r in_flight queued w))
+went_order : (r : Rules) (w : Run) (in_flight queued : List Request) (picks : List Bool) → may_go picks (with_hand r in_flight queued w).proxy ≡ true → Holds r (with_hand r in_flight queued w) → Numbers r (with_hand r in_flight queued w) → Order r (with_hand r in_flight queued w) → Order r (went r picks (with_hand r in_flight queued w))
 went_order r w (a ∷ more) queued picks may held numbers h =
     let f : Proxy = (with_hand r (a ∷ more) queued w).proxy in
     let go : List Pending = picked picks f.waiting in
@@ -243,32 +261,33 @@ went_order r w [] queued picks may held numbers h =
     let out = held.wire p.0 in
     let clear : w.wire ≡ [] = out.2 in
     let wrote : written r n true m f.last xs go ≡ sends = ap (written r n true m f.last xs) (picked_pending_of r picks queued) ∙ written_of r n true m f.last xs in
-    let split : (c : ℕ) → hand c xs (left picks queued) ≡ places_of c queued = λ c. from_picked r c [] picks queued turn in
-    let rising : (c : ℕ) → Rising (places_of c xs) = λ c. rising_left (places_of c xs) (places_of c (left picks queued)) (subst Rising (sym (split c)) (h.rising c)) in
-    let all_past : (g : Answer) → Contains w.answers g → AllByRecursion (λ i. g.sent.place ≤ i) (hand g.sent.from xs (left picks queued)) = λ g in_g. subst (AllByRecursion (λ i. g.sent.place ≤ i)) (sym (split g.sent.from)) (h.past g in_g) in
-    let past : (g : Answer) → Contains w.answers g → AllByRecursion (λ i. g.sent.place ≤ i) (places_of g.sent.from xs) = λ g in_g. all_left_of (λ i. g.sent.place ≤ i) (places_of g.sent.from xs) (places_of g.sent.from (left picks queued)) (all_past g in_g) in
-    subst (λ l. Order (record v { proxy = flown picks f; in_flight = xs; queued = left picks queued; sent = w.sent ++ l; wire = w.wire ++ l })) (sym wrote) (record {
+    let rest : List Request = left picks queued in
+    let split : (c : ℕ) → places_of c xs ++ places_of c rest ≡ hand c f.refused [] queued = λ c. hand_flies r c f.refused picks queued turn in
+    let rising : (c : ℕ) → Rising (places_of c xs) = λ c. rising_left (places_of c xs) (places_of c rest) (subst Rising (sym (split c)) (h.rising c)) in
+    let all_past : (g : Answer) → Contains w.answers g → asks_again r g ≡ false → AllByRecursion (λ i. g.sent.place ≤ i) (places_of g.sent.from xs ++ places_of g.sent.from rest) = λ g in_g final. subst (AllByRecursion (λ i. g.sent.place ≤ i)) (sym (split g.sent.from)) (h.past g in_g final) in
+    let past : (g : Answer) → Contains w.answers g → asks_again r g ≡ false → AllByRecursion (λ i. g.sent.place ≤ i) (places_of g.sent.from xs) = λ g in_g final. all_left_of (λ i. g.sent.place ≤ i) (places_of g.sent.from xs) (places_of g.sent.from rest) (all_past g in_g final) in
+    subst (λ l. Order r (record v { proxy = flown picks f; in_flight = xs; queued = left picks queued; sent = w.sent ++ l; wire = w.wire ++ l })) (sym wrote) (record {
       rising = λ c. subst Rising (sym (split c)) (h.rising c);
       past = all_past;
       order = all_order r v numbers h n true f.last xs rising past;
       after = subst (λ l. AllByRecursion (IsAfter (w.sent ++ sends)) (l ++ sends)) (sym clear) (all_after r v numbers h n true f.last xs rising past);
     })
 
-flies_order : (r : Rules) (w : Run) (in_flight queued : List Request) (picks : List Bool) → Holds r (with_hand r in_flight queued w) → Numbers r (with_hand r in_flight queued w) → Order (with_hand r in_flight queued w) → Order (happens r (with_hand r in_flight queued w) (Flies picks))
+flies_order : (r : Rules) (w : Run) (in_flight queued : List Request) (picks : List Bool) → Holds r (with_hand r in_flight queued w) → Numbers r (with_hand r in_flight queued w) → Order r (with_hand r in_flight queued w) → Order r (happens r (with_hand r in_flight queued w) (Flies picks))
 flies_order r w in_flight queued picks held numbers h =
     let v : Run = with_hand r in_flight queued w in
-    either Order (may_go picks v.proxy) (went r picks v) v (λ may. went_order r w in_flight queued picks may held numbers h) (λ may_not. h)
+    either (Order r) (may_go picks v.proxy) (went r picks v) v (λ may. went_order r w in_flight queued picks may held numbers h) (λ may_not. h)
 
-connects_order : (r : Rules) (w : Run) (in_flight queued : List Request) → Numbers r (with_hand r in_flight queued w) → Order (with_hand r in_flight queued w) → Order (happens r (with_hand r in_flight queued w) Connects)
+connects_order : (r : Rules) (w : Run) (in_flight queued : List Request) → Numbers r (with_hand r in_flight queued w) → Order r (with_hand r in_flight queued w) → Order r (happens r (with_hand r in_flight queued w) Connects)
 connects_order r w in_flight queued numbers h =
     let v : Run = with_hand r in_flight queued w in
     let n : ℕ = length w.requests in
     let m : ℕ = length w.sent in
     let k : ℕ = w.proxy.number in
-    let rising : (c : ℕ) → Rising (places_of c in_flight) = λ c. rising_left (places_of c in_flight) (places_of c queued) (h.rising c) in
-    let past : (g : Answer) → Contains w.answers g → AllByRecursion (λ p. g.sent.place ≤ p) (places_of g.sent.from in_flight) = λ g in_g. all_left_of (λ p. g.sent.place ≤ p) (places_of g.sent.from in_flight) (places_of g.sent.from queued) (h.past g in_g) in
-    either Order w.proxy.is_up v (connected r v) (λ up. h)
-    (λ down. subst (λ l. Order (record v { proxy = record (v.proxy) { is_up = true }; sent = w.sent ++ l; wire = l })) (sym (written_of r n false m k in_flight)) (record {
+    let rising : (c : ℕ) → Rising (places_of c in_flight) = λ c. rising_flight c w.proxy.refused in_flight queued (h.rising c) in
+    let past : (g : Answer) → Contains w.answers g → asks_again r g ≡ false → AllByRecursion (λ p. g.sent.place ≤ p) (places_of g.sent.from in_flight) = λ g in_g final. all_flight (λ p. g.sent.place ≤ p) g.sent.from w.proxy.refused in_flight queued (h.past g in_g final) in
+    either (Order r) w.proxy.is_up v (connected r v) (λ up. h)
+    (λ down. subst (λ l. Order r (record v { proxy = record (v.proxy) { is_up = true }; sent = w.sent ++ l; wire = l })) (sym (written_of r n false m k in_flight)) (record {
       rising = h.rising;
       past = h.past;
       order = all_order r v numbers h n false k in_flight rising past;
@@ -278,44 +297,44 @@ connects_order r w in_flight queued numbers h =
 -- ---- the server answers, or its connection breaks
 
 -- the first line of the flight leaves it
-first_rising : (a : Request) (more queued : List Request) → ((c : ℕ) → Rising (hand c (a ∷ more) queued)) → (c : ℕ) → Rising (hand c more queued)
-first_rising a more queued rising c = rising_right (place_if (a.from == c) a.place) (hand c more queued) (subst Rising (append_assoc (place_if (a.from == c) a.place) (places_of c more) (places_of c queued)) (rising c))
+first_rising : (k : ℕ) (a : Request) (more queued : List Request) → ((c : ℕ) → Rising (hand c k (a ∷ more) queued)) → (c : ℕ) → Rising (hand c k more queued)
+first_rising k a more queued rising c =
+    let front : List ℕ = places_of c (take k queued) in
+    let back : List ℕ = places_of c (drop k queued) in
+    let own : List ℕ = place_if (a.from == c) a.place in
+    rising_drop front own (places_of c more ++ back) (subst (λ l. Rising (front ++ l)) (append_assoc own (places_of c more) back) (rising c))
 
-first_all : (a : Request) (more queued : List Request) (P : ℕ → Type 0) (c : ℕ) → AllByRecursion P (hand c (a ∷ more) queued) → AllByRecursion P (hand c more queued)
-first_all a more queued P c all = all_right_of P (place_if (a.from == c) a.place) (hand c more queued) (subst (AllByRecursion P) (append_assoc (place_if (a.from == c) a.place) (places_of c more) (places_of c queued)) all)
+first_all : (k : ℕ) (a : Request) (more queued : List Request) (P : ℕ → Type 0) (c : ℕ) → AllByRecursion P (hand c k (a ∷ more) queued) → AllByRecursion P (hand c k more queued)
+first_all k a more queued P c all =
+    let front : List ℕ = places_of c (take k queued) in
+    let back : List ℕ = places_of c (drop k queued) in
+    let own : List ℕ = place_if (a.from == c) a.place in
+    all_drop P front own (places_of c more ++ back) (subst (λ l. AllByRecursion P (front ++ l)) (append_assoc own (places_of c more) back) all)
 
--- those after the first line of its connection are younger
-first_past : (a : Request) (more queued : List Request) → ((c : ℕ) → Rising (hand c (a ∷ more) queued)) → AllByRecursion (λ p. a.place ≤ p) (hand a.from more queued)
-first_past a more queued rising =
+-- those after the first one are younger
+younger : (a : Request) (ps : List ℕ) → Rising (place_if (a.from == a.from) a.place ++ ps) → AllByRecursion (λ p. a.place ≤ p) ps
+younger a ps rising =
     let here : (a.from == a.from) ≡ true = grind (arith, nat_tests) in
-    let up : Rising (a.place ∷ hand a.from more queued) = subst (λ b. Rising (place_if b a.place ++ hand a.from more queued)) here (subst Rising (append_assoc (place_if (a.from == a.from) a.place) (places_of a.from more) (places_of a.from queued)) (rising a.from)) in
-    all_more (λ q. a.place < q) (λ q. a.place ≤ q) (λ q less. omega (arith, less)) (hand a.from more queued) up.0
-
--- a line that waits again is the last of its connection in the flight, so it is the first that waits
-retry_hand : (a : Request) (more queued : List Request) → places_of a.from more ≡ [] → (c : ℕ) → hand c more (a ∷ queued) ≡ hand c (a ∷ more) queued
-retry_hand a more queued last c = elim (a.from == c) as (λ b. (a.from == c) ≡ b → places_of c more ++ (place_if b a.place ++ places_of c queued) ≡ (place_if b a.place ++ places_of c more) ++ places_of c queued) [
-  | true ↦ λ so. (
-      let same : a.from ≡ c = grind (arith, nat_tests) in
-      let none : places_of c more ≡ [] = subst (λ d. places_of d more ≡ []) same last in
-      ap (λ l. l ++ (a.place ∷ places_of c queued)) none ∙ sym (ap (λ l. (a.place ∷ l) ++ places_of c queued) none))
-  | false ↦ λ other. refl
-] refl
+    let up : Rising (a.place ∷ ps) = subst (λ b. Rising (place_if b a.place ++ ps)) here rising in
+    all_more (λ q. a.place < q) (λ q. a.place ≤ q) (λ q less. omega (arith, less)) ps up.0
 
 module _ (r : Rules) (w : Run) (answer : List ℕ) (a : Request) (more queued : List Request) (z : Sent) (later : List Sent)
-    (h : Order (with_hand r (a ∷ more) queued w)) (is_wire : w.wire ≡ z ∷ later) (from_a : z.from ≡ a.from) (at_a : z.place ≡ a.place) where
+    (h : Order r (with_hand r (a ∷ more) queued w)) (is_wire : w.wire ≡ z ∷ later) (from_a : z.from ≡ a.from) (at_a : z.place ≡ a.place) where
   abbrev new_answer : Answer
   new_answer = record { sent = z; answer = answer }
 
-  answered_order : (v : Run) → v.sent ≡ w.sent → v.answers ≡ w.answers ++ new_answer ∷ [] → v.wire ≡ later → ((c : ℕ) → Rising (hand c v.in_flight v.queued)) → ((g : Answer) → Contains w.answers g → IsPast v.in_flight v.queued g)
-      → AllByRecursion (λ p. a.place ≤ p) (hand a.from v.in_flight v.queued) → Order v
+  answered_order : (v : Run) → v.sent ≡ w.sent → v.answers ≡ w.answers ++ new_answer ∷ [] → v.wire ≡ later → ((c : ℕ) → Rising (hand c v.proxy.refused v.in_flight v.queued))
+      → ((g : Answer) → Contains w.answers g → asks_again r g ≡ false → IsPast v.proxy.refused v.in_flight v.queued g)
+      → (asks_again r new_answer ≡ false → AllByRecursion (λ p. a.place ≤ p) (hand a.from v.proxy.refused v.in_flight v.queued)) → Order r v
   answered_order v sent answers wire rising past first = record {
     rising = rising;
-    past = λ g in_g. elim (Contains-push_cases w.answers new_answer g (subst (λ l. Contains l g) answers in_g)) [
-      | inl old ↦ past g old
-      | inr new ↦ subst (λ (x : Answer). IsPast v.in_flight v.queued x) new (subst (λ c. AllByRecursion (λ p. z.place ≤ p) (hand c v.in_flight v.queued)) (sym from_a) (subst (λ i. AllByRecursion (λ p. i ≤ p) (hand a.from v.in_flight v.queued)) (sym at_a) first))
+    past = λ g in_g final. elim (Contains-push_cases w.answers new_answer g (subst (λ l. Contains l g) answers in_g)) [
+      | inl old ↦ past g old final
+      | inr new ↦ subst (λ (x : Answer). IsPast v.proxy.refused v.in_flight v.queued x) new (subst (λ c. AllByRecursion (λ p. z.place ≤ p) (hand c v.proxy.refused v.in_flight v.queued)) (sym from_a)
+          (subst (λ i. AllByRecursion (λ p. i ≤ p) (hand a.from v.proxy.refused v.in_flight v.queued)) (sym at_a) (first (subst (λ (x : Answer). asks_again r x ≡ false) (sym new) final))))
     ];
-    order = λ g s in_g in_s from less. elim (Contains-push_cases w.answers new_answer g (subst (λ l. Contains l g) answers in_g)) [
-      | inl old ↦ h.order g s old (subst (λ l. Contains l s) sent in_s) from less
+    order = λ g s in_g final in_s from less. elim (Contains-push_cases w.answers new_answer g (subst (λ l. Contains l g) answers in_g)) [
+      | inl old ↦ h.order g s old final (subst (λ l. Contains l s) sent in_s) from less
       | inr new ↦ (
           let same : z ≡ g.sent = ap (λ (x : Answer). x.sent) new in
           let is = (subst (AllByRecursion (IsAfter w.sent)) is_wire h.after).0 s (subst (λ l. Contains l s) sent in_s) (subst (λ (x : Sent). s.from ≡ x.from) (sym same) from) (subst (λ (x : Sent). s.place < x.place) (sym same) less) in
@@ -327,62 +346,64 @@ module _ (r : Rules) (w : Run) (answer : List ℕ) (a : Request) (more queued : 
   abbrev now : Run
   now = with_hand r (a ∷ more) queued w
 
+  abbrev k : ℕ
+  k = w.proxy.refused
+
   answers_wire : w.answers ++ answer_of w.wire answer ≡ w.answers ++ new_answer ∷ []
   answers_wire = ap (λ l. w.answers ++ answer_of l answer) is_wire
 
-  to_order : Order (said r now answer (To a.from))
-  to_order = answered_order (said r now answer (To a.from)) refl answers_wire (ap rest is_wire) (first_rising a more queued h.rising) (λ g in_g. first_all a more queued (λ p. g.sent.place ≤ p) g.sent.from (h.past g in_g)) (first_past a more queued h.rising)
+  to_order : places_of a.from (take k queued) ≡ [] → Order r (said r now answer (To a.from))
+  to_order oldest = answered_order (said r now answer (To a.from)) refl answers_wire (ap rest is_wire) (first_rising k a more queued h.rising) (λ g in_g final. first_all k a more queued (λ p. g.sent.place ≤ p) g.sent.from (h.past g in_g final))
+      (λ final. younger a (hand a.from k more queued) (subst Rising (hand_first a.from k a more queued oldest) (h.rising a.from)))
 
-  ended_order : Order (said r now answer (Ended a.from))
+  ended_order : Order r (said r now answer (Ended a.from))
   ended_order = answered_order (said r now answer (Ended a.from)) refl answers_wire (ap rest is_wire)
-      (λ c. rising_without a.from c (places_of c more) queued (first_rising a more queued h.rising c))
-      (λ g in_g. all_without a.from g.sent.from (places_of g.sent.from more) queued (λ p. g.sent.place ≤ p) (first_all a more queued (λ p. g.sent.place ≤ p) g.sent.from (h.past g in_g)))
-      (all_without a.from a.from (places_of a.from more) queued (λ p. a.place ≤ p) (first_past a more queued h.rising))
+      (λ c. rising_without r a.from c k more queued (first_rising k a more queued h.rising c))
+      (λ g in_g final. all_without r a.from g.sent.from k more queued (λ p. g.sent.place ≤ p) (first_all k a more queued (λ p. g.sent.place ≤ p) g.sent.from (h.past g in_g final)))
+      (λ final. (
+      let here : (a.from == a.from) ≡ true = grind (arith, nat_tests) in
+      subst (AllByRecursion (λ p. a.place ≤ p)) (sym (hand_own r a.from a.from k more queued here)) (younger a (places_of a.from more) (rising_flight a.from k (a ∷ more) queued (h.rising a.from)))))
 
-  retry_order : places_of a.from more ≡ [] → Order (said r now answer (Retry a.from))
-  retry_order last = answered_order (said r now answer (Retry a.from)) refl answers_wire (ap rest is_wire)
-      (λ c. subst Rising (sym (retry_hand a more queued last c)) (h.rising c))
-      (λ g in_g. subst (AllByRecursion (λ p. g.sent.place ≤ p)) (sym (retry_hand a more queued last g.sent.from)) (h.past g in_g))
-      (subst (AllByRecursion (λ p. a.place ≤ p)) (sym (retry_hand a more queued last a.from)) (own (a.from == a.from)))
-    where
-      own : (b : Bool) → AllByRecursion (λ p. a.place ≤ p) ((place_if b a.place ++ places_of a.from more) ++ places_of a.from queued)
-      own b = subst (AllByRecursion (λ p. a.place ≤ p)) (sym (append_assoc (place_if b a.place) (places_of a.from more) (places_of a.from queued))) (all_both (λ p. a.place ≤ p) (place_if b a.place) (hand a.from more queued) (one b) (first_past a more queued h.rising))
-        where
-          one : (b : Bool) → AllByRecursion (λ p. a.place ≤ p) (place_if b a.place)
-          one true = (omega arith, tt)
-          one false = tt
+  retry_order : k ≤ length queued → asks_again r new_answer ≡ true → Order r (said r now answer (Retry a.from))
+  retry_order within asks = answered_order (said r now answer (Retry a.from)) refl answers_wire (ap rest is_wire)
+      (λ c. subst Rising (sym (hand_again c k a more queued within)) (h.rising c))
+      (λ g in_g final. subst (AllByRecursion (λ p. g.sent.place ≤ p)) (sym (hand_again g.sent.from k a more queued within)) (h.past g in_g final))
+      (λ final. absurd (cc (asks, final)))
 
-outcome_order : (r : Rules) (w : Run) (answer : List ℕ) (in_flight queued : List Request) → w.proxy.is_up ≡ true → Holds r (with_hand r in_flight queued w) → Order (with_hand r in_flight queued w)
-    → Order (said r (with_hand r in_flight queued w) answer (outcome_of r answer w.proxy.is_resent (map (pending_of r) in_flight)))
+outcome_order : (r : Rules) (w : Run) (answer : List ℕ) (in_flight queued : List Request) → w.proxy.is_up ≡ true → Holds r (with_hand r in_flight queued w) → Order r (with_hand r in_flight queued w)
+    → Order r (said r (with_hand r in_flight queued w) answer (outcome_of r answer w.proxy.is_resent (is_late (with_hand r in_flight queued w).proxy) (map (pending_of r) in_flight)))
 outcome_order r w answer [] queued up held h = record { rising = h.rising; past = h.past; order = h.order; after = tt }
 outcome_order r w answer (a ∷ more) queued up held h =
     let v : Run = with_hand r (a ∷ more) queued w in
     let out = held.wire up in
     let z : Sent = sending r out.0 (not w.proxy.is_resent) out.1 (next w.proxy.number) a in
     let later : List Sent = sendings r out.0 (not w.proxy.is_resent) (out.1 + 1) (step (needs_number r a.line) w.proxy.number) more in
+    let P : Outcome → Type 0 = λ g. Order r (said r v answer g) in
     let refused : Bool = needs_number r a.line && r.refuses_number answer in
-    either (λ g. Order (said r v answer g)) (w.proxy.is_resent && (r.is_inconclusive answer || refused)) (Ended a.from) (cond refused (Retry a.from) (To a.from))
-    (λ unsure. ended_order r w answer a more queued z later h out.2 refl refl)
-    (λ sure. either (λ g. Order (said r v answer g)) refused (Retry a.from) (To a.from)
-    (λ is. retry_order r w answer a more queued z later h out.2 refl refl (held.last.0 (both_true (needs_number r a.line) (r.refuses_number answer) is).0))
-    (λ is_not. to_order r w answer a more queued z later h out.2 refl refl))
+    let unclear : Bool = w.proxy.is_resent && r.is_inconclusive answer in
+    let late : Bool = is_late v.proxy a.from in
+    either P refused (cond w.proxy.is_resent (Ended a.from) (Retry a.from)) (cond (unclear || late) (Ended a.from) (To a.from))
+    (λ is. either P w.proxy.is_resent (Ended a.from) (Retry a.from) (λ again. ended_order r w answer a more queued z later h out.2 refl refl)
+    (λ new. retry_order r w answer a more queued z later h out.2 refl refl held.within (ap (λ b. not b && refused) new ∙ is)))
+    (λ is_not. either P (unclear || late) (Ended a.from) (To a.from) (λ ends. ended_order r w answer a more queued z later h out.2 refl refl)
+    (λ in_turn. to_order r w answer a more queued z later h out.2 refl refl (none_late r a.from w.proxy.refused queued (both_false unclear late in_turn).1)))
 
-answers_order : (r : Rules) (w : Run) (in_flight queued : List Request) (answer : List ℕ) → Holds r (with_hand r in_flight queued w) → Order (with_hand r in_flight queued w) → Order (happens r (with_hand r in_flight queued w) (Answers answer))
+answers_order : (r : Rules) (w : Run) (in_flight queued : List Request) (answer : List ℕ) → Holds r (with_hand r in_flight queued w) → Order r (with_hand r in_flight queued w) → Order r (happens r (with_hand r in_flight queued w) (Answers answer))
 answers_order r w in_flight queued answer held h =
     let v : Run = with_hand r in_flight queued w in
-    either Order w.proxy.is_up (said r v answer (outcome r answer v.proxy)) v
+    either (Order r) w.proxy.is_up (said r v answer (outcome r answer v.proxy)) v
     (λ up. (
-    let is : outcome r answer v.proxy ≡ outcome_of r answer w.proxy.is_resent (map (pending_of r) in_flight) = ap (λ b. cond b (outcome_of r answer w.proxy.is_resent (map (pending_of r) in_flight)) Unsolicited) up in
-    subst (λ g. Order (said r v answer g)) (sym is) (outcome_order r w answer in_flight queued up held h)))
+    let is : outcome r answer v.proxy ≡ outcome_of r answer w.proxy.is_resent (is_late v.proxy) (map (pending_of r) in_flight) = ap (λ b. cond b (outcome_of r answer w.proxy.is_resent (is_late v.proxy) (map (pending_of r) in_flight)) Unsolicited) up in
+    subst (λ g. Order r (said r v answer g)) (sym is) (outcome_order r w answer in_flight queued up held h)))
     (λ down. h)
 
-breaks_order : (r : Rules) (w : Run) (in_flight queued : List Request) → Order (with_hand r in_flight queued w) → Order (happens r (with_hand r in_flight queued w) Breaks)
+breaks_order : (r : Rules) (w : Run) (in_flight queued : List Request) → Order r (with_hand r in_flight queued w) → Order r (happens r (with_hand r in_flight queued w) Breaks)
 breaks_order r w [] queued h = record { rising = h.rising; past = h.past; order = h.order; after = tt }
 breaks_order r w (a ∷ more) queued h =
-    either (λ l. Order (broke (with_hand r (a ∷ more) queued w) l)) (r.is_once a.line) (Some a.from) None
+    either (λ l. Order r (broke (with_hand r (a ∷ more) queued w) l)) (r.is_once a.line) (Some a.from) None
     (λ once. record {
-      rising = λ c. rising_without a.from c (places_of c more) queued (first_rising a more queued h.rising c);
-      past = λ g in_g. all_without a.from g.sent.from (places_of g.sent.from more) queued (λ p. g.sent.place ≤ p) (first_all a more queued (λ p. g.sent.place ≤ p) g.sent.from (h.past g in_g));
+      rising = λ c. rising_without r a.from c w.proxy.refused more queued (first_rising w.proxy.refused a more queued h.rising c);
+      past = λ g in_g final. all_without r a.from g.sent.from w.proxy.refused more queued (λ p. g.sent.place ≤ p) (first_all w.proxy.refused a more queued (λ p. g.sent.place ≤ p) g.sent.from (h.past g in_g final));
       order = h.order;
       after = tt;
     })
@@ -390,29 +411,29 @@ breaks_order r w (a ∷ more) queued h =
 
 -- ---- an order is taken back
 
-taken_first : (r : Rules) (w : Run) (a : Request) (more queued : List Request) → Order (with_hand r (a ∷ more) queued w) → Order (took (with_hand r (a ∷ more) queued w) (Some (next w.proxy.number)))
+taken_first : (r : Rules) (w : Run) (a : Request) (more queued : List Request) → Order r (with_hand r (a ∷ more) queued w) → Order r (took (with_hand r (a ∷ more) queued w) (Some (next w.proxy.number)))
 taken_first r w a more queued h = record {
-  rising = λ c. rising_without a.from c (places_of c more) queued (first_rising a more queued h.rising c);
-  past = λ g in_g. all_without a.from g.sent.from (places_of g.sent.from more) queued (λ p. g.sent.place ≤ p) (first_all a more queued (λ p. g.sent.place ≤ p) g.sent.from (h.past g in_g));
+  rising = λ c. rising_without r a.from c w.proxy.refused more queued (first_rising w.proxy.refused a more queued h.rising c);
+  past = λ g in_g final. all_without r a.from g.sent.from w.proxy.refused more queued (λ p. g.sent.place ≤ p) (first_all w.proxy.refused a more queued (λ p. g.sent.place ≤ p) g.sent.from (h.past g in_g final));
   order = h.order;
   after = h.after;
 }
 
-takes_order : (r : Rules) (w : Run) (in_flight queued : List Request) (c : ℕ) → Order (with_hand r in_flight queued w) → Order (happens r (with_hand r in_flight queued w) (TakesBack c))
+takes_order : (r : Rules) (w : Run) (in_flight queued : List Request) (c : ℕ) → Order r (with_hand r in_flight queued w) → Order r (happens r (with_hand r in_flight queued w) (TakesBack c))
 takes_order r w in_flight queued c h =
     let v : Run = with_hand r in_flight queued w in
-    either (λ t. Order (took v t)) w.proxy.is_up None (cond (begins_order c (map (pending_of r) in_flight)) (Some (next w.proxy.number)) None) (λ up. h)
-    (λ down. either (λ t. Order (took v t)) (begins_order c (map (pending_of r) in_flight)) (Some (next w.proxy.number)) None (λ begins. taken_cases r w in_flight queued c begins h) (λ other. h))
+    either (λ t. Order r (took v t)) w.proxy.is_up None (cond (begins_order c (map (pending_of r) in_flight)) (Some (next w.proxy.number)) None) (λ up. h)
+    (λ down. either (λ t. Order r (took v t)) (begins_order c (map (pending_of r) in_flight)) (Some (next w.proxy.number)) None (λ begins. taken_cases r w in_flight queued c begins h) (λ other. h))
   where
-    taken_cases : (r : Rules) (w : Run) (in_flight queued : List Request) (c : ℕ) → begins_order c (map (pending_of r) in_flight) ≡ true → Order (with_hand r in_flight queued w) → Order (took (with_hand r in_flight queued w) (Some (next w.proxy.number)))
+    taken_cases : (r : Rules) (w : Run) (in_flight queued : List Request) (c : ℕ) → begins_order c (map (pending_of r) in_flight) ≡ true → Order r (with_hand r in_flight queued w) → Order r (took (with_hand r in_flight queued w) (Some (next w.proxy.number)))
     taken_cases r w [] queued c begins h = absurd (cc begins)
     taken_cases r w (a ∷ more) queued c begins h = taken_first r w a more queued h
 
 -- ---- a whole run
 
-hand_order : (r : Rules) (w : Run) (in_flight queued : List Request) (event : Event) → Holds r (with_hand r in_flight queued w) → Numbers r (with_hand r in_flight queued w) → Order (with_hand r in_flight queued w) → Order (happens r (with_hand r in_flight queued w) event)
+hand_order : (r : Rules) (w : Run) (in_flight queued : List Request) (event : Event) → Holds r (with_hand r in_flight queued w) → Numbers r (with_hand r in_flight queued w) → Order r (with_hand r in_flight queued w) → Order r (happens r (with_hand r in_flight queued w) event)
 hand_order r w in_flight queued (Arrives c role line) held numbers h = arrives_order r (with_hand r in_flight queued w) c role line held numbers h
-hand_order r w in_flight queued (Leaves c) held numbers h = leaves_order r (with_hand r in_flight queued w) c h
+hand_order r w in_flight queued (Leaves c) held numbers h = leaves_order r w in_flight queued c h
 hand_order r w in_flight queued (Flies picks) held numbers h = flies_order r w in_flight queued picks held numbers h
 hand_order r w in_flight queued (Answers answer) held numbers h = answers_order r w in_flight queued answer held h
 hand_order r w in_flight queued Breaks held numbers h = breaks_order r w in_flight queued h
@@ -420,12 +441,12 @@ hand_order r w in_flight queued (TakesBack c) held numbers h = takes_order r w i
 hand_order r w in_flight queued Connects held numbers h = connects_order r w in_flight queued numbers h
 hand_order r w in_flight queued (Counts last) held numbers h = record { rising = h.rising; past = h.past; order = h.order; after = h.after }
 
-happens_order : (r : Rules) (w : Run) (event : Event) → Holds r w → Numbers r w → Order w → Order (happens r w event)
+happens_order : (r : Rules) (w : Run) (event : Event) → Holds r w → Numbers r w → Order r w → Order r (happens r w event)
 happens_order r w event held numbers h =
     let with : (List Pending × List Pending) → Run = λ p. record w { proxy = record (w.proxy) { flight = p.0; waiting = p.1 } } in
     let same : (w.proxy.flight, w.proxy.waiting) ≡ (map (pending_of r) w.in_flight, map (pending_of r) w.queued) = cc (held.flying, held.waiting) in
-    subst (λ p. Order (happens r (with p) event)) (sym same) (hand_order r w w.in_flight w.queued event (subst (λ p. Holds r (with p)) same held) (subst (λ p. Numbers r (with p)) same numbers) (subst (λ p. Order (with p)) same h))
+    subst (λ p. Order r (happens r (with p) event)) (sym same) (hand_order r w w.in_flight w.queued event (subst (λ p. Holds r (with p)) same held) (subst (λ p. Numbers r (with p)) same numbers) (subst (λ p. Order r (with p)) same h))
 
-pub run_order : (r : Rules) (w : Run) (events : List Event) → Holds r w → Numbers r w → Order w → Order (run r w events)
+pub run_order : (r : Rules) (w : Run) (events : List Event) → Holds r w → Numbers r w → Order r w → Order r (run r w events)
 run_order r w [] held numbers h = h
 run_order r w (event ∷ events) held numbers h = run_order r (happens r w event) events (happens_holds r w event held) (happens_numbers r w event held numbers) (happens_order r w event held numbers h)

@@ -21,7 +21,7 @@ pub every_run : EveryRun
 every_run r events =
     let w : Run = run r new_run events in
     let h : Numbers r w = numbers_of r events in
-    holding.keeps_of r w (holding.run_holds r new_run events (holding.begins r)) h.serial h.one_number h.fresh (run_order r new_run events (holding.begins r) (begins r) order_begins).order
+    holding.keeps_of r w (holding.run_holds r new_run events (holding.begins r)) h.serial h.one_number h.fresh (run_order r new_run events (holding.begins r) (begins r) (order_begins r)).order
 
 -- none passes a test, or one does
 none_or_some : (test : Sent → Bool) (xs : List Sent) → (count_by test xs ≡ 0) ⊎ ((s : Sent) × Contains xs s × (test s ≡ true))

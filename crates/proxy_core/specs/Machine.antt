@@ -1,5 +1,5 @@
 -- The state of the proxy, and the state after each call.
-use Rattle.std.specs.Prelude.{ℕ, ◌+◌, ◌-◌, ◌==◌, ◌&&◌, ◌||◌, not, max, nat_le, nat_lt, Bool, true, false, List, [], ◌∷◌, ◌++◌, Option, Some, None, if◌then◌else◌, filter, count_by, length}
+use Rattle.std.specs.Prelude.{ℕ, ◌+◌, ◌-◌, ◌==◌, ◌&&◌, ◌||◌, not, max, nat_le, nat_lt, Bool, true, false, List, [], ◌∷◌, ◌++◌, Option, Some, None, if◌then◌else◌, filter, count_by, length, take, drop}
 use Rattle.std.specs.List.{list_all, list_any}
 use Rattle.proxy_core.specs.declared.choice.Kind.{Kind}
 use Rattle.proxy_core.specs.declared.choice.Kind.TheVariants.{Any, Alone, Queries, Orders}
@@ -12,7 +12,8 @@ use Rattle.proxy_core.specs.Pending.{Pending, is_from, step}
 
 pub record Proxy : Type 0 where
   pub flight : List Pending  -- sent, or to be sent again; the next answer is to the first one
-  pub waiting : List Pending  -- oldest first
+  pub waiting : List Pending  -- in the order in which they may fly
+  pub refused : ℕ  -- so many of them, the first ones, were in this flight, and the server refused their numbers
   pub is_up : Bool  -- the connection to the server stands
   pub is_resent : Bool  -- the flight was sent before, over a connection that broke
   pub number : ℕ  -- the number before the first one of the flight
@@ -21,7 +22,7 @@ pub record Proxy : Type 0 where
   pub has_refusal : Bool  -- an order of the flight was refused on its merits, so the server refuses the numbers after it
 
 abbrev pub new_proxy : Proxy
-new_proxy = record { flight = []; waiting = []; is_up = false; is_resent = false; number = 0; last = 0; is_counted = false; has_refusal = false }
+new_proxy = record { flight = []; waiting = []; refused = 0; is_up = false; is_resent = false; number = 0; last = 0; is_counted = false; has_refusal = false }
 
 -- the number of lines of a connection without an answer
 abbrev pub held : ℕ → Proxy → ℕ
@@ -79,15 +80,11 @@ abbrev pub is_among : ℕ → List ℕ → Bool
 is_among c [] = false
 is_among c (d ∷ ds) = (d == c) || is_among c ds
 
--- the connections of which no further line may be picked after this line: if its number is refused, it waits again
-abbrev pub stay_with : Pending → List ℕ → List ℕ
-stay_with a stay = if a.is_unnumbered then a.from ∷ stay else stay
-
--- no line is picked after a line of its connection that stays or may wait again, given the connections with such a line before these
+-- no line is picked after a line of its connection that stays, given the connections with such a line before these
 abbrev pub is_in_turn : List ℕ → List Bool → List Pending → Bool
 is_in_turn stay [] waiting = true
 is_in_turn stay (pick ∷ picks) [] = true
-is_in_turn stay (true ∷ picks) (a ∷ more) = not (is_among a.from stay) && is_in_turn (stay_with a stay) picks more
+is_in_turn stay (true ∷ picks) (a ∷ more) = not (is_among a.from stay) && is_in_turn stay picks more
 is_in_turn stay (false ∷ picks) (a ∷ more) = is_in_turn (a.from ∷ stay) picks more
 
 -- an unnumbered order flies only while the last number is known
@@ -148,29 +145,40 @@ is_begun Alone = true
 is_begun Queries = true
 is_begun Orders = true
 
+-- after an unnumbered order of its connection only another one may join: if the server refuses the number of the first, it refuses
+-- the later numbers too, but it would carry out an order with a number of its own, and its answer would come too early
+abbrev pub keeps_up : List ℕ → Pending → Bool
+keeps_up own a = a.is_unnumbered || not (is_among a.from own)
+
 -- the second round takes the lines of the first one, and further lines while there is room
-abbrev pub may_fill : Bool → Kind → ℕ → List ℕ → Bool → Pending → Bool
-may_fill counted kind room stay leads a = leads || (is_begun kind && may_join counted kind room stay a)
+abbrev pub may_fill : Bool → Kind → ℕ → List ℕ → List ℕ → Bool → Pending → Bool
+may_fill counted kind room stay own leads a = leads || (is_begun kind && (may_join counted kind room stay a && keeps_up own a))
 
+-- the connections of which a line stays
 abbrev pub stay_after : Bool → Pending → List ℕ → List ℕ
-stay_after goes a stay = if goes then stay_with a stay else a.from ∷ stay
+stay_after goes a stay = if goes then stay else a.from ∷ stay
 
-abbrev pub second_round : Bool → Kind → ℕ → List ℕ → List Bool → List Pending → List Bool
-second_round counted kind room stay [] waiting = []
-second_round counted kind room stay (leads ∷ picks) [] = []
-second_round counted kind room stay (leads ∷ picks) (a ∷ more) =
-    may_fill counted kind room stay leads a
-    ∷ second_round counted kind (room_after (not leads && may_fill counted kind room stay leads a) room) (stay_after (may_fill counted kind room stay leads a) a stay) picks more
+-- the connections of which an unnumbered order flies
+abbrev pub own_after : Bool → Pending → List ℕ → List ℕ
+own_after goes a own = if goes && a.is_unnumbered then a.from ∷ own else own
+
+abbrev pub second_round : Bool → Kind → ℕ → List ℕ → List ℕ → List Bool → List Pending → List Bool
+second_round counted kind room stay own [] waiting = []
+second_round counted kind room stay own (leads ∷ picks) [] = []
+second_round counted kind room stay own (leads ∷ picks) (a ∷ more) =
+    may_fill counted kind room stay own leads a
+    ∷ second_round counted kind (room_after (not leads && may_fill counted kind room stay own leads a) room) (stay_after (may_fill counted kind room stay own leads a) a stay)
+    (own_after (may_fill counted kind room stay own leads a) a own) picks more
 
 abbrev pub led : Bool → List Pending → Round
 led counted waiting = first_round counted Any 256 [] waiting
 
 -- the lines of the next flight
 abbrev pub picks_of : Bool → List Pending → List Bool
-picks_of counted waiting = second_round counted (led counted waiting).kind (led counted waiting).room [] (led counted waiting).picks waiting
+picks_of counted waiting = second_round counted (led counted waiting).kind (led counted waiting).room [] [] (led counted waiting).picks waiting
 
 abbrev pub flown : List Bool → Proxy → Proxy
-flown picks f = record f { flight = picked picks f.waiting; waiting = left picks f.waiting; is_resent = false; number = f.last; has_refusal = false }
+flown picks f = record f { flight = picked picks f.waiting; waiting = left picks f.waiting; refused = 0; is_resent = false; number = f.last; has_refusal = false }
 
 -- ---- the last number was found
 
@@ -179,21 +187,31 @@ counted last f = record f { last = last; is_counted = true }
 
 -- ---- a connection ended: its waiting lines are not sent
 
+-- how many of its lines wait again since the server refused their numbers in this flight
+abbrev pub refused_from : ℕ → Proxy → ℕ
+refused_from c f = count_by (is_from c) (take f.refused f.waiting)
+
 abbrev pub without_connection : ℕ → Proxy → Proxy
-without_connection c f = record f { waiting = filter (λ a. not (is_from c a)) f.waiting }
+without_connection c f = record f { waiting = filter (λ a. not (is_from c a)) f.waiting; refused = f.refused - refused_from c f }
 
 -- ---- an answer arrives
 
-abbrev pub outcome_of : Rules → List ℕ → Bool → List Pending → Outcome
-outcome_of r answer again [] = Unsolicited
-outcome_of r answer again (a ∷ more) =
-    if again && (r.is_inconclusive answer || (a.is_unnumbered && r.refuses_number answer)) then Ended a.from
-    else (if a.is_unnumbered && r.refuses_number answer then Retry a.from else To a.from)
+-- an older line of this connection waits again, since the server refused its number in this flight. If no other process orders as
+-- the proxy's client, a server that judges by its session rule then refuses the numbers of all later unnumbered orders of the flight
+-- too, unless it answers Stopped, OutOfMemory, PendingFull or Exhausted, which it checks before the number
+abbrev pub is_late : Proxy → ℕ → Bool
+is_late f c = nat_lt 0 (refused_from c f)
 
--- who gets it. If it leaves open what became of a line that was sent twice, the connection ends; if it refuses the number of a
--- line that was sent once, the line waits for another number
+abbrev pub outcome_of : Rules → List ℕ → Bool → (ℕ → Bool) → List Pending → Outcome
+outcome_of r answer again is_late [] = Unsolicited
+outcome_of r answer again is_late (a ∷ more) =
+    if a.is_unnumbered && r.refuses_number answer then (if again then Ended a.from else Retry a.from)
+    else (if (again && r.is_inconclusive answer) || is_late a.from then Ended a.from else To a.from)
+
+-- who gets it. If it leaves open what became of a line that was sent twice, or would come before the answer to an older line, the
+-- connection ends; if it refuses the number of a line that was sent once, the line waits for another number
 abbrev pub outcome : Rules → List ℕ → Proxy → Outcome
-outcome r answer f = if f.is_up then outcome_of r answer f.is_resent f.flight else Unsolicited
+outcome r answer f = if f.is_up then outcome_of r answer f.is_resent (is_late f) f.flight else Unsolicited
 
 abbrev pub rest : {X : Type 0} → List X → List X
 rest [] = []
@@ -231,10 +249,14 @@ after_first_answer r answer f = record f {
   has_refusal = f.has_refusal || (begins_own f.flight && r.is_refusal answer);
 }
 
+-- lines that wait again come after those that already do, and before all others
+abbrev pub put_back : {X : Type 0} → ℕ → List X → List X → List X
+put_back refused lines waiting = take refused waiting ++ (lines ++ drop refused waiting)
+
 abbrev pub after_outcome : Rules → List ℕ → Outcome → Proxy → Proxy
 after_outcome r answer (To c) f = after_first_answer r answer f
 after_outcome r answer (Ended c) f = without_connection c (after_first_answer r answer f)
-after_outcome r answer (Retry c) f = record (after_first_answer r answer f) { waiting = firsts f.flight ++ f.waiting }
+after_outcome r answer (Retry c) f = record (after_first_answer r answer f) { waiting = put_back f.refused (firsts f.flight) f.waiting; refused = f.refused + 1 }
 -- nothing was in flight: the loop leaves the connection
 after_outcome r answer Unsolicited f = record f { is_up = false }
 

@@ -1,5 +1,5 @@
 -- What the proxy's own numbers guarantee: for one request, and for two.
-use Rattle.std.specs.Prelude.{◌≡◌, ◌⊎◌, ℕ, ◌+◌, ◌≤◌, ◌<◌, true, List, [], ◌∷◌, Contains}
+use Rattle.std.specs.Prelude.{◌≡◌, ◌⊎◌, ℕ, ◌+◌, ◌≤◌, ◌<◌, ◌&&◌, Bool, true, false, List, [], ◌∷◌, Contains}
 use Rattle.proxy_core.specs.Rules.{Rules}
 use Rattle.proxy_core.specs.Run.{Sent, Answer, Count, Run}
 
@@ -8,9 +8,13 @@ abbrev pub AreSerial : ℕ → List Sent → Type 0
 AreSerial n [] = Unit {0}
 AreSerial n (s ∷ more) = (s.serial ≡ n) × AreSerial (n + 1) more
 
--- an answered line was sent after every line of the older requests of its connection
-abbrev pub IsInOrder : Run → Type 0
-IsInOrder w = (h : Answer) (s : Sent) → Contains w.answers h → Contains w.sent s → s.from ≡ h.sent.from → s.place < h.sent.place → s.serial < h.sent.serial
+-- the answer refuses the number of a line that was sent once, and not the order, which waits for another number
+abbrev pub asks_again : Rules → Answer → Bool
+asks_again r h = h.sent.is_first && (h.sent.is_unnumbered && r.refuses_number h.answer)
+
+-- any other answered line was sent after every line of the older requests of its connection
+abbrev pub IsInOrder : Rules → Run → Type 0
+IsInOrder r w = (h : Answer) (s : Sent) → Contains w.answers h → asks_again r h ≡ false → Contains w.sent s → s.from ≡ h.sent.from → s.place < h.sent.place → s.serial < h.sent.serial
 
 -- ---- how it is known that a number was not used
 

@@ -1,10 +1,10 @@
 -- What the proxy promises to its clients, to other connections and to the server, whatever happens.
-use Rattle.std.specs.Prelude.{◌≡◌, ◌⊎◌, ℕ, ◌+◌, ◌≤◌, ◌<◌, ◌==◌, ◌&&◌, not, Bool, true, false, List, [], ◌∷◌, ◌++◌, Option, Some, None, length, map, count_by, Contains}
+use Rattle.std.specs.Prelude.{◌≡◌, ◌⊎◌, ℕ, ◌+◌, ◌≤◌, ◌<◌, ◌==◌, ◌&&◌, not, Bool, true, false, List, [], ◌∷◌, ◌++◌, Option, Some, None, length, map, take, drop, count_by, Contains}
 use Rattle.std.specs.List.{AllByRecursion}
 use Rattle.proxy_core.specs.Rules.{Rules, as_sent, next, needs_number}
 use Rattle.proxy_core.specs.Pending.{Pending, new_pending, step, text_of}
 use Rattle.proxy_core.specs.Machine.{held, is_alike}
-use Rattle.proxy_core.specs.Numbers.{AreSerial, HasOneNumber, IsFresh, IsInOrder}
+use Rattle.proxy_core.specs.Numbers.{AreSerial, HasOneNumber, IsFresh, IsInOrder, asks_again}
 use Rattle.proxy_core.specs.Run.{Request, Sent, Delivery, Answer, Run, Event, new_run, is_ended, run}
 
 -- ---- the lines of one connection
@@ -22,6 +22,10 @@ places_of c (a ∷ more) = place_if (a.from == c) a.place ++ places_of c more
 abbrev pub places_delivered : ℕ → List Delivery → List ℕ
 places_delivered c [] = []
 places_delivered c (t ∷ more) = place_if (t.to == c) t.place ++ places_delivered c more
+
+-- the places of its lines without an answer, in order: of the requests that wait, so many, the first ones, were in this flight
+abbrev pub hand : ℕ → ℕ → List Request → List Request → List ℕ
+hand c refused in_flight queued = places_of c (take refused queued) ++ (places_of c in_flight ++ places_of c (drop refused queued))
 
 -- the places count up from n
 abbrev pub AreNumbered : ℕ → List Request → Type 0
@@ -71,7 +75,7 @@ is_first_at place s = (s.place == place) && s.is_first
 
 -- an answer that refuses the number of the request at this place, to the only line sent with that number
 abbrev pub refuses_number_at : Rules → ℕ → Answer → Bool
-refuses_number_at r place h = (h.sent.place == place) && (h.sent.is_first && (h.sent.is_unnumbered && r.refuses_number h.answer))
+refuses_number_at r place h = (h.sent.place == place) && asks_again r h
 
 -- the same bytes were sent before for the same request
 abbrev pub IsKnown : List Sent → Sent → Type 0
@@ -121,11 +125,13 @@ pub record Keeps (r : Rules) (w : Run) : Type 0 where
   pub numbered : AreNumbered 0 w.requests
   -- a connection receives the answers to its lines in turn, none twice and none omitted
   pub in_turn : (c : ℕ) → (more : List ℕ) × (places_delivered c w.delivered ++ more ≡ places_of c w.requests)
-  -- and until it ends, each of its lines without an answer is in flight or waits
-  pub in_hand : (c : ℕ) → is_ended c w.ended ≡ false → places_delivered c w.delivered ++ (places_of c w.in_flight ++ places_of c w.queued) ≡ places_of c w.requests
+  -- and until it ends, each of its lines without an answer waits again, is in flight, or waits
+  pub in_hand : (c : ℕ) → is_ended c w.ended ≡ false → places_delivered c w.delivered ++ hand c w.proxy.refused w.in_flight w.queued ≡ places_of c w.requests
   -- in the proxy's state, that is
   pub flying : w.proxy.flight ≡ map (pending_of r) w.in_flight
   pub waiting : w.proxy.waiting ≡ map (pending_of r) w.queued
+  -- so many of those that wait, the first ones, wait again
+  pub refused : w.proxy.refused ≤ length w.queued
   -- the server's unanswered lines are just those of the flight, so its next answer is to the first of them
   pub wire : w.proxy.is_up ≡ true → (taken : ℕ) × (serial : ℕ) × (w.wire ≡ sendings r taken (not w.proxy.is_resent) serial w.proxy.number w.in_flight)
   -- and they were written with the bytes of `flight_text`
@@ -144,8 +150,9 @@ pub record Keeps (r : Rules) (w : Run) : Type 0 where
   pub renumbered : (place : ℕ) → count_by (is_first_at place) w.sent ≤ 1 + count_by (refuses_number_at r place) w.answers
   -- each other line sent repeats an earlier one for the same request, byte for byte
   pub again : AllByRecursion (λ s. s.is_first ≡ false → IsKnown w.sent s) w.sent
-  -- an answered line was sent after all lines sent for older requests of its connection
-  pub in_order : IsInOrder w
+  -- an answered line was sent after all lines sent for older requests of its connection, unless the answer refuses its number at
+  -- its only sending with it
+  pub in_order : IsInOrder r w
   -- the lines sent have the serial numbers 0, 1, 2 ..
   pub serial : AreSerial 0 w.sent
   -- a request is sent with another number only after the server refused the number of each line sent for it before

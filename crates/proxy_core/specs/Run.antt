@@ -6,7 +6,7 @@ use Rattle.proxy_core.specs.declared.proxy.Outcome.{Outcome}
 use Rattle.proxy_core.specs.declared.proxy.Outcome.TheVariants.{To, Ended, Retry, Unsolicited}
 use Rattle.proxy_core.specs.Rules.{Rules, as_sent, next, needs_number}
 use Rattle.proxy_core.specs.Pending.{Pending, new_pending, step}
-use Rattle.proxy_core.specs.Machine.{Proxy, new_proxy, admission, after_admission, is_among, may_go, flown, picked, left, rest, firsts, counted, without_connection, outcome, after_outcome, lost, after_broken, taken_back, after_taken, sender_of}
+use Rattle.proxy_core.specs.Machine.{Proxy, new_proxy, admission, after_admission, is_among, may_go, flown, picked, left, rest, firsts, put_back, counted, without_connection, outcome, after_outcome, lost, after_broken, taken_back, after_taken, sender_of}
 
 -- a line that was accepted from a connection
 pub record Request : Type 0 where
@@ -48,7 +48,7 @@ pub record Run : Type 0 where
   pub proxy : Proxy
   pub requests : List Request
   pub in_flight : List Request  -- the requests of the flight
-  pub queued : List Request  -- the requests that wait
+  pub queued : List Request  -- the requests that wait, in the order in which they may fly
   pub delivered : List Delivery
   pub ended : List ℕ  -- the connections that have ended
   pub sent : List Sent  -- each line that was ever written to the server
@@ -151,7 +151,7 @@ said r w answer (Ended c) = record w {
 said r w answer (Retry c) = record w {
   proxy = after_outcome r answer (Retry c) w.proxy;
   in_flight = rest w.in_flight;
-  queued = firsts w.in_flight ++ w.queued;
+  queued = put_back w.proxy.refused (firsts w.in_flight) w.queued;
   wire = rest w.wire;
   answers = w.answers ++ answer_of w.wire answer;
 }

@@ -1,9 +1,12 @@
--- A run with a known result: two orders without a number, of which the server refuses the first one on its merits, so that it refuses
--- the number of the second; that one is sent again with the number that is free, its connection breaks, and it is sent again.
+-- Runs with known results. In the first run, the server refuses the first one of two orders without a number on its merits, so that
+-- it refuses the number of the second; that one is sent again with the number that is free, its connection breaks, and it is sent
+-- again.
 use Rattle.std.specs.Prelude.{◌≡◌, ℕ, ◌==◌, not, Bool, true, false, List, [], ◌∷◌, Some, map}
 use Rattle.proxy_core.specs.Rules.{Rules}
+use Rattle.proxy_core.specs.Pending.{Pending}
+use Rattle.proxy_core.specs.Machine.{picks_of}
 use Rattle.proxy_core.specs.Session.{CountsAreRight, Session}
-use Rattle.proxy_core.specs.Run.{Delivery, Sent, Event, Arrives, Flies, Answers, Breaks, Connects, Counts, Run, new_run, run}
+use Rattle.proxy_core.specs.Run.{Request, Delivery, Sent, Event, Arrives, Flies, Answers, Breaks, Connects, Counts, Run, new_run, run}
 
 abbrev pub begins_with : ℕ → List ℕ → Bool
 begins_with n [] = false
@@ -40,6 +43,41 @@ pub record WorkedRun : Type 0 where
   pub numbers : map (λ (s : Sent). s.number) worked_run.sent ≡ 10 ∷ 11 ∷ 10 ∷ 10 ∷ []
   pub firsts : map (λ (s : Sent). s.is_first) worked_run.sent ≡ true ∷ true ∷ true ∷ false ∷ []
   pub delivered : worked_run.delivered ≡ delivery 5 0 (2 ∷ []) ∷ delivery 6 1 (0 ∷ []) ∷ []
+
+-- three orders of connection 5 and one of connection 6 fly together. The server carries out the first one and refuses the second one
+-- on its merits, so it refuses the numbers of the other two. They wait again, before an order of connection 5 that arrived meanwhile
+abbrev pub turn_events : List Event
+turn_events =
+    Arrives 5 0 (1 ∷ 1 ∷ []) ∷ Arrives 5 0 (1 ∷ 2 ∷ []) ∷ Arrives 5 0 (1 ∷ 3 ∷ []) ∷ Arrives 6 0 (1 ∷ 4 ∷ []) ∷ Connects ∷ Counts 9 ∷ Flies (true ∷ true ∷ true ∷ true ∷ [])
+    ∷ Arrives 5 0 (1 ∷ 5 ∷ []) ∷ Answers (0 ∷ []) ∷ Answers (2 ∷ []) ∷ Answers (1 ∷ []) ∷ Answers (1 ∷ []) ∷ []
+
+abbrev pub turn_run : Run
+turn_run = run worked_rules new_run turn_events
+
+-- they fly again, and the server carries them out
+abbrev pub again_run : Run
+again_run = run worked_rules turn_run (Flies (true ∷ true ∷ true ∷ []) ∷ Answers (0 ∷ []) ∷ Answers (0 ∷ []) ∷ Answers (0 ∷ []) ∷ [])
+
+-- they fly again, and the server refuses the number of the first one but carries out the others, which its rule forbids. Connection 5
+-- ends, since the answer to its last order would come before that to an older one
+abbrev pub overtaken_run : Run
+overtaken_run = run worked_rules turn_run (Flies (true ∷ true ∷ true ∷ []) ∷ Answers (1 ∷ []) ∷ Answers (0 ∷ []) ∷ Answers (0 ∷ []) ∷ [])
+
+-- an order of connection 5 that arrived with a number of its own, or without one
+abbrev pub order : Bool → Pending
+order own = record { from = 5; line = 1 ∷ []; is_once = false; is_query = false; is_unnumbered = own }
+
+pub record WorkedTurn : Type 0 where
+  pub together : picks_of true (order true ∷ order true ∷ order true ∷ []) ≡ true ∷ true ∷ true ∷ []
+  pub apart : picks_of true (order false ∷ order true ∷ order false ∷ order true ∷ []) ≡ true ∷ true ∷ false ∷ false ∷ []
+  pub waits : map (λ (a : Request). a.place) turn_run.queued ≡ 2 ∷ 3 ∷ 4 ∷ []
+  pub refused : turn_run.proxy.refused ≡ 2
+  pub places : map (λ (s : Sent). s.place) again_run.sent ≡ 0 ∷ 1 ∷ 2 ∷ 3 ∷ 2 ∷ 3 ∷ 4 ∷ []
+  pub numbers : map (λ (s : Sent). s.number) again_run.sent ≡ 10 ∷ 11 ∷ 12 ∷ 13 ∷ 11 ∷ 12 ∷ 13 ∷ []
+  pub delivered : again_run.delivered ≡ delivery 5 0 (0 ∷ []) ∷ delivery 5 1 (2 ∷ []) ∷ delivery 5 2 (0 ∷ []) ∷ delivery 6 3 (0 ∷ []) ∷ delivery 5 4 (0 ∷ []) ∷ []
+  pub overtaken : overtaken_run.delivered ≡ delivery 5 0 (0 ∷ []) ∷ delivery 5 1 (2 ∷ []) ∷ delivery 6 3 (0 ∷ []) ∷ []
+  pub ended : overtaken_run.ended ≡ 5 ∷ []
+  pub dropped : overtaken_run.queued ≡ []
 
 -- the server carried out the third sending, and nothing else
 abbrev pub third_sending : Sent

@@ -86,17 +86,26 @@ fn fill(
     first: &Round,
 ) -> Result<Vec<bool>, AllocError>
     requires { length first.now.picks ≡ length waiting.now.items }
-    ensures { IfOk result (λ picks. picks.items ≡ second_round is_counted first.now.kind first.now.room [] first.now.picks waiting.now.items) }
+    ensures { IfOk result (λ picks. picks.items ≡ second_round is_counted first.now.kind first.now.room [] [] first.now.picks waiting.now.items) }
 {
     let mut picks = Vec::new(alloc);
     let mut room = first.room;
     let mut staying = BTreeSet::new(alloc);
+    let mut unnumbered = BTreeSet::new(alloc);
     for i in 0..waiting.len() {
         let pending = &waiting[i];
         let leads = first.picks[i];
-        let goes = is_filling(leads, is_counted, first.kind, room, &staying, pending);
+        let goes = is_filling(
+            leads,
+            is_counted,
+            first.kind,
+            room,
+            &staying,
+            &unnumbered,
+            pending,
+        );
         room = room_left(leads, goes, room);
-        note(&mut staying, pending, goes)?;
+        note(&mut staying, &mut unnumbered, pending, goes)?;
         picks.push(goes)?;
     }
     Ok(picks)
@@ -119,18 +128,23 @@ fn is_joining(
         && !staying.contains(&pending.from())
 }
 
-/// Returns whether a line flies in the second round: it did in the first one, or it may join.
+/// Returns whether a line flies in the second round: it did in the first one, or it may join. After an
+/// unnumbered order of its connection only another one may.
 fn is_filling(
     leads: bool,
     is_counted: bool,
     kind: Kind,
     room: usize,
     staying: &BTreeSet<u64>,
+    unnumbered: &BTreeSet<u64>,
     pending: &Pending,
 ) -> bool
-    ensures { result ≡ (leads || (is_begun kind && (nat_lt 0 room && (is_ready is_counted pending.now && (joins kind pending.now && not (contains nat_cmp staying.now pending.now.from)))))) }
+    ensures { result ≡ (leads || (is_begun kind && ((nat_lt 0 room && (is_ready is_counted pending.now && (joins kind pending.now && not (contains nat_cmp staying.now pending.now.from)))) && (pending.now.is_unnumbered || not (contains nat_cmp unnumbered.now pending.now.from))))) }
 {
-    leads || (kind != Kind::Any && is_joining(is_counted, kind, room, staying, pending))
+    leads
+        || (kind != Kind::Any
+            && is_joining(is_counted, kind, room, staying, pending)
+            && (pending.is_unnumbered() || !unnumbered.contains(&pending.from())))
 }
 
 /// Returns whether a line may fly with lines of a kind.
@@ -175,12 +189,21 @@ fn room_left(leads: bool, goes: bool, room: usize) -> usize
     room_with(!leads && goes, room)
 }
 
-/// Adds a line's connection to a set, if the line stays or may wait again. Errors: out of memory.
-fn note(staying: &mut BTreeSet<u64>, pending: &Pending, goes: bool) -> Result<(), AllocError>
-    ensures { OnOk result ((c : ℕ) → contains nat_cmp staying.new c ≡ (((not goes || pending.now.is_unnumbered) && (pending.now.from == c)) || contains nat_cmp staying.old c)) }
+/// Adds a line's connection to one of the sets, if the line stays, or if it is an unnumbered order that
+/// flies. Errors: out of memory.
+fn note(
+    staying: &mut BTreeSet<u64>,
+    unnumbered: &mut BTreeSet<u64>,
+    pending: &Pending,
+    goes: bool,
+) -> Result<(), AllocError>
+    ensures staying { OnOk result ((c : ℕ) → contains nat_cmp staying.new c ≡ ((not goes && (pending.now.from == c)) || contains nat_cmp staying.old c)) }
+    ensures unnumbered { OnOk result ((c : ℕ) → contains nat_cmp unnumbered.new c ≡ (((goes && pending.now.is_unnumbered) && (pending.now.from == c)) || contains nat_cmp unnumbered.old c)) }
 {
-    if !goes || pending.is_unnumbered() {
+    if !goes {
         staying.insert(pending.from())?;
+    } else if pending.is_unnumbered() {
+        unnumbered.insert(pending.from())?;
     }
     Ok(())
 }

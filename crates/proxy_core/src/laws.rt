@@ -5,7 +5,7 @@ ghost use Rattle.proxy_core.specs.Promises.{EveryRun};
 ghost use Rattle.proxy_core.specs.Server.{SessionRule};
 ghost use Rattle.proxy_core.specs.Session.{AtMostOnce, OwnReplies};
 ghost use Rattle.proxy_core.specs.TakenBack.{TakenBackInTime, TakenBackNumber};
-ghost use Rattle.proxy_core.specs.WorkedRun.{WorkedRun, WorkedSession};
+ghost use Rattle.proxy_core.specs.WorkedRun.{WorkedRun, WorkedSession, WorkedTurn};
 
 /// Whatever lines arrive, whichever connections leave, whenever the server's connection breaks and
 /// whatever the server answers: each answer that a connection receives is the server's to that very
@@ -58,6 +58,12 @@ pub fn worked_run()
 /// order at its second sending.
 pub fn worked_session()
     ensures { WorkedSession }
+{}
+
+/// Runs in which several orders of one connection fly together, and those after a refused one fly again in
+/// turn.
+pub fn worked_turn()
+    ensures { WorkedTurn }
 {}
 
 /// A server that judges the sendings of the proxy's client by its session rule, one connection after the

@@ -1,10 +1,11 @@
 //! The state machine.
 
-ghost use Rattle.std.specs.Prelude.{◌≡◌, ◌<◌, ◌↔◌, [], true, IfOk, OnErr, IsTrue, IsSome, length, filter, not};
+ghost use Rattle.std.specs.Prelude.{◌≡◌, ◌≤◌, ◌<◌, ◌↔◌, [], ◌∷◌, true, IfOk, OnErr, IsTrue, IsSome, length, filter, count_by, take, ◌&&◌, ◌||◌, not};
 ghost use Rattle.proxy_core.specs.Rules.{Rules, as_sent, needs_number};
 ghost use Rattle.proxy_core.specs.Pending.{is_from};
 ghost use Rattle.std.specs.Option.{option_copied};
-ghost use Rattle.proxy_core.specs.Machine.{begins_order, is_denied, is_none, lost_of, picked, picks_of};
+ghost use Rattle.std.specs.VecDeque.{deque_capacity, deque_len};
+ghost use Rattle.proxy_core.specs.Machine.{begins_order, is_denied, is_none, lost_of, picked, picks_of, put_back};
 ghost use Rattle.proxy_core.specs.NextOrder.{next_number, next_order};
 
 use crate::choice::{choose, take_out};
@@ -37,7 +38,8 @@ pub enum Admission {
 pub enum Outcome {
     /// It goes to this connection.
     To(u64),
-    /// It leaves open what became of a line of this connection. The loop ends the connection.
+    /// It leaves open what became of a line of this connection, or it would come before the answer to an
+    /// older line. The loop ends the connection.
     Ended(u64),
     /// It refuses the number of a line of this connection. The line waits again, for another number.
     Retry(u64),
@@ -50,6 +52,7 @@ pub enum Outcome {
 pub struct Proxy {
     flight: VecDeque<Pending>,
     waiting: VecDeque<Pending>,
+    refused: usize,
     held: BTreeMap<u64, usize>,
     is_up: bool,
     is_resent: bool,
@@ -60,19 +63,20 @@ pub struct Proxy {
 }
 
 impl Model for Proxy {
+    ghost use Rattle.std.specs.Prelude.{◌≤◌, length};
     ghost use Rattle.proxy_core.specs.Held.{AreHeld};
     ghost use Rattle.proxy_core.specs.Machine.{Proxy};
 
     ghost Value = { Proxy };
 
-    ghost invariant = { λ f. AreHeld f.held f.flight.items f.waiting.items };
+    ghost invariant = { λ f. AreHeld f.held f.flight.items f.waiting.items × (f.refused ≤ length f.waiting.items) };
 
-    ghost view = { λ f. record { flight = f.flight.items; waiting = f.waiting.items; is_up = f.is_up; is_resent = f.is_resent; number = f.number; last = f.last; is_counted = f.is_counted; has_refusal = f.has_refusal } };
+    ghost view = { λ f. record { flight = f.flight.items; waiting = f.waiting.items; refused = f.refused; is_up = f.is_up; is_resent = f.is_resent; number = f.number; last = f.last; is_counted = f.is_counted; has_refusal = f.has_refusal } };
 }
 
 impl Proxy {
     ghost use Rattle.proxy_core.specs.Pending.{is_from, new_pending, text_of};
-    ghost use Rattle.proxy_core.specs.Machine.{after_broken, after_number, after_outcome, after_admission, after_taken, counted, without_connection, outcome, flown, has_denied, held, lost, may_go, new_proxy, picks_of, admission, taken_back};
+    ghost use Rattle.proxy_core.specs.Machine.{after_broken, after_number, after_outcome, after_admission, after_taken, counted, without_connection, outcome, flown, has_denied, held, is_late, lost, may_go, new_proxy, picks_of, admission, taken_back};
 
     /// Returns a proxy without lines and without a connection to the server.
     pub fn new(alloc: Global) -> Self
@@ -81,6 +85,7 @@ impl Proxy {
         Proxy {
             flight: VecDeque::new(alloc),
             waiting: VecDeque::new(alloc),
+            refused: 0,
             held: BTreeMap::new(alloc),
             is_up: false,
             is_resent: false,
@@ -161,8 +166,9 @@ impl Proxy {
     /// Makes a flight of waiting lines if there is none, and returns the number of its lines, which the
     /// loop writes to the server. The flight is the oldest line that may fly, and with it all lines of its
     /// kind that may: queries fly together, and so do orders; none flies before an older line of its
-    /// connection, and an unnumbered order only while the last number is known. If there are too many,
-    /// each connection gets one in before any gets its second. Errors: out of memory; nothing changes.
+    /// connection, none but an unnumbered order after one of its connection, and an unnumbered order only
+    /// while the last number is known. If there are too many, each connection gets one in before any gets
+    /// its second. Errors: out of memory; nothing changes.
     #[tactic(auto, using(crate::proofs::Picks::picks_length, crate::proofs::Picks::picks_may_go))]
     pub fn start_flight(&mut self, alloc: Global) -> Result<usize, AllocError>
         ensures went { IfOk result (λ n. 0 < n → (may_go (picks_of self.old.is_counted self.old.waiting) self.old ≡ true)
@@ -180,6 +186,7 @@ impl Proxy {
         let flight = take_out(alloc, &mut self.waiting, picks.as_slice())?;
         let count = flight.len();
         self.flight = flight;
+        self.refused = 0;
         self.is_resent = false;
         self.has_refusal = false;
         self.number = self.last;
@@ -211,32 +218,70 @@ impl Proxy {
         ensures after { IfOk result (λ g. self.new ≡ after_outcome (P.rules policy.now) answer.now g self.old) }
         ensures err { OnErr result (self.new ≡ self.old) }
     {
-        if !self.is_up {
-            return Ok(Outcome::Unsolicited);
-        }
         self.waiting.reserve(1)?;
-        let Some(first) = self.flight.pop_front() else {
+        let outcome = self.outcome(policy, answer);
+        if outcome == Outcome::Unsolicited {
             self.is_up = false;
-            return Ok(Outcome::Unsolicited);
+            return Ok(outcome);
+        }
+        // An answer that was asked for is to the first line of the flight, so there is one.
+        let Some(first) = self.flight.pop_front() else {
+            return Ok(outcome);
+        };
+        if let Outcome::Retry(_) = outcome {
+            put_back(&mut self.waiting, self.refused, first);
+            self.refused += 1;
+            self.count(policy, answer);
+            return Ok(outcome);
+        }
+        release(&mut self.held, first.from(), 1);
+        if first.is_unnumbered() {
+            self.count(policy, answer);
+        }
+        if let Outcome::Ended(connection) = outcome {
+            self.forget(connection);
+        }
+        Ok(outcome)
+    }
+
+    /// Returns whose an answer of the server is.
+    fn outcome<P: Policy>(&self, policy: &P, answer: &[u8]) -> Outcome
+        ensures { result ≡ outcome (P.rules policy.now) answer.now self.now }
+    {
+        if !self.is_up {
+            return Outcome::Unsolicited;
+        }
+        let Some(first) = self.flight.front() else {
+            return Outcome::Unsolicited;
         };
         let connection = first.from();
-        let is_unnumbered = first.is_unnumbered();
-        let refuses_number = is_unnumbered && policy.refuses_number(answer);
-        let ends = self.is_resent && (policy.is_inconclusive(answer) || refuses_number);
-        if refuses_number && !ends {
-            self.waiting.push_front_reserved(first);
-            self.count(policy, answer);
-            return Ok(Outcome::Retry(connection));
+        if refuses_number(policy, answer, first) {
+            return if self.is_resent {
+                Outcome::Ended(connection)
+            } else {
+                Outcome::Retry(connection)
+            };
         }
-        release(&mut self.held, connection, 1);
-        if is_unnumbered {
-            self.count(policy, answer);
+        if self.ends(policy, answer, connection) {
+            return Outcome::Ended(connection);
         }
-        if ends {
-            self.forget(connection);
-            return Ok(Outcome::Ended(connection));
-        }
-        Ok(Outcome::To(connection))
+        Outcome::To(connection)
+    }
+
+    /// Returns whether an answer ends the connection of its line: it leaves open what became of a line that
+    /// was sent twice, or it would come before the answer to an older line.
+    fn ends<P: Policy>(&self, policy: &P, answer: &[u8], connection: u64) -> bool
+        ensures { result ≡ ((self.now.is_resent && (P.rules policy.now).is_inconclusive answer.now) || is_late self.now connection) }
+    {
+        (self.is_resent && policy.is_inconclusive(answer)) || self.is_late(connection)
+    }
+
+    /// Returns whether an older line of a connection waits again, since the server refused its number in this
+    /// flight.
+    fn is_late(&self, connection: u64) -> bool
+        ensures { result ≡ is_late self.now connection }
+    {
+        count_from(&self.waiting, self.refused, connection) > 0
     }
 
     /// Notes what an answer to the first order of the flight, which has a number of the proxy, says of the
@@ -268,6 +313,8 @@ impl Proxy {
     pub fn forget(&mut self, connection: u64)
         ensures { self.new ≡ without_connection connection self.old }
     {
+        let refused = count_from(&self.waiting, self.refused, connection);
+        self.refused = self.refused.saturating_sub(refused);
         let before = self.waiting.len();
         keep_others(&mut self.waiting, connection);
         release(
@@ -411,6 +458,37 @@ fn written<P: Policy>(
     } else {
         Vec::from_slice(alloc, pending.line())
     }
+}
+
+/// Returns whether an answer refuses the number that the proxy gave to a line.
+fn refuses_number<P: Policy>(policy: &P, answer: &[u8], pending: &Pending) -> bool
+    ensures { result ≡ (pending.now.is_unnumbered && (P.rules policy.now).refuses_number answer.now) }
+{
+    pending.is_unnumbered() && policy.refuses_number(answer)
+}
+
+/// Returns how many of the first `most` lines are of a connection.
+fn count_from(lines: &VecDeque<Pending>, most: usize, connection: u64) -> usize
+    requires { most ≤ length lines.now.items }
+    ensures { result ≡ count_by (is_from connection) (take most lines.now.items) }
+{
+    let mut count = 0;
+    for i in 0..most {
+        if lines[i].from() == connection {
+            count += 1;
+        }
+    }
+    count
+}
+
+/// Puts a line among the waiting ones, after the first ones, whose numbers were refused before.
+fn put_back(waiting: &mut VecDeque<Pending>, refused: usize, pending: Pending)
+    requires within { refused ≤ length waiting.old.items }
+    requires reserved { deque_len waiting.old < deque_capacity waiting.old }
+    ensures { waiting.new.items ≡ put_back refused (pending ∷ []) waiting.old.items }
+{
+    // The room is reserved, so this takes no memory.
+    let _ = waiting.insert(refused, pending);
 }
 
 /// Drops the lines of a connection.
