@@ -45,7 +45,6 @@ class Addresses(Case):
             closed = "127.0.0.1:{}".format(nobody.getsockname()[1])
         self.assertIn("nodes", self.front_of(f"{closed},{self.server.address}").ask(op="show"))
 
-    @unittest.skipIf(PROXY, "the proxy stays with a server that has stopped, and passes its answers on")
     def test_one_that_has_stopped_is_left(self) -> None:
         front = self.front_of(f"{self.stopped_one()},{self.server.address}")
         order = {"op": "reset", "client": 1, "number": 1, "node": 1}
