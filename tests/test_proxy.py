@@ -56,6 +56,9 @@ class Proxy(Files):
     def test_sockets_of_the_manager(self) -> None:
         self.files("test_activation")
 
+    def test_what_is_in_the_way(self) -> None:
+        self.files("test_stopped_servers", "test_taken_paths", "test_descriptors")
+
     def test_haproxy(self) -> None:
         self.files("test_haproxy")
 

@@ -44,11 +44,14 @@ class Addresses(Case):
             closed = "127.0.0.1:{}".format(nobody.getsockname()[1])
         self.assertIn("nodes", self.proxy_before(closed, self.server.address).ask(op="show"))
 
-    def test_answers_of_one_that_has_stopped_are_forwarded(self) -> None:
-        """The proxy stays with it."""
+    def test_one_that_has_stopped_is_left(self) -> None:
         proxy = self.proxy_before(self.stopped_one(), self.server.address)
-        for _ in range(3):
-            self.assertEqual(proxy.ask(op="reset", client=1, number=1, node=1), {"name": "Stopped", "refused": 1})
+        order = {"op": "reset", "client": 1, "number": 1, "node": 1}
+
+        def carried_out() -> dict[str, Any] | None:
+            answer = proxy.ask(**order)
+            return answer if "kind" in answer else None
+        self.assertEqual(until("the other one", carried_out)["kind"], "started")
 
     def note_end(self, client: Client, ended: threading.Event) -> None:
         with contextlib.suppress(ConnectionError):

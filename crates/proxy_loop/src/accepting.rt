@@ -11,11 +11,16 @@ use std::io::ErrorKind;
 use std::time::Duration;
 
 impl<G: Gateway> EventLoop<G> {
-    /// Accepts connections of each listener that has some, up to a number of each: then others have their turn.
+    /// Accepts connections of each listener that has some, up to a number of each: then others have their turn. It holds
+    /// descriptors in reserve meanwhile.
     pub(crate) fn accept_all(&mut self, registry: &Registry) -> io::Result<()> {
-        if self.at.now < self.accept_at {
+        if !self.has_waiting_connections() {
             return Ok(());
         }
+        let Ok(_reserve) = reserve(registry) else {
+            self.pause_accepting();
+            return Ok(());
+        };
         for index in 0..self.listeners.len() {
             self.accept_some(registry, index)?;
         }
@@ -37,16 +42,18 @@ impl<G: Gateway> EventLoop<G> {
                     ErrorKind::WouldBlock => listener.is_ready = false,
                     ErrorKind::Interrupted | ErrorKind::ConnectionAborted => {}
                     _ => {
-                        self.accept_at = self
-                            .at
-                            .now
-                            .saturating_add(Duration::from_millis(FAILURE_PAUSE));
+                        self.pause_accepting();
                         return Ok(());
                     }
                 },
             }
         }
         Ok(())
+    }
+
+    fn pause_accepting(&mut self) {
+        let pause = Duration::from_millis(FAILURE_PAUSE);
+        self.accept_at = self.at.now.saturating_add(pause);
     }
 
     /// Takes a connection in this role. One more than the limit is closed at once.
@@ -82,4 +89,10 @@ impl<G: Gateway> EventLoop<G> {
         self.activate(place)?;
         Ok(())
     }
+}
+
+/// Takes two descriptors, so that clients leave one for the server's connection, and one for a file that is read or opened
+/// again.
+fn reserve(registry: &Registry) -> io::Result<(Registry, Registry)> {
+    Ok((registry.try_clone()?, registry.try_clone()?))
 }

@@ -1,5 +1,8 @@
 //! Answers of the server.
 
+ghost use Rattle.std.specs.Prelude.{◌≡◌, false, Ok};
+ghost use Rattle.proxy_loop.specs.Answers.{stopped};
+
 use crate::departing::line_of;
 use crate::event_loop::EventLoop;
 use crate::gateway::{ExchangeKind, Gateway};
@@ -13,6 +16,9 @@ use std::alloc::AllocError;
 use std::io::{ErrorKind, Read};
 
 const CHUNK_BYTES: usize = 16_384;
+
+/// The answer of a server whose disk failed, or that is ending.
+const STOPPED: &[u8] = b"{\"name\":\"Stopped\",\"refused\":1}";
 
 impl<G: Gateway> EventLoop<G> {
     /// Reads what the server has sent, and passes each answer on. Returns with more to read after some reads.
@@ -55,8 +61,13 @@ impl<G: Gateway> EventLoop<G> {
     }
 
     /// Passes an answer to the core, and to the connection whose it is. Returns false if the server's connection has
-    /// to be left.
-    fn deliver(&mut self, answer: &[u8]) -> Result<bool, AllocError> {
+    /// to be left. `Stopped` is passed to nobody: all lines from that one on are sent again.
+    fn deliver(&mut self, answer: &[u8]) -> Result<bool, AllocError>
+        ensures stopped { answer.now ≡ stopped → (result ≡ Ok false) × (self.new ≡ self.old) }
+    {
+        if answer == STOPPED {
+            return Ok(false);
+        }
         let kind = self.keep_order()?;
         let own_number = self.core.next_number();
         let Ok(outcome) = self.core.answer(&self.gateway, answer) else {

@@ -1,9 +1,9 @@
 //! A socket that clients connect to.
 
-ghost use Rattle.std.specs.Prelude.{◌≡◌, ◌≤ℤ◌, pos, true, IfOk};
+ghost use Rattle.std.specs.Prelude.{◌≡◌, ◌≤ℤ◌, pos, true, IfOk, IfSome};
 ghost use Rattle.mio.specs.Net.{unix_listener_fd};
 
-use mio::net::UnixListener;
+use mio::net::{UnixListener, UnixStream};
 use os::FromRawFd;
 use std::fs::{Files, Permissions};
 use std::io::ErrorKind;
@@ -23,22 +23,26 @@ pub struct Listener {
 }
 
 impl Listener {
-    /// Makes a socket at a path, which its owner alone may open. A socket that is left there is removed.
-    pub fn bind<R: Files + Net>(rt: &R, path: &str, role: Option<u32>) -> io::Result<Self>
-        ensures { IfOk result (λ listener. (listener.role ≡ role) × (listener.is_ready ≡ true)) }
+    /// Makes a socket at a path, which its owner alone may open. A socket that was left there is removed. None: another
+    /// process listens there.
+    pub fn bind<R: Files + Net>(rt: &R, path: &str, role: Option<u32>) -> io::Result<Option<Self>>
+        ensures { IfOk result (λ bound. IfSome bound (λ listener. (listener.role ≡ role) × (listener.is_ready ≡ true))) }
     {
         if let Ok(found) = fs::symlink_metadata(rt, path) {
             if found.file_type().is_socket() {
+                if is_listened_at(rt, path)? {
+                    return Ok(None);
+                }
                 fs::remove_file(rt, path)?;
             }
         }
         let socket = UnixListener::bind(rt, path)?;
         fs::set_permissions(rt, path, Permissions::from_mode(0o600))?;
-        Ok(Listener {
+        Ok(Some(Listener {
             socket,
             role,
             is_ready: true,
-        })
+        }))
     }
 
     /// Takes the listening socket that another process opened and passed as this descriptor. Nothing else may use
@@ -63,6 +67,19 @@ impl Listener {
             role,
             is_ready: true,
         })
+    }
+}
+
+/// Returns whether a process listens at the socket of a path.
+fn is_listened_at<R: Net>(rt: &R, path: &str) -> io::Result<bool> {
+    match UnixStream::connect(rt, path) {
+        Ok(_) => Ok(true),
+        Err(error) => match error.kind() {
+            ErrorKind::ConnectionRefused => Ok(false),
+            // It has no room for one more.
+            ErrorKind::WouldBlock => Ok(true),
+            _ => Err(error),
+        },
     }
 }
 

@@ -1,5 +1,7 @@
 //! The loop itself.
 
+ghost use Rattle.std.specs.Prelude.{IsErr};
+
 use crate::event_loop::EventLoop;
 use crate::gateway::{Gateway, Moment};
 use crate::ready::Ready;
@@ -22,7 +24,9 @@ const MOST_EVENTS: usize = 1024;
 pub fn serve<R: Net + Files<File = File> + AllocGlobal + Clock + Wait + Print + Eprint, G: Gateway>(
     rt: &R,
     event_loop: &mut EventLoop<G>,
-) -> io::Result<()> {
+) -> io::Result<()>
+    ensures { IsErr result }
+{
     let mut poll = Poll::new(rt)?;
     let mut events = Events::with_capacity(event_loop.alloc, MOST_EVENTS)?;
     event_loop.register(poll.registry())?;
@@ -40,7 +44,7 @@ pub fn serve<R: Net + Files<File = File> + AllocGlobal + Clock + Wait + Print + 
         event_loop.turn(rt, poll.registry())?;
         event_loop.report(rt)?;
     }
-    Ok(())
+    unreachable!()
 }
 
 impl<G: Gateway> EventLoop<G> {

@@ -35,7 +35,8 @@ impl<G: Gateway> EventLoop<G> {
         }
     }
 
-    fn has_waiting_connections(&self) -> bool {
+    /// Returns whether connections wait, and may be accepted now.
+    pub(crate) fn has_waiting_connections(&self) -> bool {
         self.at.now >= self.accept_at && self.listeners.iter().any(|listener| listener.is_ready)
     }
 

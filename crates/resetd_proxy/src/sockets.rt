@@ -15,7 +15,7 @@ use std::{env, io};
 const CERTIFICATES: &str = "certificates";
 
 /// Opens the sockets that the arguments name, and takes those that the service manager opened for this process.
-/// Returns None if it opened others than the arguments name, which is reported.
+/// Returns None if it opened others than the arguments name, or if another process has one of them, which is reported.
 pub fn open_sockets<R: Net + Files + Env + AllocGlobal + Eprint>(
     rt: &R,
     process: u32,
@@ -26,11 +26,17 @@ pub fn open_sockets<R: Net + Files + Env + AllocGlobal + Eprint>(
     let mut listeners = Vec::new(alloc);
     for (name, path) in &arguments.named {
         let role = role_of(alloc, gateway, name.as_str())?;
-        listeners.push(Listener::bind(rt, path.as_str(), Some(role))?)?;
+        let Some(listener) = bound(rt, path.as_str(), Some(role))? else {
+            return Ok(None);
+        };
+        listeners.push(listener)?;
         eprintln!(rt; "listening {name}")?;
     }
     if let Some(path) = &arguments.certificates {
-        listeners.push(Listener::bind(rt, path.as_str(), None)?)?;
+        let Some(listener) = bound(rt, path.as_str(), None)? else {
+            return Ok(None);
+        };
+        listeners.push(listener)?;
         eprintln!(rt; "listening {CERTIFICATES}")?;
     }
     if let Some(names) = &arguments.passed {
@@ -48,6 +54,19 @@ pub fn open_sockets<R: Net + Files + Env + AllocGlobal + Eprint>(
         }
     }
     Ok(Some(listeners))
+}
+
+/// Makes a socket at a path. Returns None if another process listens there, which is reported.
+fn bound<R: Net + Files + Eprint>(
+    rt: &R,
+    path: &str,
+    role: Option<u32>,
+) -> io::Result<Option<Listener>> {
+    let bound = Listener::bind(rt, path, role)?;
+    if bound.is_none() {
+        eprintln!(rt; "resetd-proxy: another process listens at {path}")?;
+    }
+    Ok(bound)
 }
 
 /// Returns the role of a principal.
