@@ -1,4 +1,4 @@
-mod Lines
+pub mod Lines
 mod Rows
 mod Heard
 pub mod Orders

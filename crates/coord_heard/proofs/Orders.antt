@@ -77,13 +77,13 @@ confirm_sorted c n u e ec en eu ee = rw (ec, en, eu, ee) refl
 
 -- ---- its request
 
-within : (most n : ℕ) → IsIn most n → from_1_to most n ≡ Some n
+pub within : (most n : ℕ) → IsIn most n → from_1_to most n ≡ Some n
 within most n is = grind arith
 
 client_word : (n : ℕ) → IsIn MAX_CLIENTS n → IsWord n
 client_word n is = grind arith
 
-node_word : (n : ℕ) → IsIn MAX_NODES n → IsWord n
+pub node_word : (n : ℕ) → IsIn MAX_NODES n → IsWord n
 node_word n is = grind arith
 
 group_word : (n : ℕ) → IsIn MAX_GROUPS n → IsWord n
@@ -135,11 +135,11 @@ ascii_cons : (b : ℕ) (bs : List ℕ) → b < 128 → IsAscii bs → IsAscii (b
 ascii_cons b bs low is zero = low
 ascii_cons b bs low is (suc i) = is i
 
-ascii_if : (bs : List ℕ) → list_all (λ b. nat_lt b 128) bs ≡ true → IsAscii bs
+pub ascii_if : (bs : List ℕ) → list_all (λ b. nat_lt b 128) bs ≡ true → IsAscii bs
 ascii_if [] is = IsAscii-nil
 ascii_if (b ∷ bs) is = ascii_cons b bs (grind (arith, nat_tests)) (ascii_if bs (grind (arith, nat_tests)))
 
-literal_then : (text rest : List ℕ) → list_all (λ b. nat_lt b 128) text ≡ true → IsAscii rest → IsAscii (text ++ rest)
+pub literal_then : (text rest : List ℕ) → list_all (λ b. nat_lt b 128) text ≡ true → IsAscii rest → IsAscii (text ++ rest)
 literal_then text rest is more = IsAscii-append text rest (ascii_if text is) more
 
 head_ascii : (op : List ℕ) (c n : ℕ) → IsAscii op → IsWord c → IsWord n → IsAscii (head op c n)
@@ -192,7 +192,7 @@ line_ascii c n (Drop a b) ic iw ix = link_ascii (codes "drop") c n a b (ascii_if
 line_ascii c n (Reset u) ic iw ix = node_ascii (codes "reset") c n u (ascii_if (codes "reset") refl) (client_word c ic) iw (node_word u ix)
 line_ascii c n (Confirm u e) ic iw ix = confirm_ascii c n u e (client_word c ic) iw (node_word u ix.0) ix.1
 
-text_utf8 : (text more : List ℕ) → IsAscii (text ++ more) → is_utf8 text ≡ true
+pub text_utf8 : (text more : List ℕ) → IsAscii (text ++ more) → is_utf8 text ≡ true
 text_utf8 text more is =
     let P : List ℕ → Type 0 = IsAscii in
     is_utf8-from_IsUtf8 text (IsUtf8-from_ascii text (subst P (take-append_seam text more) (IsAscii-take (text ++ more) (length text) is)))

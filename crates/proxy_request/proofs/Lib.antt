@@ -1,3 +1,4 @@
 mod Computes
 mod Passes
 mod Spelled
+mod UsualLines

@@ -14,6 +14,7 @@ mod op;
 mod reading;
 mod request;
 mod spelling;
+mod usual;
 
 pub use answers::{is_out_of_turn, is_refusal, is_reply, refuses_number};
 pub use op::Op;

@@ -9,6 +9,7 @@ ghost use Rattle.coord_admin.specs.Stream.{IsText};
 ghost use Rattle.proxy_request.specs.Requests.{asked_by, asked_in, confirm_of, request_by, request_of, reset_at_of, reset_of};
 
 use crate::request::{Request, of_server};
+use crate::usual::read_usual;
 use coord_admin::{LineFault, identifier_at, member_count, number_at};
 use serde_json::Value;
 use std::alloc::Global;
@@ -30,6 +31,9 @@ fn read_bytes(alloc: Global, bytes: &[u8]) -> Result<Request, LineFault>
     ensures value { result ≢ Err OutOfMemory → result ≡ asked_by (Some bytes.now) }
     ensures memory { result ≡ Err OutOfMemory → IsUtf8 bytes.now }
 {
+    if let Some(request) = read_usual(bytes) {
+        return Ok(request);
+    }
     match str::from_utf8(bytes) {
         Ok(text) => read_text(alloc, text),
         Err(_) => Err(LineFault::BadText),
