@@ -8,8 +8,9 @@ import tempfile
 import threading
 import time
 import unittest
+from typing import Any
 
-from case import DEADLINE, Case, Client, Proxy, needs_proxy
+from case import DEADLINE, Case, Client, Proxy, needs_proxy, until
 from test_lost_answers import Losing
 
 STOPPED = b'{"name":"Stopped","refused":1}\n'
