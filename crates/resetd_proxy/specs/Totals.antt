@@ -1,5 +1,7 @@
--- The metrics that are one number each.
+-- The text of the metrics: the counts of answers, and the metrics that are one number each.
 use Rattle.std.specs.Prelude.{ℕ, Bool, true, false, List, [], ◌++◌, codes, decimal, Option, Some, None}
+use Rattle.proxy_audit.specs.Tallies.{answers_text, times_text}
+use Rattle.proxy_audit.specs.declared.tally.Tally.{Tally}
 use Rattle.proxy_loop.specs.declared.gateway.Counts.{Counts}
 
 unfoldable pub counter_lines : List ℕ → List ℕ → ℕ → List ℕ
@@ -32,3 +34,6 @@ gauges_text c =
 
 abbrev pub totals_text : Counts → ℕ → List ℕ
 totals_text c lost = counters_text c ++ (counter_lines (codes "audit_lost") (codes "audit lines that could not be written") lost ++ gauges_text c)
+
+abbrev pub metrics_text : Tally → Counts → ℕ → List ℕ
+metrics_text tally counts lost = (answers_text tally.answers.entries ++ times_text tally.times.entries) ++ totals_text counts lost

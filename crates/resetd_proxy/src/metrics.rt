@@ -1,5 +1,10 @@
 //! The metrics: a text for Prometheus, in a file or on standard output.
 
+ghost use Rattle.std.specs.Prelude.{◌≡◌, ◌⊎◌, ◌+◌, ◌++◌, ◌<◌, ◌≤◌, [], ℕ, List, codes, false, true, min, IfOk, None, string_bytes};
+ghost use Rattle.std.specs.BTreeMap.{get_by_text};
+ghost use Rattle.std.specs.Duration.{as_nanos, max_nanos};
+ghost use Rattle.resetd_proxy.specs.Totals.{metrics_text};
+
 use crate::totals::push_totals;
 use proxy_audit::{STANDARD_OUTPUT, Tally};
 use proxy_loop::Counts;
@@ -28,7 +33,11 @@ pub(crate) struct Metrics {
 
 impl Metrics {
     /// Returns metrics without counts. Errors: out of memory.
-    pub fn new(alloc: Global, path: String) -> Result<Self, AllocError> {
+    pub fn new(alloc: Global, path: String) -> Result<Self, AllocError>
+        ensures paths { IfOk result (λ metrics. (metrics.path ≡ path) × (string_bytes metrics.new_path ≡ string_bytes path ++ codes ".new")) }
+        ensures tally { IfOk result (λ metrics. (key : List ℕ) → (get_by_text metrics.tally.answers key ≡ None) × (get_by_text metrics.tally.times key ≡ None)) }
+        ensures none { IfOk result (λ metrics. (string_bytes metrics.text ≡ []) × (as_nanos metrics.due ≡ 0) × (metrics.has_failed ≡ false)) }
+    {
         let mut new_path = String::new(alloc);
         new_path.push_str(path.as_str())?;
         new_path.push_str(".new")?;
@@ -50,8 +59,14 @@ impl Metrics {
         now: Duration,
         counts: &Counts,
         lost: u64,
-    ) {
-        if now < self.due {
+    )
+        ensures early { as_nanos now < as_nanos self.old.due → self.new ≡ self.old }
+        ensures due { as_nanos self.old.due ≤ as_nanos now → as_nanos self.new.due ≡ min (as_nanos now + 1_000_000_000) max_nanos }
+        ensures text { (self.new.text ≡ self.old.text) ⊎ (string_bytes self.new.text ≡ metrics_text self.old.tally counts.now lost) }
+        ensures failed { self.new.has_failed ≡ true → self.new.text ≡ self.old.text }
+        ensures rest { (self.new.tally ≡ self.old.tally) × (self.new.path ≡ self.old.path) × (self.new.new_path ≡ self.old.new_path) }
+    {
+        if !self.due.saturating_sub(now).is_zero() {
             return;
         }
         self.due = now.saturating_add(Duration::from_secs(TEXT_PAUSE));
@@ -71,7 +86,9 @@ impl Metrics {
         }
     }
 
-    fn new_text(&self, alloc: Global, counts: &Counts, lost: u64) -> Result<String, AllocError> {
+    fn new_text(&self, alloc: Global, counts: &Counts, lost: u64) -> Result<String, AllocError>
+        ensures { IfOk result (λ text. string_bytes text ≡ metrics_text self.now.tally counts.now lost) }
+    {
         let mut text = String::new(alloc);
         self.tally.push(&mut text)?;
         push_totals(&mut text, counts, lost)?;
