@@ -99,38 +99,38 @@ first_ends counted waiting picks kind room seen i h none =
 
 -- ---- the second round
 
-pub record SecondRound (counted : Bool) (waiting : List Pending) (kind : Kind) (start : ℕ) (leads picks : List Bool) (room : ℕ) (staying unnumbered : BTreeSet ℕ) (i : ℕ) : Type 0 where
+pub record SecondRound (counted together : Bool) (waiting : List Pending) (kind : Kind) (start : ℕ) (leads picks : List Bool) (room : ℕ) (staying unnumbered : BTreeSet ℕ) (i : ℕ) : Type 0 where
   pub stay : List ℕ
   pub own : List ℕ
   pub same : AreSame staying stay
   pub same_own : AreSame unnumbered own
-  pub picked : picks ++ second_round counted kind room stay own (drop i leads) (drop i waiting) ≡ second_round counted kind start [] [] leads waiting
+  pub picked : picks ++ second_round counted together kind room stay own (drop i leads) (drop i waiting) ≡ second_round counted together kind start [] [] leads waiting
 
-pub second_begins : (counted : Bool) (waiting : List Pending) (kind : Kind) (start : ℕ) (leads picks : List Bool) (staying unnumbered : BTreeSet ℕ) → picks ≡ [] → staying.keys ≡ [] → unnumbered.keys ≡ [] → SecondRound counted waiting kind start leads picks start staying unnumbered 0
-second_begins counted waiting kind start leads picks staying unnumbered none empty empty_own = record {
+pub second_begins : (counted together : Bool) (waiting : List Pending) (kind : Kind) (start : ℕ) (leads picks : List Bool) (staying unnumbered : BTreeSet ℕ) → picks ≡ [] → staying.keys ≡ [] → unnumbered.keys ≡ [] → SecondRound counted together waiting kind start leads picks start staying unnumbered 0
+second_begins counted together waiting kind start leads picks staying unnumbered none empty empty_own = record {
   stay = [];
   own = [];
   same = none_among staying empty;
   same_own = none_among unnumbered empty_own;
-  picked = ap (λ l. l ++ second_round counted kind start [] [] leads waiting) none;
+  picked = ap (λ l. l ++ second_round counted together kind start [] [] leads waiting) none;
 }
 
-pub second_goes_on : (counted : Bool) (waiting : List Pending) (kind : Kind) (start : ℕ) (leads picks picks' : List Bool) (room room' : ℕ) (staying staying' unnumbered unnumbered' : BTreeSet ℕ) (i : ℕ) (a : Pending) (lead goes : Bool)
-    → SecondRound counted waiting kind start leads picks room staying unnumbered i → i < length waiting → length leads ≡ length waiting → a ≡ get_or waiting i a → lead ≡ get_or leads i lead
-    → goes ≡ (lead || (is_begun kind && ((nat_lt 0 room && (is_ready counted a && (joins kind a && not (contains nat_cmp staying a.from)))) && (a.is_unnumbered || not (contains nat_cmp unnumbered a.from)))))
+pub second_goes_on : (counted together : Bool) (waiting : List Pending) (kind : Kind) (start : ℕ) (leads picks picks' : List Bool) (room room' : ℕ) (staying staying' unnumbered unnumbered' : BTreeSet ℕ) (i : ℕ) (a : Pending) (lead goes : Bool)
+    → SecondRound counted together waiting kind start leads picks room staying unnumbered i → i < length waiting → length leads ≡ length waiting → a ≡ get_or waiting i a → lead ≡ get_or leads i lead
+    → goes ≡ (lead || (is_begun kind && ((nat_lt 0 room && (is_ready counted a && (joins kind a && not (contains nat_cmp staying a.from)))) && ((together && a.is_unnumbered) || not (contains nat_cmp unnumbered a.from)))))
     → room' ≡ room_after (not lead && goes) room
     → ((c : ℕ) → contains nat_cmp staying' c ≡ ((not goes && (a.from == c)) || contains nat_cmp staying c))
     → ((c : ℕ) → contains nat_cmp unnumbered' c ≡ (((goes && a.is_unnumbered) && (a.from == c)) || contains nat_cmp unnumbered c))
     → picks' ≡ picks ++ goes ∷ []
-    → SecondRound counted waiting kind start leads picks' room' staying' unnumbered' (i + 1)
-second_goes_on counted waiting kind start leads picks picks' room room' staying staying' unnumbered unnumbered' i a lead goes h less long next leading test rooms updates owns more =
-    let j : Bool = may_fill counted kind room h.stay h.own lead a in
+    → SecondRound counted together waiting kind start leads picks' room' staying' unnumbered' (i + 1)
+second_goes_on counted together waiting kind start leads picks picks' room room' staying staying' unnumbered unnumbered' i a lead goes h less long next leading test rooms updates owns more =
+    let j : Bool = may_fill counted together kind room h.stay h.own lead a in
     let later : List Pending = drop (i + 1) waiting in
     let others : List Bool = drop (i + 1) leads in
     let is : goes ≡ j =
     test
-    ∙ ap (λ x. lead || (is_begun kind && ((nat_lt 0 room && (is_ready counted a && (joins kind a && not x))) && (a.is_unnumbered || not (contains nat_cmp unnumbered a.from))))) (h.same a.from)
-    ∙ ap (λ x. lead || (is_begun kind && (may_join counted kind room h.stay a && (a.is_unnumbered || not x)))) (h.same_own a.from) in
+    ∙ ap (λ x. lead || (is_begun kind && ((nat_lt 0 room && (is_ready counted a && (joins kind a && not x))) && ((together && a.is_unnumbered) || not (contains nat_cmp unnumbered a.from))))) (h.same a.from)
+    ∙ ap (λ x. lead || (is_begun kind && (may_join counted kind room h.stay a && ((together && a.is_unnumbered) || not x)))) (h.same_own a.from) in
     let at : drop i waiting ≡ a ∷ later = drop_more waiting i a less ∙ sym (ap (λ x. x ∷ later) next) in
     let short : i < length leads = omega (arith, less, long) in
     let at_lead : drop i leads ≡ lead ∷ others = drop_more leads i lead short ∙ sym (ap (λ x. x ∷ others) leading) in
@@ -141,11 +141,11 @@ second_goes_on counted waiting kind start leads picks picks' room room' staying 
       same = λ c. updates c ∙ ap (λ b. (not goes && (a.from == c)) || b) (h.same c) ∙ stays goes a h.stay c;
       same_own = λ c. owns c ∙ ap (λ b. ((goes && a.is_unnumbered) && (a.from == c)) || b) (h.same_own c) ∙ adds (goes && a.is_unnumbered) a h.own c;
       picked =
-          ap (λ l. l ++ second_round counted kind room' (stay_after goes a h.stay) (own_after goes a h.own) others later) (more ∙ ap (λ b. picks ++ b ∷ []) is)
-          ∙ ap (λ b. (picks ++ j ∷ []) ++ second_round counted kind room' (stay_after b a h.stay) (own_after b a h.own) others later) is
-          ∙ ap (λ x. (picks ++ j ∷ []) ++ second_round counted kind x (stay_after j a h.stay) (own_after j a h.own) others later) new_room
-          ∙ append_assoc picks (j ∷ []) (second_round counted kind (room_after (not lead && j) room) (stay_after j a h.stay) (own_after j a h.own) others later)
-          ∙ sym (ap (λ l. picks ++ second_round counted kind room h.stay h.own (drop i leads) l) at ∙ ap (λ l. picks ++ second_round counted kind room h.stay h.own l (a ∷ later)) at_lead)
+          ap (λ l. l ++ second_round counted together kind room' (stay_after goes a h.stay) (own_after goes a h.own) others later) (more ∙ ap (λ b. picks ++ b ∷ []) is)
+          ∙ ap (λ b. (picks ++ j ∷ []) ++ second_round counted together kind room' (stay_after b a h.stay) (own_after b a h.own) others later) is
+          ∙ ap (λ x. (picks ++ j ∷ []) ++ second_round counted together kind x (stay_after j a h.stay) (own_after j a h.own) others later) new_room
+          ∙ append_assoc picks (j ∷ []) (second_round counted together kind (room_after (not lead && j) room) (stay_after j a h.stay) (own_after j a h.own) others later)
+          ∙ sym (ap (λ l. picks ++ second_round counted together kind room h.stay h.own (drop i leads) l) at ∙ ap (λ l. picks ++ second_round counted together kind room h.stay h.own l (a ∷ later)) at_lead)
           ∙ h.picked;
     }
   where
@@ -157,11 +157,11 @@ second_goes_on counted waiting kind start leads picks picks' room room' staying 
     adds true a own c = refl
     adds false a own c = refl
 
-pub second_ends : (counted : Bool) (waiting : List Pending) (kind : Kind) (start : ℕ) (leads picks : List Bool) (room : ℕ) (staying unnumbered : BTreeSet ℕ) (i : ℕ) → SecondRound counted waiting kind start leads picks room staying unnumbered i
-    → drop i waiting ≡ [] → picks ≡ second_round counted kind start [] [] leads waiting
-second_ends counted waiting kind start leads picks room staying unnumbered i h none =
-    sym (append-nil picks) ∙ sym (ap (λ l. picks ++ l) (empty (drop i leads))) ∙ sym (ap (λ l. picks ++ second_round counted kind room h.stay h.own (drop i leads) l) none) ∙ h.picked
+pub second_ends : (counted together : Bool) (waiting : List Pending) (kind : Kind) (start : ℕ) (leads picks : List Bool) (room : ℕ) (staying unnumbered : BTreeSet ℕ) (i : ℕ) → SecondRound counted together waiting kind start leads picks room staying unnumbered i
+    → drop i waiting ≡ [] → picks ≡ second_round counted together kind start [] [] leads waiting
+second_ends counted together waiting kind start leads picks room staying unnumbered i h none =
+    sym (append-nil picks) ∙ sym (ap (λ l. picks ++ l) (empty (drop i leads))) ∙ sym (ap (λ l. picks ++ second_round counted together kind room h.stay h.own (drop i leads) l) none) ∙ h.picked
   where
-    empty : (ps : List Bool) → second_round counted kind room h.stay h.own ps [] ≡ []
+    empty : (ps : List Bool) → second_round counted together kind room h.stay h.own ps [] ≡ []
     empty [] = refl
     empty (p ∷ ps) = refl

@@ -49,20 +49,20 @@ never_joins counted kind room seen stay a less never =
     ] refl
 
 -- and it is the first one that is picked
-second_oldest : (counted : Bool) (kind : Kind) (room m : ℕ) (seen stay own : List ℕ) (xs : List Pending) (o : Pending) → 0 < room → AreIn seen stay → oldest_of counted seen xs ≡ Some o
-    → first_of (picked (second_round counted kind m stay own (first_round counted Any room seen xs).picks xs) xs) ≡ Some o
-second_oldest counted kind room m seen stay own [] o some less is = absurd (cc is)
-second_oldest counted kind room m seen stay own (a ∷ more) o some less is =
+second_oldest : (counted together : Bool) (kind : Kind) (room m : ℕ) (seen stay own : List ℕ) (xs : List Pending) (o : Pending) → 0 < room → AreIn seen stay → oldest_of counted seen xs ≡ Some o
+    → first_of (picked (second_round counted together kind m stay own (first_round counted Any room seen xs).picks xs) xs) ≡ Some o
+second_oldest counted together kind room m seen stay own [] o some less is = absurd (cc is)
+second_oldest counted together kind room m seen stay own (a ∷ more) o some less is =
     let test : Bool = is_ready counted a && not (is_among a.from seen) in
     let same : may_join counted Any room seen a ≡ test = joins_any counted room seen a some in
-    subst (λ b. first_of (picked (second_round counted kind m stay own (b ∷ (first_round counted (kind_after b Any a) (room_after b room) (a.from ∷ seen) more).picks) (a ∷ more)) (a ∷ more)) ≡ Some o) (sym same)
-    (elim test as (λ b. test ≡ b → cond b (Some a) (oldest_of counted (a.from ∷ seen) more) ≡ Some o → first_of (picked (second_round counted kind m stay own (b ∷ (first_round counted (kind_after b Any a) (room_after b room) (a.from ∷ seen) more).picks) (a ∷ more)) (a ∷ more)) ≡ Some o) [
+    subst (λ b. first_of (picked (second_round counted together kind m stay own (b ∷ (first_round counted (kind_after b Any a) (room_after b room) (a.from ∷ seen) more).picks) (a ∷ more)) (a ∷ more)) ≡ Some o) (sym same)
+    (elim test as (λ b. test ≡ b → cond b (Some a) (oldest_of counted (a.from ∷ seen) more) ≡ Some o → first_of (picked (second_round counted together kind m stay own (b ∷ (first_round counted (kind_after b Any a) (room_after b room) (a.from ∷ seen) more).picks) (a ∷ more)) (a ∷ more)) ≡ Some o) [
       | true ↦ λ so t. t
       | false ↦ λ no t. (
           let later : List Bool = (first_round counted Any room (a.from ∷ seen) more).picks in
-          let none : (is_begun kind && (may_join counted kind m stay a && keeps_up own a)) ≡ false = ap (λ b. is_begun kind && (b && keeps_up own a)) (never_joins counted kind m seen stay a less no) ∙ and_false (is_begun kind) in
-          subst (λ b. first_of (picked (b ∷ second_round counted kind (room_after b m) (stay_after b a stay) (own_after b a own) later more) (a ∷ more)) ≡ Some o) (sym none)
-          (second_oldest counted kind room m (a.from ∷ seen) (a.from ∷ stay) own more o some (in_more a.from seen stay less) t))
+          let none : (is_begun kind && (may_join counted kind m stay a && keeps_up together own a)) ≡ false = ap (λ b. is_begun kind && (b && keeps_up together own a)) (never_joins counted kind m seen stay a less no) ∙ and_false (is_begun kind) in
+          subst (λ b. first_of (picked (b ∷ second_round counted together kind (room_after b m) (stay_after b a stay) (own_after b a own) later more) (a ∷ more)) ≡ Some o) (sym none)
+          (second_oldest counted together kind room m (a.from ∷ seen) (a.from ∷ stay) own more o some (in_more a.from seen stay less) t))
     ] refl is)
   where
     and_false : (b : Bool) → (b && false) ≡ false
@@ -70,7 +70,7 @@ second_oldest counted kind room m seen stay own (a ∷ more) o some less is =
     and_false false = refl
 
 pub oldest_flies : OldestFlies
-oldest_flies counted waiting o is = second_oldest counted (led counted waiting).kind 256 (led counted waiting).room [] [] [] waiting o (omega arith) (λ c t. t) is
+oldest_flies counted together waiting o is = second_oldest counted together (led counted waiting).kind 256 (led counted waiting).room [] [] [] waiting o (omega arith) (λ c t. t) is
 
 -- ---- shares
 
@@ -163,37 +163,37 @@ led_full counted kind room seen (x ∷ more) c a out is ready j none =
         omega (arith, all, zero)
 
 -- the second round drops none of the first one, and without room it adds none
-second_count : (counted : Bool) (kind : Kind) (room : ℕ) (stay own : List ℕ) (picks : List Bool) (xs : List Pending) (c : ℕ) → count_by (is_from c) (picked picks xs) ≤ count_by (is_from c) (picked (second_round counted kind room stay own picks xs) xs)
-second_count counted kind room stay own [] xs c = omega arith
-second_count counted kind room stay own (p ∷ ps) [] c = omega arith
-second_count counted kind room stay own (true ∷ ps) (a ∷ more) c =
-    let less = second_count counted kind room stay (own_after true a own) ps more c in
-    omega (arith, less, count_cons c a (picked ps more), count_cons c a (picked (second_round counted kind room stay (own_after true a own) ps more) more))
-second_count counted kind room stay own (false ∷ ps) (a ∷ more) c =
-    let j : Bool = is_begun kind && (may_join counted kind room stay a && keeps_up own a) in
-    elim j as (λ b. count_by (is_from c) (picked ps more) ≤ count_by (is_from c) (picked (b ∷ second_round counted kind (room_after b room) (stay_after b a stay) (own_after b a own) ps more) (a ∷ more))) [
-      | true ↦ (let less = second_count counted kind (room - 1) stay (own_after true a own) ps more c in omega (arith, less, count_cons c a (picked (second_round counted kind (room - 1) stay (own_after true a own) ps more) more)))
-      | false ↦ second_count counted kind room (a.from ∷ stay) own ps more c
+second_count : (counted together : Bool) (kind : Kind) (room : ℕ) (stay own : List ℕ) (picks : List Bool) (xs : List Pending) (c : ℕ) → count_by (is_from c) (picked picks xs) ≤ count_by (is_from c) (picked (second_round counted together kind room stay own picks xs) xs)
+second_count counted together kind room stay own [] xs c = omega arith
+second_count counted together kind room stay own (p ∷ ps) [] c = omega arith
+second_count counted together kind room stay own (true ∷ ps) (a ∷ more) c =
+    let less = second_count counted together kind room stay (own_after true a own) ps more c in
+    omega (arith, less, count_cons c a (picked ps more), count_cons c a (picked (second_round counted together kind room stay (own_after true a own) ps more) more))
+second_count counted together kind room stay own (false ∷ ps) (a ∷ more) c =
+    let j : Bool = is_begun kind && (may_join counted kind room stay a && keeps_up together own a) in
+    elim j as (λ b. count_by (is_from c) (picked ps more) ≤ count_by (is_from c) (picked (b ∷ second_round counted together kind (room_after b room) (stay_after b a stay) (own_after b a own) ps more) (a ∷ more))) [
+      | true ↦ (let less = second_count counted together kind (room - 1) stay (own_after true a own) ps more c in omega (arith, less, count_cons c a (picked (second_round counted together kind (room - 1) stay (own_after true a own) ps more) more)))
+      | false ↦ second_count counted together kind room (a.from ∷ stay) own ps more c
     ]
 
-second_zero : (counted : Bool) (kind : Kind) (stay own : List ℕ) (picks : List Bool) (xs : List Pending) → picked (second_round counted kind 0 stay own picks xs) xs ≡ picked picks xs
-second_zero counted kind stay own [] xs = refl
-second_zero counted kind stay own (p ∷ ps) [] = refl
-second_zero counted kind stay own (true ∷ ps) (a ∷ more) = ap (λ l. a ∷ l) (second_zero counted kind stay (own_after true a own) ps more)
-second_zero counted kind stay own (false ∷ ps) (a ∷ more) =
-    elim (is_begun kind) as (λ b. picked ((b && false) ∷ second_round counted kind (room_after (b && false) 0) (stay_after (b && false) a stay) (own_after (b && false) a own) ps more) (a ∷ more) ≡ picked ps more) [
-      | true ↦ second_zero counted kind (a.from ∷ stay) own ps more
-      | false ↦ second_zero counted kind (a.from ∷ stay) own ps more
+second_zero : (counted together : Bool) (kind : Kind) (stay own : List ℕ) (picks : List Bool) (xs : List Pending) → picked (second_round counted together kind 0 stay own picks xs) xs ≡ picked picks xs
+second_zero counted together kind stay own [] xs = refl
+second_zero counted together kind stay own (p ∷ ps) [] = refl
+second_zero counted together kind stay own (true ∷ ps) (a ∷ more) = ap (λ l. a ∷ l) (second_zero counted together kind stay (own_after true a own) ps more)
+second_zero counted together kind stay own (false ∷ ps) (a ∷ more) =
+    elim (is_begun kind) as (λ b. picked ((b && false) ∷ second_round counted together kind (room_after (b && false) 0) (stay_after (b && false) a stay) (own_after (b && false) a own) ps more) (a ∷ more) ≡ picked ps more) [
+      | true ↦ second_zero counted together kind (a.from ∷ stay) own ps more
+      | false ↦ second_zero counted together kind (a.from ∷ stay) own ps more
     ]
 
 pub fair_shares : FairShares
-fair_shares counted waiting o a c oldest first ready j none d =
+fair_shares counted together waiting o a c oldest first ready j none d =
     let F : Round = led counted waiting in
     let kind : F.kind ≡ kind_of o = led_oldest counted 256 [] waiting o (omega arith) oldest in
-    let less = second_count counted F.kind F.room [] [] F.picks waiting c in
+    let less = second_count counted together F.kind F.room [] [] F.picks waiting c in
     let none_led : count_by (is_from c) (picked F.picks waiting) ≡ 0 = omega (arith, less, none) in
     let full : F.room ≡ 0 = led_full counted Any 256 [] waiting c a refl first ready (ap (λ k. joins k a) kind ∙ j) none_led in
-    let same : picked (picks_of counted waiting) waiting ≡ picked F.picks waiting = ap (λ m. picked (second_round counted F.kind m [] [] F.picks waiting) waiting) full ∙ second_zero counted F.kind [] [] F.picks waiting in
+    let same : picked (picks_of counted together waiting) waiting ≡ picked F.picks waiting = ap (λ m. picked (second_round counted together F.kind m [] [] F.picks waiting) waiting) full ∙ second_zero counted together F.kind [] [] F.picks waiting in
     let once = led_once counted Any 256 [] waiting d in
-    let long : count_by (is_from d) (picked (picks_of counted waiting) waiting) ≡ count_by (is_from d) (picked F.picks waiting) = ap (λ l. count_by (is_from d) l) same in
+    let long : count_by (is_from d) (picked (picks_of counted together waiting) waiting) ≡ count_by (is_from d) (picked F.picks waiting) = ap (λ l. count_by (is_from d) l) same in
     omega (arith, once, long)

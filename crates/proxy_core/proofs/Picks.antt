@@ -172,58 +172,58 @@ led_long counted w = led_length counted Any 256 [] w
 -- ---- the second round
 
 -- it adds nothing of no kind, and nothing to a line that flies alone
-second_none : (counted : Bool) (kind : Kind) (room : ℕ) (stay own : List ℕ) (picks : List Bool) (xs : List Pending) → ((room : ℕ) (stay own : List ℕ) (a : Pending) → (is_begun kind && (may_join counted kind room stay a && keeps_up own a)) ≡ false)
-    → picked (second_round counted kind room stay own picks xs) xs ≡ picked picks xs
-second_none counted kind room stay own [] xs never = refl
-second_none counted kind room stay own (p ∷ ps) [] never = refl
-second_none counted kind room stay own (true ∷ ps) (a ∷ more) never = ap (λ l. a ∷ l) (second_none counted kind room stay (own_after true a own) ps more never)
-second_none counted kind room stay own (false ∷ ps) (a ∷ more) never =
-    let j : Bool = is_begun kind && (may_join counted kind room stay a && keeps_up own a) in
-    elim j as (λ b. j ≡ b → picked (b ∷ second_round counted kind (room_after b room) (stay_after b a stay) (own_after b a own) ps more) (a ∷ more) ≡ picked ps more) [
+second_none : (counted together : Bool) (kind : Kind) (room : ℕ) (stay own : List ℕ) (picks : List Bool) (xs : List Pending) → ((room : ℕ) (stay own : List ℕ) (a : Pending) → (is_begun kind && (may_join counted kind room stay a && keeps_up together own a)) ≡ false)
+    → picked (second_round counted together kind room stay own picks xs) xs ≡ picked picks xs
+second_none counted together kind room stay own [] xs never = refl
+second_none counted together kind room stay own (p ∷ ps) [] never = refl
+second_none counted together kind room stay own (true ∷ ps) (a ∷ more) never = ap (λ l. a ∷ l) (second_none counted together kind room stay (own_after true a own) ps more never)
+second_none counted together kind room stay own (false ∷ ps) (a ∷ more) never =
+    let j : Bool = is_begun kind && (may_join counted kind room stay a && keeps_up together own a) in
+    elim j as (λ b. j ≡ b → picked (b ∷ second_round counted together kind (room_after b room) (stay_after b a stay) (own_after b a own) ps more) (a ∷ more) ≡ picked ps more) [
       | true ↦ λ so. (let no = never room stay own a in absurd (cc (so, no)))
-      | false ↦ λ no. second_none counted kind room (a.from ∷ stay) own ps more never
+      | false ↦ λ no. second_none counted together kind room (a.from ∷ stay) own ps more never
     ] refl
 
-second_few : (counted : Bool) (kind : Kind) (room : ℕ) (stay own : List ℕ) (picks : List Bool) (xs : List Pending) → length (picked (second_round counted kind room stay own picks xs) xs) ≤ length (picked picks xs) + room
-second_few counted kind room stay own [] xs = omega arith
-second_few counted kind room stay own (p ∷ ps) [] = omega arith
-second_few counted kind room stay own (true ∷ ps) (a ∷ more) = (let few = second_few counted kind room stay (own_after true a own) ps more in omega (arith, few))
-second_few counted kind room stay own (false ∷ ps) (a ∷ more) =
-    let j : Bool = is_begun kind && (may_join counted kind room stay a && keeps_up own a) in
-    elim j as (λ b. j ≡ b → length (picked (b ∷ second_round counted kind (room_after b room) (stay_after b a stay) (own_after b a own) ps more) (a ∷ more)) ≤ length (picked ps more) + room) [
+second_few : (counted together : Bool) (kind : Kind) (room : ℕ) (stay own : List ℕ) (picks : List Bool) (xs : List Pending) → length (picked (second_round counted together kind room stay own picks xs) xs) ≤ length (picked picks xs) + room
+second_few counted together kind room stay own [] xs = omega arith
+second_few counted together kind room stay own (p ∷ ps) [] = omega arith
+second_few counted together kind room stay own (true ∷ ps) (a ∷ more) = (let few = second_few counted together kind room stay (own_after true a own) ps more in omega (arith, few))
+second_few counted together kind room stay own (false ∷ ps) (a ∷ more) =
+    let j : Bool = is_begun kind && (may_join counted kind room stay a && keeps_up together own a) in
+    elim j as (λ b. j ≡ b → length (picked (b ∷ second_round counted together kind (room_after b room) (stay_after b a stay) (own_after b a own) ps more) (a ∷ more)) ≤ length (picked ps more) + room) [
       | true ↦ λ so. (
-          let few = second_few counted kind (room - 1) stay (own_after true a own) ps more in
-          let some = (joins_of counted kind room stay a (both_true (may_join counted kind room stay a) (keeps_up own a) (both_true (is_begun kind) (may_join counted kind room stay a && keeps_up own a) so).1).0).room_left in
+          let few = second_few counted together kind (room - 1) stay (own_after true a own) ps more in
+          let some = (joins_of counted kind room stay a (both_true (may_join counted kind room stay a) (keeps_up together own a) (both_true (is_begun kind) (may_join counted kind room stay a && keeps_up together own a) so).1).0).room_left in
           omega (arith, few, some))
-      | false ↦ λ no. second_few counted kind room (a.from ∷ stay) own ps more
+      | false ↦ λ no. second_few counted together kind room (a.from ∷ stay) own ps more
     ] refl
 
-pub second_more : (counted : Bool) (kind : Kind) (room : ℕ) (stay own : List ℕ) (picks : List Bool) (xs : List Pending) → length (picked picks xs) ≤ length (picked (second_round counted kind room stay own picks xs) xs)
-second_more counted kind room stay own [] xs = omega arith
-second_more counted kind room stay own (p ∷ ps) [] = omega arith
-second_more counted kind room stay own (true ∷ ps) (a ∷ more) = (let less = second_more counted kind room stay (own_after true a own) ps more in omega (arith, less))
-second_more counted kind room stay own (false ∷ ps) (a ∷ more) =
-    let j : Bool = is_begun kind && (may_join counted kind room stay a && keeps_up own a) in
-    elim j as (λ b. length (picked ps more) ≤ length (picked (b ∷ second_round counted kind (room_after b room) (stay_after b a stay) (own_after b a own) ps more) (a ∷ more))) [
-      | true ↦ (let less = second_more counted kind (room - 1) stay (own_after true a own) ps more in omega (arith, less))
-      | false ↦ second_more counted kind room (a.from ∷ stay) own ps more
+pub second_more : (counted together : Bool) (kind : Kind) (room : ℕ) (stay own : List ℕ) (picks : List Bool) (xs : List Pending) → length (picked picks xs) ≤ length (picked (second_round counted together kind room stay own picks xs) xs)
+second_more counted together kind room stay own [] xs = omega arith
+second_more counted together kind room stay own (p ∷ ps) [] = omega arith
+second_more counted together kind room stay own (true ∷ ps) (a ∷ more) = (let less = second_more counted together kind room stay (own_after true a own) ps more in omega (arith, less))
+second_more counted together kind room stay own (false ∷ ps) (a ∷ more) =
+    let j : Bool = is_begun kind && (may_join counted kind room stay a && keeps_up together own a) in
+    elim j as (λ b. length (picked ps more) ≤ length (picked (b ∷ second_round counted together kind (room_after b room) (stay_after b a stay) (own_after b a own) ps more) (a ∷ more))) [
+      | true ↦ (let less = second_more counted together kind (room - 1) stay (own_after true a own) ps more in omega (arith, less))
+      | false ↦ second_more counted together kind room (a.from ∷ stay) own ps more
     ]
 
-second_all : (counted : Bool) (kind : Kind) (test : Pending → Bool) → ((a : Pending) → is_begun kind ≡ true → is_ready counted a ≡ true → joins kind a ≡ true → test a ≡ true)
-    → (room : ℕ) (stay own : List ℕ) (picks : List Bool) (xs : List Pending) → list_all test (picked picks xs) ≡ true → list_all test (picked (second_round counted kind room stay own picks xs) xs) ≡ true
-second_all counted kind test passes room stay own [] xs all = refl
-second_all counted kind test passes room stay own (p ∷ ps) [] all = refl
-second_all counted kind test passes room stay own (true ∷ ps) (a ∷ more) all =
+second_all : (counted together : Bool) (kind : Kind) (test : Pending → Bool) → ((a : Pending) → is_begun kind ≡ true → is_ready counted a ≡ true → joins kind a ≡ true → test a ≡ true)
+    → (room : ℕ) (stay own : List ℕ) (picks : List Bool) (xs : List Pending) → list_all test (picked picks xs) ≡ true → list_all test (picked (second_round counted together kind room stay own picks xs) xs) ≡ true
+second_all counted together kind test passes room stay own [] xs all = refl
+second_all counted together kind test passes room stay own (p ∷ ps) [] all = refl
+second_all counted together kind test passes room stay own (true ∷ ps) (a ∷ more) all =
     let q = both_true (test a) (list_all test (picked ps more)) all in
-    both_of (test a) (list_all test (picked (second_round counted kind room stay (own_after true a own) ps more) more)) q.0 (second_all counted kind test passes room stay (own_after true a own) ps more q.1)
-second_all counted kind test passes room stay own (false ∷ ps) (a ∷ more) all =
-    let j : Bool = is_begun kind && (may_join counted kind room stay a && keeps_up own a) in
-    elim j as (λ b. j ≡ b → list_all test (picked (b ∷ second_round counted kind (room_after b room) (stay_after b a stay) (own_after b a own) ps more) (a ∷ more)) ≡ true) [
+    both_of (test a) (list_all test (picked (second_round counted together kind room stay (own_after true a own) ps more) more)) q.0 (second_all counted together kind test passes room stay (own_after true a own) ps more q.1)
+second_all counted together kind test passes room stay own (false ∷ ps) (a ∷ more) all =
+    let j : Bool = is_begun kind && (may_join counted kind room stay a && keeps_up together own a) in
+    elim j as (λ b. j ≡ b → list_all test (picked (b ∷ second_round counted together kind (room_after b room) (stay_after b a stay) (own_after b a own) ps more) (a ∷ more)) ≡ true) [
       | true ↦ λ so. (
-          let q = both_true (is_begun kind) (may_join counted kind room stay a && keeps_up own a) so in
-          let h = joins_of counted kind room stay a (both_true (may_join counted kind room stay a) (keeps_up own a) q.1).0 in
-          both_of (test a) (list_all test (picked (second_round counted kind (room - 1) stay (own_after true a own) ps more) more)) (passes a q.0 h.ready h.alike) (second_all counted kind test passes (room - 1) stay (own_after true a own) ps more all))
-      | false ↦ λ no. second_all counted kind test passes room (a.from ∷ stay) own ps more all
+          let q = both_true (is_begun kind) (may_join counted kind room stay a && keeps_up together own a) so in
+          let h = joins_of counted kind room stay a (both_true (may_join counted kind room stay a) (keeps_up together own a) q.1).0 in
+          both_of (test a) (list_all test (picked (second_round counted together kind (room - 1) stay (own_after true a own) ps more) more)) (passes a q.0 h.ready h.alike) (second_all counted together kind test passes (room - 1) stay (own_after true a own) ps more all))
+      | false ↦ λ no. second_all counted together kind test passes room (a.from ∷ stay) own ps more all
     ] refl
 
 -- the connections of the one list are among those of the other
@@ -247,23 +247,23 @@ apart_in c stay seen less out =
       | false ↦ λ no. refl
     ] refl
 
-second_turn : (counted : Bool) (kind k : Kind) (room m : ℕ) (stay seen own : List ℕ) (xs : List Pending) → AreIn stay seen
-    → is_in_turn stay (second_round counted k m stay own (first_round counted kind room seen xs).picks xs) xs ≡ true
-second_turn counted kind k room m stay seen own [] less = refl
-second_turn counted kind k room m stay seen own (a ∷ more) less =
+second_turn : (counted together : Bool) (kind k : Kind) (room m : ℕ) (stay seen own : List ℕ) (xs : List Pending) → AreIn stay seen
+    → is_in_turn stay (second_round counted together k m stay own (first_round counted kind room seen xs).picks xs) xs ≡ true
+second_turn counted together kind k room m stay seen own [] less = refl
+second_turn counted together kind k room m stay seen own (a ∷ more) less =
     let lead : Bool = may_join counted kind room seen a in
-    let j : Bool = may_fill counted k m stay own lead a in
+    let j : Bool = may_fill counted together k m stay own lead a in
     let later : List Bool = (first_round counted (kind_after lead kind a) (room_after lead room) (a.from ∷ seen) more).picks in
-    elim j as (λ b. j ≡ b → is_in_turn stay (b ∷ second_round counted k (room_after (not lead && b) m) (stay_after b a stay) (own_after b a own) later more) (a ∷ more) ≡ true) [
+    elim j as (λ b. j ≡ b → is_in_turn stay (b ∷ second_round counted together k (room_after (not lead && b) m) (stay_after b a stay) (own_after b a own) later more) (a ∷ more) ≡ true) [
       | true ↦ λ so.
-          both_of (not (is_among a.from stay)) (is_in_turn stay (second_round counted k (room_after (not lead && true) m) stay (own_after true a own) later more) more) (free lead refl so)
-          (second_turn counted (kind_after lead kind a) k (room_after lead room) (room_after (not lead && true) m) stay (a.from ∷ seen) (own_after true a own) more (in_after true a stay seen less))
-      | false ↦ λ no. second_turn counted (kind_after lead kind a) k (room_after lead room) (room_after (not lead && false) m) (a.from ∷ stay) (a.from ∷ seen) own more (in_after false a stay seen less)
+          both_of (not (is_among a.from stay)) (is_in_turn stay (second_round counted together k (room_after (not lead && true) m) stay (own_after true a own) later more) more) (free lead refl so)
+          (second_turn counted together (kind_after lead kind a) k (room_after lead room) (room_after (not lead && true) m) stay (a.from ∷ seen) (own_after true a own) more (in_after true a stay seen less))
+      | false ↦ λ no. second_turn counted together (kind_after lead kind a) k (room_after lead room) (room_after (not lead && false) m) (a.from ∷ stay) (a.from ∷ seen) own more (in_after false a stay seen less)
     ] refl
   where
-    free : (b : Bool) → may_join counted kind room seen a ≡ b → may_fill counted k m stay own b a ≡ true → not (is_among a.from stay) ≡ true
+    free : (b : Bool) → may_join counted kind room seen a ≡ b → may_fill counted together k m stay own b a ≡ true → not (is_among a.from stay) ≡ true
     free true is so = apart_in a.from stay seen less (joins_of counted kind room seen a is).apart
-    free false is so = (joins_of counted k m stay a (both_true (may_join counted k m stay a) (keeps_up own a) (both_true (is_begun k) (may_join counted k m stay a && keeps_up own a) so).1).0).apart
+    free false is so = (joins_of counted k m stay a (both_true (may_join counted k m stay a) (keeps_up together own a) (both_true (is_begun k) (may_join counted k m stay a && keeps_up together own a) so).1).0).apart
 
 -- ---- the flight
 
@@ -291,32 +291,32 @@ flight_of Orders xs few all one =
     or_right true b h = refl
     or_right false b h = h
 
-picks_few : (counted : Bool) (w : List Pending) → length (picked (picks_of counted w) w) ≤ 256
-picks_few counted w =
+picks_few : (counted together : Bool) (w : List Pending) → length (picked (picks_of counted together w) w) ≤ 256
+picks_few counted together w =
     let F : Round = led counted w in
-    let few = second_few counted F.kind F.room [] [] F.picks w in
+    let few = second_few counted together F.kind F.room [] [] F.picks w in
     let all = led_room counted Any 256 [] w in
     omega (arith, few, all)
 
-picks_alone : (counted : Bool) (w : List Pending) → (led counted w).kind ≡ Alone → length (picked (picks_of counted w) w) ≤ 1
-picks_alone counted w alone =
+picks_alone : (counted together : Bool) (w : List Pending) → (led counted w).kind ≡ Alone → length (picked (picks_of counted together w) w) ≤ 1
+picks_alone counted together w alone =
     let F : Round = led counted w in
     let one = led_alone counted 256 [] w alone in
-    let same : picked (picks_of counted w) w ≡ picked F.picks w =
-    ap (λ k. picked (second_round counted k F.room [] [] F.picks w) w) alone ∙ second_none counted Alone F.room [] [] F.picks w (λ room stay own a. ap (λ b. b && keeps_up own a) (none_alone counted room stay a)) in
-    let long : length (picked (picks_of counted w) w) ≡ length (picked F.picks w) = ap length same in
+    let same : picked (picks_of counted together w) w ≡ picked F.picks w =
+    ap (λ k. picked (second_round counted together k F.room [] [] F.picks w) w) alone ∙ second_none counted together Alone F.room [] [] F.picks w (λ room stay own a. ap (λ b. b && keeps_up together own a) (none_alone counted room stay a)) in
+    let long : length (picked (picks_of counted together w) w) ≡ length (picked F.picks w) = ap length same in
     omega (arith, one, long)
 
 -- the picks make a flight that may go
-pub picks_may_go : (f : Proxy) → f.is_up ≡ true → f.flight ≡ [] → may_go (picks_of f.is_counted f.waiting) f ≡ true
+pub picks_may_go : (f : Proxy) → f.is_up ≡ true → f.flight ≡ [] → may_go (picks_of f.is_counted (not f.has_refusal) f.waiting) f ≡ true
 picks_may_go f up none =
     let w : List Pending = f.waiting in
     let F : Round = led f.is_counted w in
-    let ps : List Bool = picks_of f.is_counted w in
-    let of_kind : list_all (is_of F.kind) (picked ps w) ≡ true = second_all f.is_counted F.kind (is_of F.kind) (λ a begun ready j. of_joins F.kind a begun j) F.room [] [] F.picks w (led_alike f.is_counted 256 [] w) in
-    let ready : list_all (is_ready f.is_counted) (picked ps w) ≡ true = second_all f.is_counted F.kind (is_ready f.is_counted) (λ a begun is j. is) F.room [] [] F.picks w (led_all f.is_counted (is_ready f.is_counted) (λ kind room seen a h. h.ready) Any 256 [] w) in
-    let both = flight_of F.kind (picked ps w) (picks_few f.is_counted w) of_kind (picks_alone f.is_counted w) in
-    let turn : is_in_turn [] ps w ≡ true = second_turn f.is_counted Any F.kind 256 F.room [] [] [] w (λ c is. is) in
+    let ps : List Bool = picks_of f.is_counted (not f.has_refusal) w in
+    let of_kind : list_all (is_of F.kind) (picked ps w) ≡ true = second_all f.is_counted (not f.has_refusal) F.kind (is_of F.kind) (λ a begun ready j. of_joins F.kind a begun j) F.room [] [] F.picks w (led_alike f.is_counted 256 [] w) in
+    let ready : list_all (is_ready f.is_counted) (picked ps w) ≡ true = second_all f.is_counted (not f.has_refusal) F.kind (is_ready f.is_counted) (λ a begun is j. is) F.room [] [] F.picks w (led_all f.is_counted (is_ready f.is_counted) (λ kind room seen a h. h.ready) Any 256 [] w) in
+    let both = flight_of F.kind (picked ps w) (picks_few f.is_counted (not f.has_refusal) w) of_kind (picks_alone f.is_counted (not f.has_refusal) w) in
+    let turn : is_in_turn [] ps w ≡ true = second_turn f.is_counted (not f.has_refusal) Any F.kind 256 F.room [] [] [] w (λ c is. is) in
     both_of f.is_up (is_none f.flight && (is_flight (picked ps w) && (is_alike (picked ps w) && (is_in_turn [] ps w && list_all (is_ready f.is_counted) (picked ps w))))) up
     (both_of (is_none f.flight) (is_flight (picked ps w) && (is_alike (picked ps w) && (is_in_turn [] ps w && list_all (is_ready f.is_counted) (picked ps w)))) (ap is_none none)
     (both_of (is_flight (picked ps w)) (is_alike (picked ps w) && (is_in_turn [] ps w && list_all (is_ready f.is_counted) (picked ps w))) both.0
@@ -329,34 +329,34 @@ empty_of : (xs : List Pending) → length xs ≡ 0 → xs ≡ []
 empty_of [] none = refl
 empty_of (x ∷ xs) none = absurd (omega (arith, none))
 
-pub none_led : (counted : Bool) (w : List Pending) → (led counted w).room ≡ 256 → picked (picks_of counted w) w ≡ []
-none_led counted w full =
+pub none_led : (counted together : Bool) (w : List Pending) → (led counted w).room ≡ 256 → picked (picks_of counted together w) w ≡ []
+none_led counted together w full =
     let F : Round = led counted w in
     let all = led_room counted Any 256 [] w in
     let none : length (picked F.picks w) ≡ 0 = omega (arith, all, full) in
     let kind : F.kind ≡ Any = led_none counted 256 [] w none in
-    ap (λ k. picked (second_round counted k F.room [] [] F.picks w) w) kind ∙ second_none counted Any F.room [] [] F.picks w (λ room stay own a. refl) ∙ empty_of (picked F.picks w) none
+    ap (λ k. picked (second_round counted together k F.room [] [] F.picks w) w) kind ∙ second_none counted together Any F.room [] [] F.picks w (λ room stay own a. refl) ∙ empty_of (picked F.picks w) none
 
-pub some_led : (counted : Bool) (w : List Pending) → (led counted w).room ≢ 256 → 0 < length (picked (picks_of counted w) w)
-some_led counted w used =
+pub some_led : (counted together : Bool) (w : List Pending) → (led counted w).room ≢ 256 → 0 < length (picked (picks_of counted together w) w)
+some_led counted together w used =
     let F : Round = led counted w in
     let all = led_room counted Any 256 [] w in
-    let more = second_more counted F.kind F.room [] [] F.picks w in
+    let more = second_more counted together F.kind F.room [] [] F.picks w in
     let some : F.room ≡ 256 → ⊥ = used in
-    positive F.room (length (picked F.picks w)) (length (picked (picks_of counted w) w)) all more some
+    positive F.room (length (picked F.picks w)) (length (picked (picks_of counted together w) w)) all more some
   where
     positive : (room n m : ℕ) → room + n ≡ 256 → n ≤ m → (room ≡ 256 → ⊥) → 0 < m
     positive room n m all more some = grind arith
 
 -- each line has its pick
-second_length : (counted : Bool) (kind : Kind) (room : ℕ) (stay own : List ℕ) (picks : List Bool) (xs : List Pending) → length picks ≡ length xs → length (second_round counted kind room stay own picks xs) ≡ length xs
-second_length counted kind room stay own [] [] same = refl
-second_length counted kind room stay own [] (a ∷ more) same = same
-second_length counted kind room stay own (p ∷ ps) [] same = refl
-second_length counted kind room stay own (p ∷ ps) (a ∷ more) same =
-    let j : Bool = may_fill counted kind room stay own p a in
-    let rest = second_length counted kind (room_after (not p && j) room) (stay_after j a stay) (own_after j a own) ps more (omega (arith, same)) in
+second_length : (counted together : Bool) (kind : Kind) (room : ℕ) (stay own : List ℕ) (picks : List Bool) (xs : List Pending) → length picks ≡ length xs → length (second_round counted together kind room stay own picks xs) ≡ length xs
+second_length counted together kind room stay own [] [] same = refl
+second_length counted together kind room stay own [] (a ∷ more) same = same
+second_length counted together kind room stay own (p ∷ ps) [] same = refl
+second_length counted together kind room stay own (p ∷ ps) (a ∷ more) same =
+    let j : Bool = may_fill counted together kind room stay own p a in
+    let rest = second_length counted together kind (room_after (not p && j) room) (stay_after j a stay) (own_after j a own) ps more (omega (arith, same)) in
     omega (arith, rest)
 
-pub picks_length : (counted : Bool) (w : List Pending) → length (picks_of counted w) ≡ length w
-picks_length counted w = second_length counted (led counted w).kind (led counted w).room [] [] (led counted w).picks w (led_length counted Any 256 [] w)
+pub picks_length : (counted together : Bool) (w : List Pending) → length (picks_of counted together w) ≡ length w
+picks_length counted together w = second_length counted together (led counted w).kind (led counted w).room [] [] (led counted w).picks w (led_length counted Any 256 [] w)

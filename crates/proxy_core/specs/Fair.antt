@@ -17,15 +17,15 @@ abbrev pub first_of : List Pending → Option Pending
 first_of [] = None
 first_of (a ∷ more) = Some a
 
-abbrev pub next_flight : Bool → List Pending → List Pending
-next_flight counted waiting = picked (picks_of counted waiting) waiting
+abbrev pub next_flight : Bool → Bool → List Pending → List Pending
+next_flight counted together waiting = picked (picks_of counted together waiting) waiting
 
 -- the oldest line that may fly is the first one of the next flight
 abbrev pub OldestFlies : Type 0
-OldestFlies = (counted : Bool) (waiting : List Pending) (oldest : Pending) → oldest_of counted [] waiting ≡ Some oldest → first_of (next_flight counted waiting) ≡ Some oldest
+OldestFlies = (counted together : Bool) (waiting : List Pending) (oldest : Pending) → oldest_of counted [] waiting ≡ Some oldest → first_of (next_flight counted together waiting) ≡ Some oldest
 
 -- if a connection whose first waiting line is of the flight's kind gets none in, no connection gets two in
 abbrev pub FairShares : Type 0
-FairShares = (counted : Bool) (waiting : List Pending) (oldest a : Pending) (c : ℕ)
+FairShares = (counted together : Bool) (waiting : List Pending) (oldest a : Pending) (c : ℕ)
     → oldest_of counted [] waiting ≡ Some oldest → first_from c waiting ≡ Some a → is_ready counted a ≡ true → joins (kind_of oldest) a ≡ true
-    → count_by (is_from c) (next_flight counted waiting) ≡ 0 → (d : ℕ) → count_by (is_from d) (next_flight counted waiting) ≤ 1
+    → count_by (is_from c) (next_flight counted together waiting) ≡ 0 → (d : ℕ) → count_by (is_from d) (next_flight counted together waiting) ≤ 1

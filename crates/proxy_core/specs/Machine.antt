@@ -145,14 +145,15 @@ is_begun Alone = true
 is_begun Queries = true
 is_begun Orders = true
 
--- after an unnumbered order of its connection only another one may join: if the server refuses the number of the first, it refuses
--- the later numbers too, but it would carry out an order with a number of its own, and its answer would come too early
-abbrev pub keeps_up : List ℕ → Pending → Bool
-keeps_up own a = a.is_unnumbered || not (is_among a.from own)
+-- after an unnumbered order of its connection only another one may join, if those of a connection fly together: if the server refuses
+-- the number of the first, it refuses the later numbers too, but it would carry out an order with a number of its own, and its answer
+-- would come too early
+abbrev pub keeps_up : Bool → List ℕ → Pending → Bool
+keeps_up together own a = (together && a.is_unnumbered) || not (is_among a.from own)
 
 -- the second round takes the lines of the first one, and further lines while there is room
-abbrev pub may_fill : Bool → Kind → ℕ → List ℕ → List ℕ → Bool → Pending → Bool
-may_fill counted kind room stay own leads a = leads || (is_begun kind && (may_join counted kind room stay a && keeps_up own a))
+abbrev pub may_fill : Bool → Bool → Kind → ℕ → List ℕ → List ℕ → Bool → Pending → Bool
+may_fill counted together kind room stay own leads a = leads || (is_begun kind && (may_join counted kind room stay a && keeps_up together own a))
 
 -- the connections of which a line stays
 abbrev pub stay_after : Bool → Pending → List ℕ → List ℕ
@@ -162,20 +163,20 @@ stay_after goes a stay = if goes then stay else a.from ∷ stay
 abbrev pub own_after : Bool → Pending → List ℕ → List ℕ
 own_after goes a own = if goes && a.is_unnumbered then a.from ∷ own else own
 
-abbrev pub second_round : Bool → Kind → ℕ → List ℕ → List ℕ → List Bool → List Pending → List Bool
-second_round counted kind room stay own [] waiting = []
-second_round counted kind room stay own (leads ∷ picks) [] = []
-second_round counted kind room stay own (leads ∷ picks) (a ∷ more) =
-    may_fill counted kind room stay own leads a
-    ∷ second_round counted kind (room_after (not leads && may_fill counted kind room stay own leads a) room) (stay_after (may_fill counted kind room stay own leads a) a stay)
-    (own_after (may_fill counted kind room stay own leads a) a own) picks more
+abbrev pub second_round : Bool → Bool → Kind → ℕ → List ℕ → List ℕ → List Bool → List Pending → List Bool
+second_round counted together kind room stay own [] waiting = []
+second_round counted together kind room stay own (leads ∷ picks) [] = []
+second_round counted together kind room stay own (leads ∷ picks) (a ∷ more) =
+    may_fill counted together kind room stay own leads a
+    ∷ second_round counted together kind (room_after (not leads && may_fill counted together kind room stay own leads a) room) (stay_after (may_fill counted together kind room stay own leads a) a stay)
+    (own_after (may_fill counted together kind room stay own leads a) a own) picks more
 
 abbrev pub led : Bool → List Pending → Round
 led counted waiting = first_round counted Any 256 [] waiting
 
 -- the lines of the next flight
-abbrev pub picks_of : Bool → List Pending → List Bool
-picks_of counted waiting = second_round counted (led counted waiting).kind (led counted waiting).room [] [] (led counted waiting).picks waiting
+abbrev pub picks_of : Bool → Bool → List Pending → List Bool
+picks_of counted together waiting = second_round counted together (led counted waiting).kind (led counted waiting).room [] [] (led counted waiting).picks waiting
 
 abbrev pub flown : List Bool → Proxy → Proxy
 flown picks f = record f { flight = picked picks f.waiting; waiting = left picks f.waiting; refused = 0; is_resent = false; number = f.last; has_refusal = false }

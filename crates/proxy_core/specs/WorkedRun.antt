@@ -68,8 +68,9 @@ abbrev pub order : Bool → Pending
 order own = record { from = 5; line = 1 ∷ []; is_once = false; is_query = false; is_unnumbered = own }
 
 pub record WorkedTurn : Type 0 where
-  pub together : picks_of true (order true ∷ order true ∷ order true ∷ []) ≡ true ∷ true ∷ true ∷ []
-  pub apart : picks_of true (order false ∷ order true ∷ order false ∷ order true ∷ []) ≡ true ∷ true ∷ false ∷ false ∷ []
+  pub together : picks_of true true (order true ∷ order true ∷ order true ∷ []) ≡ true ∷ true ∷ true ∷ []
+  pub alone : picks_of true false (order true ∷ order true ∷ order true ∷ []) ≡ true ∷ false ∷ false ∷ []
+  pub apart : picks_of true true (order false ∷ order true ∷ order false ∷ order true ∷ []) ≡ true ∷ true ∷ false ∷ false ∷ []
   pub waits : map (λ (a : Request). a.place) turn_run.queued ≡ 2 ∷ 3 ∷ 4 ∷ []
   pub refused : turn_run.proxy.refused ≡ 2
   pub places : map (λ (s : Sent). s.place) again_run.sent ≡ 0 ∷ 1 ∷ 2 ∷ 3 ∷ 2 ∷ 3 ∷ 4 ∷ []

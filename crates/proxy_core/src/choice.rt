@@ -41,22 +41,23 @@ impl Model for Round {
     ghost view = { λ r. record { picks = r.picks.items; kind = r.kind; room = r.room } };
 }
 
-/// Chooses the next flight, and returns for each waiting line whether it flies, or None if none may.
-/// Errors: out of memory.
+/// Chooses the next flight, and returns for each waiting line whether it flies, or None if none may. The
+/// unnumbered orders of a connection fly together, or one at a time. Errors: out of memory.
 #[tactic(auto, using(crate::proofs::Picks::led_long, crate::proofs::Picks::none_led, crate::proofs::Picks::some_led))]
 pub(crate) fn choose(
     alloc: Global,
     waiting: &VecDeque<Pending>,
     is_counted: bool,
+    is_together: bool,
 ) -> Result<Option<Vec<bool>>, AllocError>
-    ensures { IfOk result (λ choice. MatchOption choice (picked (picks_of is_counted waiting.now.items) waiting.now.items ≡ [])
-        (λ picks. (picks.items ≡ picks_of is_counted waiting.now.items) × (0 < length (picked picks.items waiting.now.items)))) }
+    ensures { IfOk result (λ choice. MatchOption choice (picked (picks_of is_counted is_together waiting.now.items) waiting.now.items ≡ [])
+        (λ picks. (picks.items ≡ picks_of is_counted is_together waiting.now.items) × (0 < length (picked picks.items waiting.now.items)))) }
 {
     let first = lead(alloc, waiting, is_counted)?;
     if first.room == MOST_FLIGHT_LINES {
         return Ok(None);
     }
-    Ok(Some(fill(alloc, waiting, is_counted, &first)?))
+    Ok(Some(fill(alloc, waiting, is_counted, is_together, &first)?))
 }
 
 /// The first round: the first waiting line of each connection, if it may fly. Errors: out of memory.
@@ -83,10 +84,11 @@ fn fill(
     alloc: Global,
     waiting: &VecDeque<Pending>,
     is_counted: bool,
+    is_together: bool,
     first: &Round,
 ) -> Result<Vec<bool>, AllocError>
     requires { length first.now.picks ≡ length waiting.now.items }
-    ensures { IfOk result (λ picks. picks.items ≡ second_round is_counted first.now.kind first.now.room [] [] first.now.picks waiting.now.items) }
+    ensures { IfOk result (λ picks. picks.items ≡ second_round is_counted is_together first.now.kind first.now.room [] [] first.now.picks waiting.now.items) }
 {
     let mut picks = Vec::new(alloc);
     let mut room = first.room;
@@ -98,6 +100,7 @@ fn fill(
         let goes = is_filling(
             leads,
             is_counted,
+            is_together,
             first.kind,
             room,
             &staying,
@@ -129,22 +132,23 @@ fn is_joining(
 }
 
 /// Returns whether a line flies in the second round: it did in the first one, or it may join. After an
-/// unnumbered order of its connection only another one may.
+/// unnumbered order of its connection only another one may, if those of a connection fly together.
 fn is_filling(
     leads: bool,
     is_counted: bool,
+    is_together: bool,
     kind: Kind,
     room: usize,
     staying: &BTreeSet<u64>,
     unnumbered: &BTreeSet<u64>,
     pending: &Pending,
 ) -> bool
-    ensures { result ≡ (leads || (is_begun kind && ((nat_lt 0 room && (is_ready is_counted pending.now && (joins kind pending.now && not (contains nat_cmp staying.now pending.now.from)))) && (pending.now.is_unnumbered || not (contains nat_cmp unnumbered.now pending.now.from))))) }
+    ensures { result ≡ (leads || (is_begun kind && ((nat_lt 0 room && (is_ready is_counted pending.now && (joins kind pending.now && not (contains nat_cmp staying.now pending.now.from)))) && ((is_together && pending.now.is_unnumbered) || not (contains nat_cmp unnumbered.now pending.now.from))))) }
 {
     leads
         || (kind != Kind::Any
             && is_joining(is_counted, kind, room, staying, pending)
-            && (pending.is_unnumbered() || !unnumbered.contains(&pending.from())))
+            && ((is_together && pending.is_unnumbered()) || !unnumbered.contains(&pending.from())))
 }
 
 /// Returns whether a line may fly with lines of a kind.

@@ -167,20 +167,22 @@ impl Proxy {
     /// loop writes to the server. The flight is the oldest line that may fly, and with it all lines of its
     /// kind that may: queries fly together, and so do orders; none flies before an older line of its
     /// connection, none but an unnumbered order after one of its connection, and an unnumbered order only
-    /// while the last number is known. If there are too many, each connection gets one in before any gets
-    /// its second. Errors: out of memory; nothing changes.
+    /// while the last number is known. After a flight with an order that was refused on its merits each
+    /// connection gets one unnumbered order in, since the server refuses the numbers of all orders that
+    /// follow a refused one. If there are too many, each connection gets one in before any gets its second.
+    /// Errors: out of memory; nothing changes.
     #[tactic(auto, using(crate::proofs::Picks::picks_length, crate::proofs::Picks::picks_may_go))]
     pub fn start_flight(&mut self, alloc: Global) -> Result<usize, AllocError>
-        ensures went { IfOk result (λ n. 0 < n → (may_go (picks_of self.old.is_counted self.old.waiting) self.old ≡ true)
-            × (self.new ≡ flown (picks_of self.old.is_counted self.old.waiting) self.old)) }
+        ensures went { IfOk result (λ n. 0 < n → (may_go (picks_of self.old.is_counted (not self.old.has_refusal) self.old.waiting) self.old ≡ true)
+            × (self.new ≡ flown (picks_of self.old.is_counted (not self.old.has_refusal) self.old.waiting) self.old)) }
         ensures stays { IfOk result (λ n. n ≡ 0 → self.new ≡ self.old) }
-        ensures goes { IfOk result (λ n. self.old.is_up ≡ true → self.old.flight ≡ [] → n ≡ length (picked (picks_of self.old.is_counted self.old.waiting) self.old.waiting)) }
+        ensures goes { IfOk result (λ n. self.old.is_up ≡ true → self.old.flight ≡ [] → n ≡ length (picked (picks_of self.old.is_counted (not self.old.has_refusal) self.old.waiting) self.old.waiting)) }
         ensures err { OnErr result (self.new ≡ self.old) }
     {
         if !self.is_up || !is_none(&self.flight) {
             return Ok(0);
         }
-        let Some(picks) = choose(alloc, &self.waiting, self.is_counted)? else {
+        let Some(picks) = choose(alloc, &self.waiting, self.is_counted, !self.has_refusal)? else {
             return Ok(0);
         };
         let flight = take_out(alloc, &mut self.waiting, picks.as_slice())?;
