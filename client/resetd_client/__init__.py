@@ -28,8 +28,9 @@ Which object is for which thread
     View, Node, Link, Run, Reply                     any: they do not change
 
 What is raised
-    Each exception is a ResetdError, beside the OSError of a file. After Away make the same call again; OutOfRun says that
-    a message belongs to another run; all others need a person (`needs_person`). Each function names those that it raises.
+    Each exception is a ResetdError, beside the OSError of a file. After Away or Restless make the same call again;
+    OutOfRun says that a message belongs to another run; all others need a person (`needs_person`). Each function names the
+    exceptions that it raises.
 
 Messages for a person go to the logger `resetd_client`, or to the function that a caller passes as `told`.
 

@@ -1,7 +1,7 @@
 """The exceptions of the library. Each is a `ResetdError`, and `needs_person` says whether it needs a person.
 
-`needs_person` is False if the program itself can continue: after `Away` it makes the same call again, and after `OutOfRun`
-it closes the connection of the message. It is True if the same call would fail in the same way until a person, for example
+`needs_person` is False if the program itself can continue: after `Away` and `Restless` it makes the same call again, and
+after `OutOfRun` it closes the connection of the message. It is True if the same call would fail in the same way until a person, for example
 the program's author, has changed something.
 
 The library also raises the OSError of a file or a folder that can't be used.
