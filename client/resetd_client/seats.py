@@ -92,7 +92,7 @@ class Seat:
         """Raises BadWords for a name that can't be written in a line."""
         self.folder, self.name = folder, os.path.basename(folder)
         if self.name == BOARD or not NAME.fullmatch(self.name):
-            raise BadWords(f"{self.name!r} can't be a member's name: a name has no blanks, and is not {BOARD!r}")
+            raise BadWords(f"{self.name!r} can't be a member's name: a name must have no blanks, and must not be {BOARD!r}")
         os.makedirs(folder, exist_ok=True)
         self._begun = Cached(os.path.join(folder, "begun"))
         self._wanted = number_of(files.read(os.path.join(folder, "wanted")))

@@ -94,7 +94,7 @@ def a_device_that_fails(desk: Desk) -> None:
         see(desk.health(server).text, "resetd OK: well")
 
 
-@row("`that is not the store on this file`")
+@row("`this file is not the server's store`")
 def another_store(desk: Desk) -> None:
     store = desk.store()
     shutil.copy(store, desk.path("old"))
@@ -105,8 +105,8 @@ def another_store(desk: Desk) -> None:
         server.order(2, "reset", node=1)
         server.await_quiet()
         words = ("--store", store, "--unconfirmed", "1000000")
-        see(desk.health(server, *words).text, f"resetd CRITICAL: that is not the store on this file: {store} has ")
-        see(desk.why(store, server), "a running server may run into this: a loss: answer: that is not the store on this file")
+        see(desk.health(server, *words).text, f"resetd CRITICAL: this file is not the server's store: {store}: the file has ")
+        see(desk.why(store, server), "a running server may have this problem: the coordinator's answers are lost when it ends: answer: this file is not the server's store")
         folder = f"/proc/{server.process.pid}/fd"
         held = next(f"{folder}/{name}" for name in os.listdir(folder) if os.readlink(f"{folder}/{name}") == f"{store} (deleted)")
         see(desk.resetctl("backup", held, desk.path("left")).text, "copied ")
@@ -167,25 +167,25 @@ def told_of_a_wave(server: Serving, memory: str) -> set[str]:
         time.sleep(0.1)
 
 
-@row("`a wave has stood still at node N`")
+@row("`a wave has made no progress at node N`")
 def a_lost_packet(desk: Desk) -> None:
     """The workers, which submit the packets that a start sends again, run out of memory, and so lose one."""
     store, refusing = desk.write("store", migrations.IN_A_RESET), Refusing(PROGRAM, desk.folder)
     with Serving(store, env=refusing.environment(1, 1_000_000, threads=WORKERS)) as server:
-        desk.await_health(server, "a wave has stood still at node 1 (abort)")
+        desk.await_health(server, "a wave has made no progress at node 1 (abort)")
         refusing.refuse(refusing.count() + 1, 0)
         until("the end of the wave", lambda: desk.resetctl("resend", server=server) and
               all(row[2] == "ready" for row in server.show()["nodes"]))
         see(desk.health(server).text, "resetd OK: well")
 
 
-@row("`epoch E of node N is unconfirmed`")
+@row("`epoch E of node N has been unconfirmed`")
 def a_service_that_is_down(desk: Desk) -> None:
     store = desk.store(1)
     with Serving(store) as server:
         server.order(1, "reset", client=9, node=1)
         server.await_quiet()
-        desk.await_health(server, "epoch 1 of node 1 is unconfirmed for ", "--unconfirmed", "1")
+        desk.await_health(server, "epoch 1 of node 1 has been unconfirmed for ", "--unconfirmed", "1")
         with service(desk, server) as words:
             until("its start", lambda: bool(server.show()["nodes"][0][4] == server.show()["nodes"][0][5] > 0))
             see(words(), "service 1: starts anew, epoch ")
