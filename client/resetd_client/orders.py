@@ -206,11 +206,13 @@ class Orders:
         try:
             for outcome in self.settle():
                 if isinstance(outcome, NotTaken):
-                    self.told(f"client {self.client}: the orders {others}, from number {number}, had no answer at first, and now the answer is {outcome}")
+                    self.told(f"client {self.client}: the orders {others}, from number {number}, had no answer at first, "
+                              f"and now the answer is {outcome}")
         except CountLost as lost:
             if not self.recovers:
                 raise
-            self.told(f"client {self.client}: the orders {others}, from number {number}, had no answer at first, and now the answer is {lost}: giving them up")
+            self.told(f"client {self.client}: the orders {others}, from number {number}, had no answer at first, "
+                      f"and now the answer is {lost}: giving them up")
             self.recover(node=others[0].get("node"))
 
     def _send(self, series: Series, above: int) -> None:

@@ -23,7 +23,8 @@ def of_groups(view: View, audit: str) -> Iterator[Finding]:
     for part in parts.values():
         yield from of_group(part, entries)
     if fault:
-        yield Finding("group", f"how long a group has waited is unknown, because the proxy's audit can't be read: {fault}", left_out="how long a group has waited")
+        yield Finding("group", f"how long a group has waited is unknown, because the proxy's audit can't be read: {fault}",
+                      left_out="how long a group has waited")
 
 
 def of_group(part: Part, entries: list[Entry]) -> Iterator[Finding]:

@@ -116,7 +116,8 @@ def of_output(process: int) -> Iterator[Finding]:
     if pipe is not None:
         read = ", ".join(f"process {each}{commanded(each)}" for each in pipe.readers) or "no process"
         yield Finding("output", f"process {process} writes to a pipe that {read} reads" +
-                      ("; the pipe is full: end the process that reads it" if pipe.is_full else ""), later="nobody reads the server's output" if pipe.is_full else "")
+                      ("; the pipe is full: end the process that reads it" if pipe.is_full else ""),
+                      later="nobody reads the server's output" if pipe.is_full else "")
 
 
 def of_limit(who: str, limit: int | None, needed: int) -> Iterator[Finding]:

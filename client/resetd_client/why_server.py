@@ -19,7 +19,8 @@ from .waiting import AUDIT, of_groups
 
 KEPT_SECONDS = "11 minutes"  # the longest time for which one client keeps all others waiting
 CONDITIONS = {
-    Condition.STOPPED: ("process {process} is stopped by a signal (SIGSTOP or a debugger): kill -CONT {process} continues it", "a signal has stopped the server"),
+    Condition.STOPPED: ("process {process} is stopped by a signal (SIGSTOP or a debugger): kill -CONT {process} continues it",
+                        "a signal has stopped the server"),
     Condition.IN_A_CALL: ("process {process} has a thread in a system call that does not return, such as a sync of a slow or hanging disk: "
                           "see the kernel's log (journalctl -k)", "the disk is slow or hangs"),
     Condition.SPINNING: ("process {process} has a thread that is always busy, either working or spinning", ""),
@@ -69,8 +70,8 @@ def of_answer(address: str, seconds: float, path: str, listeners: list[int], aud
     try:
         view = Port(address, seconds).show()
     except NotNow as not_now:
-        yield Finding("answer", f"a coordinator answers with {not_now.name}: its device has failed, or the coordinator is ending; resetctl close ends it",
-                      fault)
+        yield Finding("answer", f"a coordinator answers with {not_now.name}: its device has failed, or the coordinator is ending; "
+                                "resetctl close ends it", fault)
     except NotTaken as other:
         yield Finding("answer", str(other), fault)
     except Away as away:
@@ -99,7 +100,8 @@ def of_store_behind(path: str, before: Reading | None, view: View) -> Iterator[F
         yield Finding("answer", f"it is unknown {text}: this user can't read the file, or the file changes too fast", left_out=text)
     elif differs := difference(before, view, after):
         yield Finding("answer", f"this file is not the server's store: {differs}. The coordinator has another store, or this file was "
-                                "overwritten, truncated or replaced while the coordinator used it; what the coordinator answers now is lost when it ends",
+                                "overwritten, truncated or replaced while the coordinator used it; what the coordinator answers now is "
+                                "lost when it ends",
                       later="the coordinator's answers are lost when it ends")
 
 

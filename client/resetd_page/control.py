@@ -33,12 +33,13 @@ class Arguments(argparse.Namespace):
 def read_arguments() -> Arguments:
     parser = argparse.ArgumentParser(prog="resetd-page", description=ABOUT, formatter_class=argparse.RawDescriptionHelpFormatter)
     parser.add_argument("--address", required=True, metavar="ADDRESS",
-                        help="the address of resetd-proxy, unix:PATH or tls:HOST:PORT; for tls: the PEM files come from RESETD_CERTIFICATE, RESETD_KEY and "
-                        "RESETD_AUTHORITY, or from RESETD_TLS")
+                        help="the address of resetd-proxy, unix:PATH or tls:HOST:PORT; for tls: the PEM files come from RESETD_CERTIFICATE, "
+                        "RESETD_KEY and RESETD_AUTHORITY, or from RESETD_TLS")
     parser.add_argument("--listen", default="127.0.0.1:4173", metavar="ADDRESS",
-                        help="where to serve the page: unix:PATH (mode 0660), HOST:PORT of the loopback, or systemd for the socket that systemd passes "
-                        "(default: %(default)s)")
-    parser.add_argument("--host", action="append", default=[], metavar="NAME", help="a host name, besides localhost, under which browsers may open the page; may be repeated")
+                        help="where to serve the page: unix:PATH (mode 0660), HOST:PORT of the loopback, or systemd for the socket that "
+                        "systemd passes (default: %(default)s)")
+    parser.add_argument("--host", action="append", default=[], metavar="NAME",
+                        help="a host name, besides localhost, under which browsers may open the page; may be repeated")
     parser.add_argument("--audit", default="", metavar="FILE", help="the proxy's audit file, from which the page also shows the last orders")
     return parser.parse_args(namespace=Arguments())
 

@@ -361,7 +361,8 @@ class Refusals(MemberCase):
         help."""
         member = self.in_a_run()
         asked, settled = sum(order.get("op") == "reset" for order in self.server.seen), self.port.show().settled
-        for count, words in ((settled + 1, f"--fence {settled + 1}`"), (3 << 40, "generation 3 has used the resource, but this member has generation 0")):
+        for count, words in ((settled + 1, f"--fence {settled + 1}`"),
+                             (3 << 40, "generation 3 has used the resource, but this member has generation 0")):
             member.note_overtaken({2}, count)
             member.note_overtaken({2}, 0)
             with self.assertRaisesRegex(StoreWentBack, words):

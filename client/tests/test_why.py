@@ -62,7 +62,8 @@ class Files(Case):
                            (APPENDED[:48] + b"\7" + APPENDED[49:], "BadBatch: at byte 48, batch 0 can't be decoded (BadByte)")):
             status, lines = self.why(self.put(data))
             name = told.split(":")[0]
-            self.assertEqual((status, lines[-1]), (1, f"a start now would end with the fault {name}: store: the file is not a readable store: {told}"))
+            self.assertEqual((status, lines[-1]), (
+                1, f"a start now would end with the fault {name}: store: the file is not a readable store: {told}"))
 
     def test_what_is_no_file(self) -> None:
         os.mkfifo(f"{self.folder}/fifo")
@@ -93,8 +94,8 @@ class Files(Case):
         resource.setrlimit(resource.RLIMIT_FSIZE, (65_552, before[1]))
         self.addCleanup(resource.setrlimit, resource.RLIMIT_FSIZE, before)
         status, lines = self.why(store)
-        self.assertEqual((status, lines[-1]), (1, "a running server may have this problem: a signal ends the server: limit: this shell may write files "
-                                                  "of at most 65,552 bytes: at a longer file, SIGXFSZ ends it without a message"))
+        self.assertEqual((status, lines[-1]), (1, "a running server may have this problem: a signal ends the server: limit: this shell may "
+                                                  "write files of at most 65,552 bytes: at a longer file, SIGXFSZ ends it without a message"))
 
     @unittest.skipUnless(os.geteuid() == 0, "it needs root: it acts as another user")
     def test_the_user_of_the_server(self) -> None:
@@ -102,7 +103,8 @@ class Files(Case):
         self.move_to_all()
         store = self.put(FRESH)
         os.chmod(store, 0o600)
-        refused = "a start now would end with the fault Device: access: the user nobody can't open the file for reading and writing: Permission denied. "
+        refused = ("a start now would end with the fault Device: access: the user nobody can't open the file for reading and writing: "
+                   "Permission denied. ")
         self.assertEqual(self.why(store)[0], 0)
         status, lines = self.why("--user", "nobody", store)
         self.assertEqual((status, lines[-1][:len(refused)]), (1, refused))
@@ -133,7 +135,8 @@ class Files(Case):
         store = self.put(FRESH)
         with mock.patch("resetd_client.access.os.geteuid", return_value=12_345):
             status, lines = self.why("--user", "54321", store)
-        self.assertEqual((status, lines[-1]), (0, "these checks found nothing that prevents a start; not checked: whether the user 54321 may open the store"))
+        self.assertEqual((status, lines[-1]), (
+            0, "these checks found nothing that prevents a start; not checked: whether the user 54321 may open the store"))
 
     def test_a_disk_that_hangs(self) -> None:
         """A sync that never returns blocks nothing here."""
@@ -183,7 +186,8 @@ class Files(Case):
         self.server.ring(2)
         status, lines = self.why(self.put(FRESH), self.server.address)
         self.assertEqual(status, 1)
-        self.assertTrue(any(line.startswith("a running server may have this problem: the coordinator's answers are lost when it ends: answer: this file is not the server's store")
+        self.assertTrue(any(line.startswith("a running server may have this problem: the coordinator's answers are lost when it ends: "
+                                            "answer: this file is not the server's store")
                             for line in lines))
 
 

@@ -39,7 +39,8 @@ def parser() -> argparse.ArgumentParser:
     for name, about in CREDENTIALS.items():
         top.add_argument(f"--{name}", metavar="PEM", help=f"the PEM file with {about}, for a tls: address (default: RESETD_{name.upper()})")
     top.add_argument("--client", type=ranges.of("client"), metavar="C",
-                     default=os.environ.get("RESETD_CLIENT") or str(CLIENTS[-1]), help="the client's number, 1 to 16 (default: RESETD_CLIENT, else 16)")
+                     default=os.environ.get("RESETD_CLIENT") or str(CLIENTS[-1]),
+                     help="the client's number, 1 to 16 (default: RESETD_CLIENT, else 16)")
     top.add_argument("--state", default=os.environ.get("RESETCTL_STATE") or default_state(), metavar="FOLDER",
                      help="the folder for this client's order numbers (default: RESETCTL_STATE, else ~/.local/state/resetctl)")
     top.add_argument("--patience", type=ranges.span, metavar="SECONDS",

@@ -62,7 +62,8 @@ def write_metrics(control: Control) -> int:
 
 def add_health_words(parser: argparse.ArgumentParser) -> None:
     add_json(parser)
-    parser.add_argument("--steps", type=ranges.span, default=5.0, metavar="SECONDS", help="report steps that have waited for the disk for this many seconds (default: 5)")
+    parser.add_argument("--steps", type=ranges.span, default=5.0, metavar="SECONDS",
+                        help="report steps that have waited for the disk for this many seconds (default: 5)")
     parser.add_argument("--wave", type=ranges.span, default=5.0, metavar="SECONDS",
                         help="report a wave that has made no progress for this many seconds (default: 5)")
     parser.add_argument("--unconfirmed", type=ranges.span, default=60.0, metavar="SECONDS",
@@ -80,8 +81,8 @@ def add_metrics_words(parser: argparse.ArgumentParser) -> None:
 
 
 COMMANDS = (
-    Command("health", "checks the server; the exit status is 0 if all is well, 1 for a warning, 2 if critical, 3 if unknown", health, add_health_words,
-            is_look=True),
+    Command("health", "checks the server; the exit status is 0 if all is well, 1 for a warning, 2 if critical, 3 if unknown",
+            health, add_health_words, is_look=True),
     Command("metrics", "writes metrics for node_exporter's textfile collector", write_metrics, add_metrics_words,
             is_look=True),
 )

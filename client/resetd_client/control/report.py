@@ -38,7 +38,8 @@ class Part:
 def parts(control: Control) -> Iterator[Part]:
     words = control.words
     yield Part("why.txt", "the output of resetctl why", lambda: why_text(control))
-    yield Part("show.json", "the nodes and links, as resetctl show --json prints them", lambda: json.dumps(patiently(control.port.show, control.patience).members()))
+    yield Part("show.json", "the nodes and links, as resetctl show --json prints them",
+               lambda: json.dumps(patiently(control.port.show, control.patience).members()))
     yield Part("store", "a copy of the store, made like resetctl backup, or the file's bytes if the store can't be read",
                lambda: copy_of(words.store))
     yield Part("steps.txt", "the store's steps since the last checkpoint", lambda: steps_text(words.store, False))

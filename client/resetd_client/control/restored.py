@@ -24,7 +24,8 @@ def restored(control: Control) -> int:
         control.settle(book)
         control.tell(control.patient(lambda: renew(control.port, book, control.patience)))
     if count is not None:
-        control.tell(f"now start all members with generation {generation_of(count) + 1}, or with a greater generation if a member has already used that one")
+        control.tell(f"now start all members with generation {generation_of(count) + 1}, "
+                     "or with a greater generation if a member has already used that one")
     return DONE
 
 

@@ -143,8 +143,10 @@ def add_why_words(parser: argparse.ArgumentParser) -> None:
     add_json(parser)
     add_file_words(parser)
     parser.add_argument("at", metavar="ADDRESS", nargs="?", help="the server's address, as an IPv4 address and a port (A.B.C.D:P)")
-    parser.add_argument("--audit", metavar="FILE", default=AUDIT, help=f"the proxy's audit file, which shows how long a group has waited (default: {AUDIT})")
-    parser.add_argument("--user", type=ranges.account, metavar="NAME", help="the user that the server runs as (default: the owner of the store's folder)")
+    parser.add_argument("--audit", metavar="FILE", default=AUDIT,
+                        help=f"the proxy's audit file, which shows how long a group has waited (default: {AUDIT})")
+    parser.add_argument("--user", type=ranges.account, metavar="NAME",
+                        help="the user that the server runs as (default: the owner of the store's folder)")
 
 
 def add_file_words(parser: argparse.ArgumentParser) -> None:
@@ -154,7 +156,8 @@ def add_file_words(parser: argparse.ArgumentParser) -> None:
 def add_steps_words(parser: argparse.ArgumentParser) -> None:
     add_json(parser)
     add_file_words(parser)
-    parser.add_argument("--before", action="store_true", help="read the store's previous half, from before the last checkpoint; it is kept until the next checkpoint")
+    parser.add_argument("--before", action="store_true",
+                        help="read the store's previous half, from before the last checkpoint; it is kept until the next checkpoint")
 
 
 def add_backup_words(parser: argparse.ArgumentParser) -> None:
@@ -163,7 +166,8 @@ def add_backup_words(parser: argparse.ArgumentParser) -> None:
 
 
 COMMANDS = (
-    Command("why", "checks the store's file and the server's address, and prints what would make a start fail; exits with 1 if it finds a problem", why, add_why_words, is_look=True),
+    Command("why", "checks the store's file and the server's address, and prints what would make a start fail; "
+            "exits with 1 if it finds a problem", why, add_why_words, is_look=True),
     Command("steps", "prints the steps of a store, each with the batch in which it was settled", steps,
             add_steps_words),
     Command("backup", "copies a store, even while a server uses it", backup, add_backup_words),
