@@ -149,7 +149,8 @@ class Served:
         self._changes = Changes([path])
         self._changes.take()
         if os.path.exists(os.path.join(self._folder, "wanted")):
-            warn(f"{folder}: the gateway is of an earlier version: start the gateway again with this version, which writes its instructions to {path}")
+            warn(f"{folder}: the gateway is of an earlier version: start the gateway again with this version, "
+                 f"which writes its instructions to {path}")
 
     def wanted(self) -> int | None:
         """The epoch to begin, or None if the member has begun, or lost, the last one."""

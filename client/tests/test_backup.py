@@ -48,7 +48,7 @@ class Words(Case):
     def test_a_copy_is_a_store_and_replaces_one(self) -> None:
         os.chmod(self.store, 0o640)
         for count in (5, 6):
-            self.assertEqual(self.run_words("backup", self.store, self.out), (0, f"copied {count} steps, version 2\n", ""))
+            self.assertEqual(self.run_words("backup", self.store, self.out), (0, f"copied a store of {count} steps, version 2\n", ""))
             done = subprocess.run([PROGRAM, "check", self.out], capture_output=True, encoding="utf-8", check=False)
             self.assertEqual(done.stdout, f"legal {count}\n")
             self.assertEqual(stat.S_IMODE(os.stat(self.out).st_mode), 0o640)

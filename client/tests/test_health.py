@@ -225,7 +225,7 @@ class Lagging(Case):
 
     def test_no_file(self) -> None:
         os.remove(self.path)
-        self.assertEqual(self.look(0), (f"the file of signals {self.path}: No such file or directory",))
+        self.assertEqual(self.look(0), (f"the file of signals can't be read: {self.path}: No such file or directory",))
 
 
 class SameStore(unittest.TestCase):
@@ -312,7 +312,7 @@ class OtherStore(Case):
         try:
             for _ in range(100):
                 health = check(self.port, Since(f"{self.folder}/since", 0), Bounds(), 30.0, store=self.server.store)
-                self.assertNotIn("that is not the store", " ".join(health.findings))
+                self.assertNotIn("is not the server's store", " ".join(health.findings))
         finally:
             ended.set()
             worker.join()

@@ -47,7 +47,7 @@ class Controls(Case):
         for words, said in (("add 1 1", "7 NodeExists: node 1 already exists, in group 1"),
                             ("reset 9", "6 UnknownNode: node 9 does not exist; the nodes are 1, 2, 3, 4"),
                             ("remove 2", "8 HasLinks: node 2 is linked with 1, 3: drop these links first"),
-                            ("join 1 1", "9 SameNode: a link has two ends"),
+                            ("join 1 1", "9 SameNode: a link must join two different nodes"),
                             ("join 1 4", "10 OtherGroup: node 1 is in group 1, node 4 in group 2: to change a node's "
                                          "group, remove the node and add it again"),
                             ("join 1 2", "11 LinkExists: 1 and 2 are already linked"),
@@ -130,7 +130,7 @@ class Controls(Case):
         self.run_words("--state", f"{self.folder}/bob", "add", "5", "1")
         status, _, told = self.run_words("add", "6", "1")
         self.assertEqual(status, 0)
-        self.assertIn("it is not sent again", told)
+        self.assertIn("this order is not sent again", told)
         self.server.await_settled()
         self.assertEqual(self.server.row(1)[1], 1)
 
@@ -175,9 +175,9 @@ class Controls(Case):
         self.server.faults = ["<!DOCTYPE HTML>"] * 3
         for words in (["show"], ["reset", "1"]):
             status, _, told = self.run_words(*words)
-            self.assertEqual((status, told), (1, f"resetctl: {self.server.address} is not a coordinator: it said "
+            self.assertEqual((status, told), (1, f"resetctl: {self.server.address} is not a coordinator: it answered "
                                                  "'<!DOCTYPE HTML>'\n"))
-        self.assertEqual(self.run_words("health")[:2], (3, f"resetd UNKNOWN: {self.server.address} is not a coordinator: it said "
+        self.assertEqual(self.run_words("health")[:2], (3, f"resetd UNKNOWN: {self.server.address} is not a coordinator: it answered "
                                                            "'<!DOCTYPE HTML>'\n"))
 
     def test_files_that_cannot_be_used(self) -> None:

@@ -56,7 +56,7 @@ class Restored(Case):
     def test_a_node_that_gets_no_new_epoch_is_named(self) -> None:
         reset = self.server.reset
         self.server.reset = lambda node: None if node == 12 else reset(node)
-        with self.assertRaisesRegex(Away, "node 12;"):
+        with self.assertRaisesRegex(Away, "node 12:"):
             renew(self.port, self.orders(), 1)
 
 

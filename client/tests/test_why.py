@@ -69,7 +69,7 @@ class Files(Case):
         os.mkfifo(f"{self.folder}/fifo")
         os.symlink(f"{self.folder}/nowhere", f"{self.folder}/link")
         for path, told in (("none", "NoMagic: file: No such file or directory; a start of the server would create an empty file"),
-                           ("link", f"Device: file: a symbolic link to a missing file: {self.folder}/nowhere"),
+                           ("link", f"Device: file: the path is a symbolic link to a missing file: {self.folder}/nowhere"),
                            ("none/store", f"Device: folder: {self.folder}/none: No such file or directory"),
                            (".", "Device: file: a folder of "), ("fifo", "Device: file: a FIFO of 0 bytes, p"),
                            ("/dev/null", "Device: file: a character device of 0 bytes, c")):
@@ -114,9 +114,9 @@ class Files(Case):
         os.chown(store, nobody.pw_uid, -1)
         status, lines = self.why(store)
         self.assertEqual((status, lines[-1]), (0, "these checks found nothing that prevents a start"))
-        self.assertTrue(any("the user nobody may open it and its folder; syncing both took" in line for line in lines), lines)
+        self.assertTrue(any("the user nobody may open the store and its folder; syncing both took" in line for line in lines), lines)
         os.chmod(self.folder, 0o300)
-        self.assertIn("access: the user nobody can't open its folder: Permission denied", self.why(store)[1][-1])
+        self.assertIn("access: the user nobody can't open the file's folder: Permission denied", self.why(store)[1][-1])
 
     @unittest.skipUnless(os.geteuid() == 0, "it needs root: it acts as another user")
     def test_a_folder_of_a_lost_machine(self) -> None:
@@ -146,7 +146,7 @@ class Files(Case):
         with mock.patch("resetd_client.why.tried_as", return_value=trial):
             self.assertIn("a running server may have this problem: the disk is slow or hangs: access: ", self.why(f"{self.folder}/store")[1][-1])
         with mock.patch("resetd_client.access.os.fdatasync", side_effect=OSError(5, "Input/output error")):
-            self.assertEqual(tried_as(account_of(os.geteuid()), self.put(FRESH)).failed, "can't sync it: Input/output error")
+            self.assertEqual(tried_as(account_of(os.geteuid()), self.put(FRESH)).failed, "can't sync the file: Input/output error")
 
     def test_addresses(self) -> None:
         store = self.put(FRESH)
@@ -354,7 +354,7 @@ class BesideTheProgram(Case):
         os.kill(process, signal.SIGCONT)
         stopped = f"a running server may have this problem: a signal has stopped the server: server: process {process} is stopped by a signal"
         self.assertTrue(any(line.startswith(stopped) and f"kill -CONT {process}" in line for line in lines), lines)
-        self.assertFalse(any("the server's only connection" in line for line in lines), lines)
+        self.assertFalse(any("has the server's only connection" in line for line in lines), lines)
 
     def test_an_output_that_nobody_reads(self) -> None:
         self.expect_the_reader_told(*os.pipe())

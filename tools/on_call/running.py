@@ -39,7 +39,7 @@ def no_answer(desk: Desk) -> None:
             see(desk.why(store, server), f"is stopped by a signal (SIGSTOP or a debugger): kill -CONT {server.process.pid}")
         with held(server):
             see(desk.health(server, patience=0, seconds=2).text, "resetd CRITICAL: no answer: ")
-            see(desk.why(store, server), f"client   process {os.getpid()} (", "has the one connection")
+            see(desk.why(store, server), f"client   process {os.getpid()} (", "has the server's only connection")
         see(desk.health(server).text, "resetd OK: well")
 
 
@@ -151,13 +151,13 @@ def a_slow_disk(desk: Desk) -> None:
                 connection.send({"op": "reset", "client": 1, "number": 1, "node": 1})
             told = told_of_a_wave(server, desk.path(f"health{seconds}"))
             see(desk.why(store, server), "syncing both took ")
-        if "stood still" in told or seconds > 2 and "have waited for the disk" not in told:
+        if "made no progress" in told or seconds > 2 and "have waited for the disk" not in told:
             raise NotSeen(f"at {seconds} s a sync the check printed: {sorted(told)}")
 
 
 def told_of_a_wave(server: Serving, memory: str) -> set[str]:
     """Returns what the check finds from the beginning of a wave to its end, by looks in quick succession."""
-    port, told, words = Port(server.address, LONG), set[str](), {"stood still", "have waited for the disk"}
+    port, told, words = Port(server.address, LONG), set[str](), {"made no progress", "have waited for the disk"}
     while True:
         view = port.show()
         if view.settled == view.accepted > 4 and all(node.mode == "ready" for node in view.nodes):
@@ -262,7 +262,7 @@ def a_reader_that_hangs(desk: Desk) -> None:
         try:
             server.leave()
             see(str(server.ask({"op": "close"})), "closed")
-            see(desk.why(store, server), f"process {reader.pid} (sleep 3600) reads; it is full: end its reader")
+            see(desk.why(store, server), f"process {reader.pid} (sleep 3600) reads; the pipe is full: end the process that reads it")
         finally:
             reader.kill()
             reader.wait()
