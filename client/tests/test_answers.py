@@ -102,8 +102,8 @@ class Advice(unittest.TestCase):
         view = View.of({"accepted": 9, "settled": 9, "nodes": [[3, 1, "ready", 0, 4, 4], [5, 1, "ready", 0, 0, 0]], "links": []})
         for number, name, order, said in (
                 (6, "UnknownNode", {"node": 3}, "`show` lists the nodes that exist"), (8, "HasLinks", {"node": 3}, "drop the node's links first"),
-                (13, "DegreeFull", {"a": 3, "b": 5}, 
-                 "drop one of the node's links first"), (14, "LinksFull", {"a": 3, "b": 5}, "drop another link first")):
+                (13, "DegreeFull", {"a": 3, "b": 5}, "drop one of the node's links first"),
+                (14, "LinksFull", {"a": 3, "b": 5}, "drop another link first")):
             self.assertEqual(explained(Refused(number, name), order, view), f"{number} {name}: {said}")
 
 

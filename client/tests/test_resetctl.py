@@ -48,10 +48,10 @@ class Controls(Case):
                             ("reset 9", "6 UnknownNode: node 9 does not exist; the nodes are 1, 2, 3, 4"),
                             ("remove 2", "8 HasLinks: node 2 is linked with 1, 3: drop these links first"),
                             ("join 1 1", "9 SameNode: a link must join two different nodes"),
-                            ("join 1 4", "10 OtherGroup: node 1 is in group 1, node 4 in group 2: to change a node's "
+                            ("join 1 4", "10 OtherGroup: node 1 is in group 1, and node 4 is in group 2: to change a node's "
                                          "group, remove the node and add it again"),
-                            ("join 1 2", "11 LinkExists: 1 and 2 are already linked"),
-                            ("drop 1 3", "12 NoLink: 1 and 3 are not linked; 1 is linked with 2"),
+                            ("join 1 2", "11 LinkExists: nodes 1 and 2 are already linked"),
+                            ("drop 1 3", "12 NoLink: nodes 1 and 3 are not linked; node 1 is linked with 2"),
                             ("confirm 1 1", "15 BadEpoch: node 1 is at epoch 1, and its last confirmed epoch is 1")):
             self.assertEqual(self.run_words(*words.split()), (1, "", f"resetctl: {said}\n"))
 

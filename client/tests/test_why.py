@@ -280,7 +280,7 @@ class BesideTheProgram(Case):
     def foretold(self, path: str, address: str) -> str:
         last = self.run_words("why", path, address)[1].splitlines()
         told = [line for line in last if line.startswith("a start now would end with the fault ")]
-        return told[0].split()[6].rstrip(":") if told else ""
+        return told[0].split()[8].rstrip(":") if told else ""
 
     def ended(self, path: str, address: str) -> str:
         """Returns the fault with which a start ends, or nothing if the server listens."""

@@ -80,7 +80,7 @@ def no_store(desk: Desk) -> None:
     copy = desk.store(name="copy")
     store = desk.write("store", b"")
     desk.start_ends(store, 1, "NoMagic")
-    see(desk.why(store), "a start now would end with the fault NoMagic: store: is not a readable store", "the file is empty")
+    see(desk.why(store), "a start now would end with the fault NoMagic: store: the file is not a readable store", "the file is empty")
     os.remove(store)
     shutil.copy(copy, store)
     desk.expect_served(store)
