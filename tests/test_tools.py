@@ -152,7 +152,7 @@ class Tools(Run):
         self.assertEqual(printed.count("mixed: 0 messages; skipped: 0 items\n"), 2)
 
     def test_the_example(self) -> None:
-        self.expect("examples/run", ends_with="each of the 8 members was signalled once and started anew")
+        self.expect("examples/run", ends_with="the coordinator signalled each of the 8 members once, and each started again")
 
     def test_one_for_all(self) -> None:
         printed = self.expect("examples/one_for_all", ends_with="after it: ")

@@ -102,20 +102,20 @@ def become(account: Account) -> None:
 
 def attempt(account: Account, path: str, tell: Callable[[list[object]], object]) -> None:
     """Makes the calls, and reports each result."""
-    call = "be acted as"
+    call = "can't be impersonated"
     try:
         become(account)
-        call = "open it to read and write"
+        call = "can't open the file for reading and writing"
         file = os.open(path, os.O_RDWR | os.O_NONBLOCK | os.O_CLOEXEC)
-        call = "open its folder"
+        call = "can't open the file's folder"
         folder = os.open(os.path.dirname(path) or ".", os.O_RDONLY | os.O_CLOEXEC)
-        call, began = "sync it", time.monotonic()
+        call, began = "can't sync the file", time.monotonic()
         os.fdatasync(file)
-        call = "sync its folder"
+        call = "can't sync the file's folder"
         os.fsync(folder)
         tell(["synced", time.monotonic() - began])
     except OSError as fault:
-        tell(["failed", f"can't {call}: {fault.strerror}"])
+        tell(["failed", f"{call}: {fault.strerror}"])
 
 
 def lines_of(reader: int, seconds: float) -> list[list[str]]:

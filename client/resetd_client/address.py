@@ -27,7 +27,7 @@ SERVER = "127.0.0.1:4170"
 PROXY_SOCKETS = "/run/resetd-proxy"  # the folder of the proxy's sockets, each named after its principal
 OLD_SOCKET = "/run/resetd-front/socket"  # another socket of `order`, removed in the next release
 CREDENTIALS: Mapping[str, str] = {
-    "certificate": "this client's certificate", "key": "the key of this client's certificate",
+    "certificate": "this client's certificate", "key": "the private key of this client's certificate",
     "authority": "the certificate of the authority that signs the hosts' certificates"}
 
 
@@ -130,7 +130,7 @@ class Tls:
             return untrusted(self, fault)
         except Away:
             return None
-        return None if is_taken else Untrusted(f"{self}: it ended the handshake, because it does not accept this client's certificate")
+        return None if is_taken else Untrusted(f"{self} ended the handshake because it does not accept this client's certificate")
 
 
 @dataclass(frozen=True)
@@ -159,8 +159,8 @@ class Credentials:
         """Returns the TLS context. Raises Untrusted if a file is missing or invalid."""
         missing = [name for name in CREDENTIALS if not getattr(self, name)]
         if missing:
-            raise Untrusted(f"missing PEM files for tls: {', '.join(missing)}: set RESETD_CERTIFICATE, RESETD_KEY and "
-                            "RESETD_AUTHORITY")
+            raise Untrusted(f"a tls: address needs PEM files, and these are not set: {', '.join(missing)}. Set RESETD_CERTIFICATE, "
+                            "RESETD_KEY and RESETD_AUTHORITY")
         context = ssl.SSLContext(ssl.PROTOCOL_TLS_CLIENT)  # it checks the certificate, and the host's name in it
         context.minimum_version = ssl.TLSVersion.TLSv1_3
         paths = self.authority
@@ -175,7 +175,7 @@ class Credentials:
 
 def refuse_password() -> str:
     """Raises ValueError. Without this, a key with a password would make OpenSSL ask for it at the terminal."""
-    raise ValueError("the key has a password")
+    raise ValueError("the private key has a password: use a key without a password")
 
 
 def read_credentials(path: str) -> dict[str, str]:
@@ -189,7 +189,7 @@ def read_credentials(path: str) -> dict[str, str]:
         raise Unreadable(path, f" as TOML: {fault}") from fault
     for name, value in found.items():
         if name not in CREDENTIALS or not isinstance(value, str):
-            raise Unreadable(path, f": {name} is not allowed: only {', '.join(CREDENTIALS)} are, each a string")
+            raise Unreadable(path, f": {name} is not allowed; the only keys are {', '.join(CREDENTIALS)}, and each must be a string")
     return {name: os.path.join(os.path.dirname(path), value) for name, value in found.items()}
 
 
@@ -205,7 +205,7 @@ def address_of(text: str, credentials: Credentials | None = None) -> Address:
     kind, colon, rest = text.partition(":")
     if kind == "unix" and not rest.isdigit():
         if not rest.startswith("/") or len(os.fsencode(rest)) > 107:
-            raise BadWords(f"{text!r} is not an address: unix: needs an absolute path of at most 107 bytes")
+            raise BadWords(f"{text!r} is not an address: unix: must be followed by an absolute path of at most 107 bytes")
         return Unix(rest)
     if kind == "tls" and ":" in rest:
         host, port = host_and_port(rest)
@@ -259,9 +259,9 @@ def away(address: Address, fault: OSError) -> Away:
 def untrusted(address: Address, fault: OSError) -> Untrusted | None:
     """Returns the certificate error of a failed TLS connection, or None if the failure has another cause."""
     if isinstance(fault, ssl.SSLCertVerificationError):
-        return Untrusted(f"{address}: its certificate is not accepted: {fault.verify_message}")
+        return Untrusted(f"{address}: this client does not accept the server's certificate: {fault.verify_message}")
     reason = getattr(fault, "reason", None) if isinstance(fault, ssl.SSLError) else None
     words = set(reason.split("_")) if reason else set()
     if reason and "ALERT" in words and words & {"CERTIFICATE", "CA", "DENIED", "DECRYPT"}:
-        return Untrusted(f"{address}: it does not accept this client's certificate ({reason.lower().replace('_', ' ')})")
+        return Untrusted(f"{address} does not accept this client's certificate ({reason.lower().replace('_', ' ')})")
     return None

@@ -10,29 +10,29 @@ from .view import Node, View
 
 # The last column of the table of refusals in docs/PROTOCOL.md, in its words; some refusals say all by themselves.
 WHAT_TO_DO = {
-    Refusal.STOPPED: "send the same order with the same number after the next start; `close` ends the server",
+    Refusal.STOPPED: "after the server's next start, send the same order with the same number; `close` ends the server",
     Refusal.OUT_OF_MEMORY: "send the same order again",
-    Refusal.EXHAUSTED: "this store takes no further step: make a new one",
-    Refusal.OUT_OF_TURN: "the client lost its count, or the store is an older copy: find the count (`resetctl count`)",
-    Refusal.NUMBER_REUSED: "two processes send as one client, or the client lost its count: find the count (`resetctl count`)",
-    Refusal.UNKNOWN_NODE: "look at `show`",
-    Refusal.HAS_LINKS: "drop its links first",
+    Refusal.EXHAUSTED: "this store can take no further steps: make a new store",
+    Refusal.OUT_OF_TURN: "the client has lost its order number, or the store is an older copy: recover the number with `resetctl count`",
+    Refusal.NUMBER_REUSED: "two processes send as the same client, or the client has lost its order number: recover the number with `resetctl count`",
+    Refusal.UNKNOWN_NODE: "`show` lists the nodes that exist",
+    Refusal.HAS_LINKS: "drop the node's links first",
     Refusal.OTHER_GROUP: "to change a node's group, remove the node and add it again",
-    Refusal.NO_LINK: "an old packet is always refused: drop it",
-    Refusal.DEGREE_FULL: "drop one first",
-    Refusal.LINKS_FULL: "drop one first",
-    Refusal.BAD_EPOCH: "the epoch was confirmed before, or the node went back: look at `show`",
-    Refusal.OLD: "nothing: repeats are expected",
+    Refusal.NO_LINK: "old packets are always refused: discard the packet",
+    Refusal.DEGREE_FULL: "drop one of the node's links first",
+    Refusal.LINKS_FULL: "drop another link first",
+    Refusal.BAD_EPOCH: "the epoch was confirmed before, or the node has gone back to a lower epoch: compare the epochs in `show`",
+    Refusal.OLD: "do nothing: repeated packets are expected",
     Refusal.EARLY: "`resend` shows which packets are due",
-    Refusal.DIFFERS: "find the origin of the packet, which this world did not send",
-    Refusal.NOT_RELEASED: "find the origin of the packet, which this world has not released",
-    Refusal.PENDING_FULL: "send the same order after a while",
+    Refusal.DIFFERS: "this coordinator did not send the packet: find out where it came from",
+    Refusal.NOT_RELEASED: "this coordinator has not released the packet: find out where it came from",
+    Refusal.PENDING_FULL: "send the same order again after a while",
 }
 
-RANGES = "nodes are 1 to 64, groups and clients 1 to 16, a number and an epoch below 2^64"
+RANGES = "nodes must be 1 to 64, groups and clients 1 to 16, order numbers and epochs below 2^64"
 WHAT_IS_WRONG = {
-    Fault.UNFINISHED: "the line ended without a line feed",
-    Fault.TOO_LONG: "a line has at most 512 bytes",
+    Fault.UNFINISHED: "the line does not end with a line feed",
+    Fault.TOO_LONG: "a line may have at most 512 bytes",
     Fault.BAD_TEXT: "a line must be UTF-8",
     Fault.BAD_JSON: "a line must be one JSON object",
     Fault.BAD_REQUEST: f"{RANGES}; nothing was carried out",
@@ -74,7 +74,7 @@ def of_node(refusal: Refusal, row: Node, view: View) -> str:
     if refusal is Refusal.HAS_LINKS and (near := linked_with(row.node, view)):
         return f"node {row.node} is linked with {numbers(near)}: drop these links first"
     if refusal is Refusal.BAD_EPOCH:
-        return f"node {row.node} is at epoch {row.epoch}, and {row.confirmed} is confirmed"
+        return f"node {row.node} is at epoch {row.epoch}, and its last confirmed epoch is {row.confirmed}"
     return ""
 
 
@@ -82,17 +82,17 @@ def of_ends(refusal: Refusal, a: Node, b: Node, view: View) -> str:
     """Like `found`, for an order that names the two ends of a link."""
     near = {row.node: linked_with(row.node, view) for row in (a, b)}
     if refusal is Refusal.SAME_NODE:
-        return "a link has two ends"
+        return "a link must join two different nodes"
     if refusal is Refusal.OTHER_GROUP:
-        return f"node {a.node} is in group {a.group}, node {b.node} in group {b.group}: " + WHAT_TO_DO[refusal]
+        return f"node {a.node} is in group {a.group}, and node {b.node} is in group {b.group}: " + WHAT_TO_DO[refusal]
     if refusal is Refusal.LINK_EXISTS and b.node in near[a.node]:
-        return f"{a.node} and {b.node} are already linked"
+        return f"nodes {a.node} and {b.node} are already linked"
     if refusal is Refusal.NO_LINK and b.node not in near[a.node]:
-        return f"{a.node} and {b.node} are not linked; {a.node} is linked with {numbers(near[a.node]) or 'none'}"
+        return f"nodes {a.node} and {b.node} are not linked; node {a.node} is linked with {numbers(near[a.node]) or 'none'}"
     if refusal is Refusal.DEGREE_FULL and (full := [node for node in near if len(near[node]) >= MOST_AT_NODE]):
         return f"node {full[0]} has {MOST_AT_NODE} links: drop one first"
     if refusal is Refusal.LINKS_FULL and len(view.links) >= MOST_LINKS:
-        return f"{MOST_LINKS} links exist: drop one first"
+        return f"the network already has {MOST_LINKS} links: drop one first"
     return ""
 
 

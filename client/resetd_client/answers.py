@@ -102,8 +102,8 @@ class Garbled(NotTaken):
 
     name = "Garbled"
 
-    def __init__(self, line: str, where: str = "what answers") -> None:
-        super().__init__(f"{where} is not a coordinator: it said {line.strip()[:MOST_SHOWN]!r}")
+    def __init__(self, line: str, where: str = "the program that answered") -> None:
+        super().__init__(f"{where} is not a coordinator: it answered {line.strip()[:MOST_SHOWN]!r}")
         self.line = line
 
 
@@ -119,7 +119,7 @@ CARRIED_OUT = Reply("carried out", 0)  # if the reply itself was lost with a con
 Outcome = Reply | NotTaken
 
 
-def members_of(line: str, where: str = "what answers") -> dict[str, Any]:
+def members_of(line: str, where: str = "the program that answered") -> dict[str, Any]:
     """Returns the members of an answer line that is neither a refusal nor a fault; `where` names the sender. Raises NotNow,
     Refused, Faulted and Garbled."""
     try:

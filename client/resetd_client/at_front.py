@@ -30,7 +30,7 @@ class EarlierFront(NotTaken):
     name = "EarlierFront"
 
     def __init__(self) -> None:
-        super().__init__("the proxy is of an earlier version than this library, and does not know its orders: upgrade the proxy first")
+        super().__init__("the proxy is older than this library and does not know the library's orders: upgrade the proxy first")
 
 
 class AtFront:
@@ -114,7 +114,7 @@ def orders_of(port: Port, client: int | None, folder: str, *, held_seconds: floa
     if all(address.is_front for address in port.addresses):
         return AtFront(port, folder, held_seconds=held_seconds)
     if client is None:
-        raise BadWords("the server's own port needs a client, 1 to 16; only the proxy (unix:PATH, tls:HOST:PORT) needs none")
+        raise BadWords("orders at the server's own port need a client from 1 to 16; only orders at the proxy (unix:PATH, tls:HOST:PORT) need none")
     return Orders(port, client, folder, recovers=True, held_seconds=held_seconds, told=told)
 
 

@@ -15,7 +15,7 @@ def said(*words: str) -> str:
         done = subprocess.run(words, stdin=subprocess.DEVNULL, capture_output=True, encoding="utf-8", errors="replace",
                               timeout=LONGEST, check=False)
     except (OSError, subprocess.TimeoutExpired) as fault:
-        return f"{words[0]}: {fault.strerror if isinstance(fault, OSError) else f'did not end within {LONGEST:g} s'}\n"
+        return f"{words[0]}: {fault.strerror if isinstance(fault, OSError) else f'the command did not end within {LONGEST:g} s'}\n"
     return done.stdout + done.stderr
 
 
@@ -44,8 +44,8 @@ def devices_of(path: str) -> list[str]:
 def file_system(path: str) -> str:
     """Describes the mount, the free space and the devices, and whether each device has a volatile write cache."""
     space = os.statvfs(path)
-    lines = [mount_of(path), f"blocks of {space.f_frsize} bytes: {space.f_blocks}, {space.f_bavail} free; "
-             f"inodes: {space.f_files}, {space.f_favail} free"]
+    lines = [mount_of(path), f"{space.f_blocks} blocks of {space.f_frsize} bytes, of which {space.f_bavail} are free; "
+             f"{space.f_files} inodes, of which {space.f_favail} are free"]
     for name in devices_of(path):
         cache = f"/sys/block/{name}/queue/write_cache"
         lines.append(f"device {name}")
@@ -65,4 +65,4 @@ def kernel_lines(path: str) -> str:
     if len(told) < 2:  # there is no journal, or this user may not read it
         told = said("dmesg", "--time-format", "iso").splitlines()
     lines = "".join(f"{line}\n" for line in told if wanted.search(line))
-    return lines or f"none of the {len(told):,} lines is about {', '.join(names)}\n"
+    return lines or f"none of the kernel's {len(told):,} messages is about {', '.join(names)}\n"

@@ -55,6 +55,7 @@ def check_store(count: int, generation: int, settled: int) -> None:
     if count <= count_of(generation, settled):
         return
     if generation_of(count) > generation:
-        raise StoreWentBack(f"members with generation {generation_of(count)} were there, and this one has {generation}: start it with theirs")
-    raise StoreWentBack(f"a resource keeps the fence count {count}, and the coordinator's store has settled {settled} steps: it went back, or "
-                        f"an old coordinator answers; `resetctl restored --fence {count}` says what to do")
+        raise StoreWentBack(f"a member with generation {generation_of(count)} has used the resource, but this member has generation {generation}: "
+                            "start it with the greater generation")
+    raise StoreWentBack(f"a resource has the fence count {count}, but the coordinator's store has settled only {settled} steps: the store went "
+                        f"back, or an old coordinator answers. Run `resetctl restored --fence {count}`, which says what to do")

@@ -137,7 +137,7 @@ def read(path: str) -> str | None:
     except FileNotFoundError:
         return None
     except UnicodeDecodeError as fault:
-        raise Unreadable(path, ": it is not text; if the library wrote it, remove it") from fault
+        raise Unreadable(path, ": the file is not text; if the library wrote the file, remove it") from fault
 
 
 def read_bytes(path: str) -> bytes | None:

@@ -36,7 +36,7 @@ class Stopped(Exception):
 def check_every(seconds: float) -> None:
     """Raises BadWords unless this time between two looks is a positive number."""
     if not seconds > 0:
-        raise BadWords(f"{seconds} seconds between two looks: it must be more than 0")
+        raise BadWords(f"the time between two looks must be more than 0 seconds, not {seconds}")
 
 
 class Following:
@@ -89,8 +89,8 @@ class Following:
         """Asks for one reset of a node that it serves: an address that carries the order out does not show the past. An old
         coordinator carries out nothing; then the answer is awaited only as long as the port waits."""
         node = self._served_node()
-        self._told(f"node {node}: every address that answers shows fewer steps than were seen: asking for a reset, to find out "
-                   "which of them serves the store")
+        self._told(f"node {node}: every address that answers shows fewer steps than were seen before: asking for a reset, to find out "
+                   "which address serves the store")
         with suppress(Away):
             raise_unless(self.orders.order_all([{"op": "reset", "node": node}]), {Refusal.UNKNOWN_NODE})
 

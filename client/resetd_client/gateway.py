@@ -119,7 +119,7 @@ class Gateway(Following):
         self._is_through = False
         self._last: View | None = None
         if earlier := [seat.name for desk in self.desks for seat in desk.seats if seat.is_earlier]:
-            self._told(f"{len(earlier)} members have instructions of a gateway of an earlier version ({earlier[0]} is one): start them again "
+            self._told(f"{len(earlier)} members, such as {earlier[0]}, have instructions from a gateway of an earlier version: start them again "
                        "with this version")
 
     def look(self) -> View:
@@ -164,7 +164,7 @@ class Gateway(Following):
             self._waits = 0
             self._await_view()
             view = self._view()
-        raise Away("each look showed new epochs")
+        raise Away("the nodes had new epochs at every look")
 
     def _sooner(self, began: float) -> float:
         """A look is due when all instructed members have begun, or when no other member has begun for a moment: they are
@@ -205,7 +205,7 @@ class Gateway(Following):
         for each in begun:
             each.desk.note_confirmed()
         unfit = {each.desk.node: each.desk.starts.why(each.row) for each in judged if each.due is Due.RESET}
-        unfit.update({each.desk.node: "a member refuses the tag of another member, although both are shown the same"
+        unfit.update({each.desk.node: "a member refuses another member's tag, although both see the same view"
                       for each in judged if each.desk.is_parted()})
         for node in list(unfit)[:1]:
             self._ask_reset(node, unfit[node], next(each.row.epoch for each in judged if each.desk.node == node))
@@ -223,5 +223,5 @@ class Gateway(Following):
 
     def _note_absent(self, absent: set[int]) -> None:
         if absent != self._absent:
-            self._told(f"nodes that do not exist: {sorted(absent) or 'none'}")
+            self._told(f"nodes of this gateway that do not exist: {sorted(absent) or 'none'}")
         self._absent = absent

@@ -86,11 +86,11 @@ class Comparison:
         try:
             differs = difference(self._before, view, reading(self._path))
         except NotCompared as fault:
-            return Level.UNKNOWN, [f"the store can't be compared: {fault}"]
+            return Level.UNKNOWN, [f"the server's store can't be compared with the file: {fault}"]
         if not differs:
             return Level.OK, []
-        return Level.CRITICAL, [f"that is not the store on this file: {self._path} {differs}; the server's present answers are lost "
-                                "when it ends: leave it running (OPERATING, Backup and restore)"]
+        return Level.CRITICAL, [f"this file is not the server's store: {self._path}: {differs}. What the server answers now is lost "
+                                "when it ends, so leave it running (OPERATING, Backup and restore)"]
 
 
 def findings(view: View, since: Since, bounds: Bounds) -> list[str]:
@@ -103,7 +103,7 @@ def findings(view: View, since: Since, bounds: Bounds) -> list[str]:
         if node.epoch > node.confirmed:
             lasted = since.seconds(f"unconfirmed {node.node} {node.epoch}")
             if lasted >= bounds.unconfirmed:
-                found.append(f"epoch {node.epoch} of node {node.node} is unconfirmed for {lasted:.0f} s")
+                found.append(f"epoch {node.epoch} of node {node.node} has been unconfirmed for {lasted:.0f} s")
     return found
 
 
@@ -131,8 +131,8 @@ def still_waves(view: View, since: Since, bounds: Bounds) -> list[str]:
         alone = since.seconds(f"alone {rows}") if view.accepted == view.settled else 0.0
         if max(alone, lasted if settled > MOST_WAVE_STEPS else 0.0) >= bounds.wave:
             more = sum(each.mode != "ready" for each in party) - 1
-            found.append(f"a wave has stood still at node {node.node} ({node.mode}){f' and {more} more' if more else ''} for "
-                         f"{lasted:.0f} s: resend")
+            found.append(f"a wave has made no progress at node {node.node} ({node.mode}){f' and {more} more' if more else ''} for "
+                         f"{lasted:.0f} s: run resetctl resend")
     return found
 
 
@@ -141,31 +141,31 @@ def missing_signals(view: View, signals: Signals, since: Since, bounds: Bounds) 
     try:
         lacking = signals.lacking(view)
     except OSError as fault:
-        return [f"the file of signals {fault.filename}: {fault.strerror}"]
+        return [f"the file of signals can't be read: {fault.filename}: {fault.strerror}"]
     lasted = {signal: since.seconds("unsignalled {} {}".format(*signal)) for signal in lacking}
     late = [signal for signal in lacking if lasted[signal] >= bounds.signals]
     if not late:
         return []
     more = f" and {len(late) - 1} more" if len(late) > 1 else ""
-    return ["the file of signals lacks `signal {} {}`{} for {:.0f} s: the server can't print, and services learn of a reset only "
-            "by looking; free some space and restart it".format(*late[0], more, lasted[late[0]])]
+    return ["the file of signals lacks `signal {} {}`{} for {:.0f} s: the server can't print, so services learn of a reset only "
+            "by looking. Free some disk space and restart the server".format(*late[0], more, lasted[late[0]])]
 
 
 def metrics(view: View | None, is_stopped: bool, differs: bool | None = None) -> str:
     """Formats the metrics for node_exporter's textfile collector. `differs`: whether the store differs from the one in its
     file, or None if unknown."""
     rows = [("resetd_up", "gauge", "1 if the server answers", [("", int(view is not None or is_stopped))]),
-            ("resetd_stopped", "gauge", "1 if the server answers Stopped", [("", int(is_stopped))])]
+            ("resetd_stopped", "gauge", "1 if the server answers with Stopped", [("", int(is_stopped))])]
     if differs is not None:
-        rows.append(("resetd_store_differs", "gauge", "1 if the server's store is no longer on its file", [("", int(differs))]))
+        rows.append(("resetd_store_differs", "gauge", "1 if the store's file is no longer the server's store", [("", int(differs))]))
     if view:
         names = [(f'{{node="{node.node}",group="{node.group}"}}', node) for node in view.nodes]
         rows += [
-            ("resetd_steps_accepted", "gauge", "steps that were accepted", [("", view.accepted)]),
-            ("resetd_steps_settled", "gauge", "steps that are on the disk", [("", view.settled)]),
-            ("resetd_links", "gauge", "links", [("", len(view.links))]),
+            ("resetd_steps_accepted", "gauge", "the number of accepted steps", [("", view.accepted)]),
+            ("resetd_steps_settled", "gauge", "the number of steps on the disk", [("", view.settled)]),
+            ("resetd_links", "gauge", "the number of links", [("", len(view.links))]),
             ("resetd_node_epoch", "gauge", "a node's epoch", [(name, node.epoch) for name, node in names]),
-            ("resetd_node_confirmed", "gauge", "the last epoch that was confirmed",
+            ("resetd_node_confirmed", "gauge", "the node's last confirmed epoch",
              [(name, node.confirmed) for name, node in names]),
             ("resetd_node_in_reset", "gauge", "1 if the node is in a reset",
              [(name, int(node.mode != "ready")) for name, node in names])]

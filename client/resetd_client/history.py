@@ -22,7 +22,7 @@ class History:
         text = files.read_bytes(path) or b""
         self._size = text.rfind(b"\n") + 1  # the size of the complete lines
         if not LINES.fullmatch(text, 0, self._size):
-            raise Unreadable(path, ": remove it and the member's other files; the member then asks for a reset")
+            raise Unreadable(path, ": remove this file and the member's other files; the member then asks for a reset")
         self._digests = {bytes.fromhex(line.decode()) for line in text[:self._size].splitlines()}
         self._added: list[str] = []
 

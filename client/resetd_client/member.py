@@ -90,7 +90,7 @@ class Member(Following):
         if `begun` is given for work in memory, or for an invalid generation."""
         super().__init__(orders, told)
         if work is Work.MEMORY and begun is not None:
-            raise BadWords("work in memory does not outlive its process: give begun=None")
+            raise BadWords("work that is only in memory ends with its process: pass begun=None")
         check_generation(generation)
         self.port, self.node, self._generation = port, node, generation
         self._shelf = Shelf(os.path.join(orders.folder, f"start-{node}.json"))
@@ -143,10 +143,10 @@ class Member(Following):
             if self._fault:
                 raise self._fault
             if run is None:
-                raise OutOfRun("there is no run")
+                raise OutOfRun("this member has no run at present")
             if tag is not None and not run.takes(tag):
                 self._refuse(tag)
-                raise OutOfRun(f"{tag} belongs to another run")
+                raise OutOfRun(f"the tag {tag} belongs to another run")
             yield run
 
     def reset(self, why: str) -> None:
@@ -180,7 +180,7 @@ class Member(Following):
             if row is None or not self._advance(view, row):
                 return view
             self._await_view()
-        raise Away(f"each look showed a new epoch of node {self.node}")
+        raise Away(f"node {self.node} had a new epoch at every look")
 
     def follow(self, wakes: Wakes, every: float = LOOK_SECONDS, after: Callable[[View], None] | None = None) -> None:
         """Looks immediately, at each wake-up, after this many seconds, and after each absence of the coordinator, until no more
@@ -217,7 +217,7 @@ class Member(Following):
             self.follow(self._wakes, self._every)
         except BaseException as fault:  # raised to the caller when the `with` ends
             self._fault = fault
-            self._told(f"node {self.node}: the member no longer follows: {fault!r}")
+            self._told(f"node {self.node}: the member has stopped following the coordinator because of {fault!r}")
             self._set_run(None)
 
     def _sooner(self, began: float) -> float:
@@ -250,9 +250,9 @@ class Member(Following):
         if due is Due.BEGIN:
             self._begin_anew(view, row)
         elif is_parted:
-            self._ask_reset(self.node, "a connected member talks in another run, and sees the same view", row.epoch)
+            self._ask_reset(self.node, "a connected member is in another run, although it sees the same view", row.epoch)
         elif is_overtaken:
-            self._ask_reset(self.node, "a start of its group, in another run, has taken over the resource that they share", row.epoch)
+            self._ask_reset(self.node, "another run of its group has taken over the resource that they share", row.epoch)
         elif due is Due.RESET:
             self._ask_reset(self.node, self._starts.why(row), row.epoch)
         else:
@@ -304,7 +304,7 @@ class Member(Following):
 
     def _note_presence(self, is_there: bool) -> None:
         if is_there != self._is_there:
-            self._told(f"node {self.node} is {'there again' if is_there else 'not there'}")
+            self._told(f"node {self.node} {'exists again' if is_there else 'does not exist'}")
         if not is_there:
             self._set_run(None)
         self._is_there = is_there

@@ -35,7 +35,7 @@ class Newest:
         with self._turn:
             if self._address not in (None, address) and view.settled < self._settled:
                 self._past[address] = view.accepted
-                raise Past(f"{address} shows {view.settled} settled steps, and {self._address} has shown {self._settled}")
+                raise Past(f"{address} shows {view.settled} settled steps, but {self._address} has already shown {self._settled}")
             self._note(address, view.settled)
 
     def note_order(self, address: Address, step: int) -> None:

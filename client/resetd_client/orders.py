@@ -83,7 +83,7 @@ class Orders:
         the folder. `told` receives messages for a person; by default they are logged to `resetd_client`. Raises BadWords,
         Held, and Unreadable if the folder's file can't be read."""
         if client not in CLIENTS:
-            raise BadWords(f"{client} is not a client: clients are 1 to {CLIENTS[-1]}")
+            raise BadWords(f"{client} is not a client's number: clients have the numbers 1 to {CLIENTS[-1]}")
         self.port, self.client, self.recovers, self.told = port, client, recovers, told
         self.folder = folder
         self._lock = files.hold(folder, held_seconds)
@@ -176,7 +176,7 @@ class Orders:
         with self._turn:
             number = find_count(self.port, self.client, self.number, most, node)
             if self._is_known and number != self.number:
-                self.told(f"client {self.client}: the last order had number {number}, not {self.number}")
+                self.told(f"client {self.client}: the last order had number {number}, not {self.number} as stored")
             self._note(number, [])
             return number
 
@@ -187,7 +187,7 @@ class Orders:
         rest = series.rest[:AT_ONCE if self._is_proved else 1]
         if self._kept.pending and self._kept.pending != series.rest[:len(self._kept.pending)]:
             self._settle_others()
-        had_no_answer = " got no answer at first, and then" if self._kept.pending else ""
+        had_no_answer = ", which had no answer at first," if self._kept.pending else ""
         if not self._kept.pending:
             self._note(self._kept.number, rest)
         self._owner = series
@@ -206,11 +206,13 @@ class Orders:
         try:
             for outcome in self.settle():
                 if isinstance(outcome, NotTaken):
-                    self.told(f"client {self.client}: {others}, from number {number}, got no answer at first, and then {outcome}")
+                    self.told(f"client {self.client}: the orders {others}, from number {number}, had no answer at first, "
+                              f"and now the answer is {outcome}")
         except CountLost as lost:
             if not self.recovers:
                 raise
-            self.told(f"client {self.client}: {others}, from number {number}, got no answer at first, and then {lost}: given up")
+            self.told(f"client {self.client}: the orders {others}, from number {number}, had no answer at first, "
+                      f"and now the answer is {lost}: giving them up")
             self.recover(node=others[0].get("node"))
 
     def _send(self, series: Series, above: int) -> None:
@@ -260,7 +262,7 @@ class Orders:
                 return Kept(int(kept["number"]), [])
             return Kept(int(kept["number"]) - 1, [dict(order) for order in [kept["order"], *kept.get("behind", [])]])
         except (ValueError, KeyError, TypeError, AttributeError) as fault:
-            raise Unreadable(self._path, " as an order: remove it; the order number is then recovered") from fault
+            raise Unreadable(self._path, " as an order: remove the file; the order number is then recovered") from fault
 
 
 def outcome_of(answer: dict[str, Any] | NotTaken, above: int) -> Outcome:
@@ -294,7 +296,7 @@ def find_count(port: Port, client: int, near: int = 0, most: int = MOST_TRIED, n
         probes = [{"op": "confirm", "client": client, "number": number, "node": node, "epoch": 0} for number in part]
         for number, answer in zip(part, port.ask_many(probes)):
             if not isinstance(answer, Refused):
-                raise Garbled(f"a confirm of epoch 0 got the answer {answer}")
+                raise Garbled(f"a confirm of epoch 0 was answered with {answer}")
             if answer.refusal is Refusal.NUMBER_REUSED:
                 return number
             if answer.refusal in NEXT_IS:
@@ -303,8 +305,8 @@ def find_count(port: Port, client: int, near: int = 0, most: int = MOST_TRIED, n
                 raise answer
         tried, at_once = tried + len(part), min(16 * at_once, PROBES)
     raise CountNotFound(
-        f"client {client}: of {tried} numbers around {near}, up to {greatest}, none is that of its last or its next order: "
-        f"use a client that was never used, or try more")
+        f"client {client}: {tried} numbers around {near}, up to {greatest}, were tried, and none is the number of the client's last or "
+        f"next order: use a client that was never used, or try more numbers")
 
 
 def outwards(near: int, greatest: int) -> Iterator[int]:

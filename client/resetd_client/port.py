@@ -156,8 +156,8 @@ class Port:
                     if not came and not is_silent and (refusal := address.refusal()):
                         raise refusal
                     raise Away(f"{address}: " + (
-                        f"connected, but no answer for {self.seconds:g} s: another client may hold the one connection"
-                        if is_silent else "it ended the connection without an answer"))
+                        f"connected, but got no answer for {self.seconds:g} s: another client may hold the server's only connection"
+                        if is_silent else "the other end closed the connection without an answer"))
 
     def _at_one(self, call: Callable[[Address], T]) -> T:
         """Returns the result of a call at the first address that answers. If none does, raises the "not now" of one of them, or
@@ -197,7 +197,7 @@ def line_of(request: Request) -> bytes:
     """Returns the line of a request. Raises TooLong."""
     line = json.dumps(dict(request), separators=(",", ":")).encode() + b"\n"
     if len(line) > MOST_BYTES + 1:
-        raise TooLong(f"a line has at most {MOST_BYTES} bytes, but this request has {len(line) - 1}")
+        raise TooLong(f"a line may have at most {MOST_BYTES} bytes, but this request has {len(line) - 1}")
     return line
 
 

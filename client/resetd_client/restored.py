@@ -26,14 +26,14 @@ def renew(port: Port, orders: Orders, seconds: float) -> str:
     until = time.monotonic() + seconds
     while behind := not_risen(first, view):
         if time.monotonic() > until:
-            raise Away(f"no new epoch yet at {named(behind)}; run `resetctl resend`, and then this command again")
+            raise Away(f"there is no new epoch yet at {named(behind)}: run `resetctl resend`, and then this command again")
         for group in groups(view):
             due = [node for node in group if node.node in behind]
             if due and all(node.mode == "ready" for node in group):
                 reset(orders, due[0].node, view.accepted, seconds)
         time.sleep(LOOK_SECONDS)
         view = patiently(port.show, seconds)
-    return f"a reset in each of {len(groups(first))} groups: all {len(first.nodes)} nodes have a new epoch"
+    return f"each of the {len(groups(first))} groups was reset, and all {len(first.nodes)} nodes have a new epoch"
 
 
 def reset(orders: Orders, node: int, accepted: int, seconds: float) -> None:

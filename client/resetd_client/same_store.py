@@ -26,11 +26,11 @@ def reading(path: str) -> Reading:
     try:
         return Reading(read_store(path).count)
     except NoStore as fault:
-        return Reading(None, f"is not a readable store ({fault})")
+        return Reading(None, f"the file is not a readable store ({fault})")
     except (PermissionError, Restless) as fault:
         raise NotCompared(f"{path}: {fault.strerror if isinstance(fault, OSError) else fault}") from fault
     except OSError as fault:
-        return Reading(None, f"can't be read ({fault.strerror})")
+        return Reading(None, f"the file can't be read ({fault.strerror})")
 
 
 def difference(before: Reading, view: View, after: Reading) -> str:
@@ -40,7 +40,7 @@ def difference(before: Reading, view: View, after: Reading) -> str:
     if after.count is None:
         return after.why_not
     if after.count < view.settled:
-        return f"has {after.count:,} steps, and the coordinator has {view.settled:,} on the disk"
+        return f"the file has {after.count:,} steps, but the coordinator has {view.settled:,} steps on the disk"
     if before.count is not None and before.count > view.accepted:
-        return f"had {before.count:,} steps, and the coordinator had accepted {view.accepted:,}"
+        return f"the file had {before.count:,} steps, but the coordinator had accepted only {view.accepted:,}"
     return ""

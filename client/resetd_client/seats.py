@@ -92,7 +92,7 @@ class Seat:
         """Raises BadWords for a name that can't be written in a line."""
         self.folder, self.name = folder, os.path.basename(folder)
         if self.name == BOARD or not NAME.fullmatch(self.name):
-            raise BadWords(f"{self.name!r} can't be a member's name: a name has no blanks, and is not {BOARD!r}")
+            raise BadWords(f"{self.name!r} can't be a member's name: a name must have no blanks, and must not be {BOARD!r}")
         os.makedirs(folder, exist_ok=True)
         self._begun = Cached(os.path.join(folder, "begun"))
         self._wanted = number_of(files.read(os.path.join(folder, "wanted")))
@@ -149,7 +149,8 @@ class Served:
         self._changes = Changes([path])
         self._changes.take()
         if os.path.exists(os.path.join(self._folder, "wanted")):
-            warn(f"{folder}: the gateway is of an earlier version: start it again with this one, which instructs its members in {path}")
+            warn(f"{folder}: the gateway is of an earlier version: start the gateway again with this version, "
+                 f"which writes its instructions to {path}")
 
     def wanted(self) -> int | None:
         """The epoch to begin, or None if the member has begun, or lost, the last one."""

@@ -56,15 +56,15 @@ def read_rows(path: str, text: str | None, boot: str) -> dict[int, Row]:
     try:
         rows = dict(json.loads(text).items())
     except (ValueError, AttributeError) as fault:
-        raise Unreadable(path, ": remove it; the member then asks for a reset") from fault
+        raise Unreadable(path, ": remove the file; the member then asks for a reset") from fault
     unknown = sorted({name for row in rows.values() if isinstance(row, dict) for name in row} - KNOWN)
     if unknown:
-        raise Unreadable(path, f": a later version of the library wrote it ({unknown[0]!r}). Use that version, or remove the file; "
+        raise Unreadable(path, f": a later version of the library wrote the file, which has {unknown[0]!r}. Use that version, or remove the file; "
                                "the member then asks for a reset")
     try:
         return {int(node): read_row(row, boot) for node, row in rows.items()}
     except (ValueError, KeyError, TypeError, AttributeError) as fault:
-        raise Unreadable(path, ": remove it; the member then asks for a reset") from fault
+        raise Unreadable(path, ": remove the file; the member then asks for a reset") from fault
 
 
 def read_row(row: dict[str, object], boot: str) -> Row:

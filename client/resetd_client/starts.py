@@ -210,11 +210,11 @@ class Starts:
     def why(self, row: Node) -> str:
         """Describes why a reset is due."""
         if row.epoch > row.confirmed:
-            return f"at epoch {row.epoch} the connected nodes and links are the same as for an earlier start"
+            return f"epoch {row.epoch} has the same connected nodes and links as an earlier start"
         if row.epoch == self.begun:
-            return f"other nodes or links are connected than at the beginning of epoch {row.epoch}"
-        work = "no work was begun" if self.begun is None else f"epoch {self.begun} was begun"
-        return f"epoch {row.epoch} is shown and confirmed, but {work} here"
+            return f"the connected nodes or links have changed since epoch {row.epoch} began"
+        work = "this member has begun no work" if self.begun is None else f"this member has begun epoch {self.begun}"
+        return f"epoch {row.epoch} is confirmed, but {work}"
 
     def note_begin(self, told: str | None = None) -> None:
         """Records that a start begins. Call this, and `keep`, before any work of the previous start is dropped. The previous

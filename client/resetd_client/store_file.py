@@ -91,7 +91,7 @@ def store_of(half: Half) -> Store:
     """Returns the store that a half encodes. It does not check whether the world accepts the steps; `resetd check` does. Raises
     NoStore."""
     if half.version not in VERSIONS:
-        raise NoStore("BadSnapshot", half.start, f"version {half.version} is not known")
+        raise NoStore("BadSnapshot", half.start, f"this library does not know version {half.version} of the format")
     try:
         world = world_of(half.snapshot, half.version)
     except NotSpelled as fault:
@@ -119,7 +119,7 @@ def read_half(read: Read, is_other: bool = False) -> Half:
     for _ in range(MOST_PASSES):
         if (half := one_pass(read, size, is_other)) is not None:
             return half
-    raise Restless(f"a checkpoint interrupted all {MOST_PASSES} attempts to read it")
+    raise Restless(f"a checkpoint interrupted all {MOST_PASSES} attempts to read the store")
 
 
 def one_pass(read: Read, size: int, is_other: bool) -> Half | None:
@@ -165,10 +165,10 @@ def walked(read: Read, size: int, index: int, top: bytes) -> Half:
     def with_gate(place: int, length: int, most: int, what: str) -> tuple[bytes, int]:
         """Returns a field and the gate after it."""
         if length > most:
-            raise NoStore("BadRecord", start + place - 4, f"{what} has {length} bytes, more than {most}")
+            raise NoStore("BadRecord", start + place - 4, f"{what} has {length} bytes, more than the maximum of {most}")
         field = read(start + place, length + 1)
         if place + length >= size or len(field) <= length:
-            raise NoStore("BadRecord", start + place, f"{what} of {length} bytes extends past the end with its gate")
+            raise NoStore("BadRecord", start + place, f"{what} of {length} bytes and its gate byte extend past the end")
         return field[:-1], field[-1]
 
     snapshot, gate = with_gate(TOP, int.from_bytes(top[1:TOP], "big"), MOST_SNAPSHOT, "a snapshot")

@@ -68,7 +68,7 @@ def read_topology(text: bytes) -> Network:
     """Reads the network in a topology file. Like `resetd init`, it checks keys before values, and values before the rows.
     Raises BadTopology."""
     if len(text) > MOST_BYTES:
-        raise BadTopology("NotToml", f"over {MOST_BYTES} bytes")
+        raise BadTopology("NotToml", f"the file has more than {MOST_BYTES} bytes")
     try:
         top = tomllib.loads(text.decode("utf-8"))
     except (ValueError, RecursionError) as fault:
@@ -97,16 +97,16 @@ def add_link(network: Network, a: int, b: int) -> None:
         if end not in network.groups:
             raise BadTopology("6 UnknownNode", f"link {a} {b}: there is no node {end}")
     if a == b:
-        raise BadTopology("9 SameNode", f"link {a} {b}: one node")
+        raise BadTopology("9 SameNode", f"link {a} {b}: both ends are the same node")
     if network.groups[a] != network.groups[b]:
-        raise BadTopology("10 OtherGroup", f"link {a} {b}: two groups")
+        raise BadTopology("10 OtherGroup", f"link {a} {b}: the nodes are in different groups")
     if pair(a, b) in network.links:
         raise BadTopology("11 LinkExists", f"link {a} {b} occurs twice")
     network.links.add(pair(a, b))
     if max(network.degree(a), network.degree(b)) > MOST_LINKS_AT_NODE:
-        raise BadTopology("13 DegreeFull", f"link {a} {b}: a node has at most {MOST_LINKS_AT_NODE} links")
+        raise BadTopology("13 DegreeFull", f"link {a} {b}: a node may have at most {MOST_LINKS_AT_NODE} links")
     if len(network.links) > MOST_LINKS:
-        raise BadTopology("14 LinksFull", f"more than {MOST_LINKS} links")
+        raise BadTopology("14 LinksFull", f"the topology has more than {MOST_LINKS} links")
 
 
 def tables(top: dict[str, Any], key: str) -> Iterator[dict[str, Any]]:
@@ -154,15 +154,15 @@ def plan(have: Network, want: Network) -> list[Order]:
 
     regrouped = sorted(n for n in have.groups if n in want.groups and have.groups[n] != want.groups[n])
     for link in sorted(now.links_of(regrouped)):
-        drop(link, "an end changes its group")
+        drop(link, "the group of a linked node changes")
     for node in regrouped:
-        order("remove", f"its group changes from {have.groups[node]} to {want.groups[node]}", node=node)
-        order("add", "its epochs begin again", node=node, group=want.groups[node])
+        order("remove", f"the node's group changes from {have.groups[node]} to {want.groups[node]}", node=node)
+        order("add", "the node's epochs begin again", node=node, group=want.groups[node])
     for node in sorted(set(want.groups) - set(have.groups)):
         order("add", node=node, group=want.groups[node])
     for link in sorted(want.links - now.links):
         for room in rooms(now, want, link):
-            drop(room, f"before {link[0]} and {link[1]} are joined: there is no room for both")
+            drop(room, f"this makes room for the link between {link[0]} and {link[1]}")
         now.links.add(link)
         order("join", a=link[0], b=link[1])
     for link in sorted(now.links - want.links):

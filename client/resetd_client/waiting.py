@@ -23,33 +23,34 @@ def of_groups(view: View, audit: str) -> Iterator[Finding]:
     for part in parts.values():
         yield from of_group(part, entries)
     if fault:
-        yield Finding("group", f"no times, since the proxy's audit can't be read: {fault}", left_out="how long a group has waited")
+        yield Finding("group", f"how long a group has waited is unknown, because the proxy's audit can't be read: {fault}",
+                      left_out="how long a group has waited")
 
 
 def of_group(part: Part, entries: list[Entry]) -> Iterator[Finding]:
     in_reset = [str(node.node) for node in part.nodes if node.mode != "ready"]
     if in_reset:
-        yield Finding("group", f"a reset is at {', '.join(in_reset)}")
+        yield Finding("group", f"a reset is in progress at these nodes: {', '.join(in_reset)}")
     nodes = {node.node for node in part.nodes}
     since = last_time(entry for entry in entries if is_reset_of(entry, nodes))
     for node in part.nodes:
         if node.epoch > node.confirmed:
-            yield Finding("group", f"node {node.node} has not confirmed epoch {node.epoch}{f', since {since}' if since else ''}: "
+            yield Finding("group", f"node {node.node} has not confirmed epoch {node.epoch}{f' since the reset at {since}' if since else ''}: "
                                    f"{others(part)}{sign_of_life(node, entries)}")
 
 
 def others(part: Part) -> str:
     """Describes the members that wait for one member."""
-    return f"the {len(part.nodes)} nodes of its group wait" if len(part.nodes) > 1 else "no node is connected with it"
+    return f"all {len(part.nodes)} nodes of its group wait for this" if len(part.nodes) > 1 else "no other node is connected with it"
 
 
 def sign_of_life(node: Node, entries: list[Entry]) -> str:
     """Describes the last sign of life of the member in the audit: a confirm or a reset of its node."""
     mine = [entry for entry in entries if request_of(entry).get("op") in ("confirm", "reset") and request_of(entry).get("node") == node.node]
     if not mine:
-        return "; the audit has no sign of life from it" if entries else ""
+        return "; the audit has no sign of life from this node" if entries else ""
     last = mine[-1]
-    return f"; its last sign of life: {request_of(last)['op']} at {last['time']} by {name_of(last.get('who')) or 'somebody'}"
+    return f"; the node's last sign of life was a {request_of(last)['op']} at {last['time']} by {name_of(last.get('who')) or 'somebody'}"
 
 
 def name_of(who: object) -> object:

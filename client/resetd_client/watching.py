@@ -80,7 +80,7 @@ class Pushed:
         if self._is_ready(max(0.0, min(seconds, silence))):
             self._read()
         elif silence <= 0:
-            raise Away(f"{self.address}: no line for {SILENCE_SECONDS:g} s")
+            raise Away(f"{self.address}: the proxy has sent no line for {SILENCE_SECONDS:g} s")
         *lines, self._rest = self._rest.split(b"\n")
         if self._is_answered or len(lines) > 1:
             lines = [line for place, line in enumerate(lines) if not self._takes(line, place)]
@@ -128,7 +128,7 @@ class Watched:
         self._newest = port.newest
         self._addresses = [address for address in port.addresses if address.is_front]
         if not self._addresses:
-            raise BadWords("no address of the proxy (unix:PATH, tls:HOST:PORT) to watch")
+            raise BadWords("watching needs an address of the proxy (unix:PATH or tls:HOST:PORT), and there is none")
         self._pushed: Pushed | None = None
         self._seconds, self._turn = seconds, 0
         self._pause, self._not_before = FIRST_PAUSE, 0.0
@@ -170,7 +170,7 @@ class Watched:
                         self._take(pushed, each)
                         on_view(each)
                 if pushed.awaited and (pushed.is_over or time.monotonic() > until):
-                    raise Away(f"{pushed.address}: no answer")
+                    raise Away(f"{pushed.address}: the proxy sent no answer in time")
             return pushed.answers
         except BaseException as fault:
             self.close()
@@ -189,7 +189,7 @@ class Watched:
         if self._pushed is None:
             self._connect(self._seconds)
         if self._pushed is None:
-            raise Away(f"{self._address}: no connection")
+            raise Away(f"{self._address}: there is no connection to the proxy")
         return self._pushed
 
     def _take(self, pushed: Pushed, view: View) -> None:
@@ -289,7 +289,7 @@ def views(port: Port, seconds: float = 5.0) -> Iterator[View]:
     BadWords if none of the addresses is one of the proxy."""
     proxies = [address for address in port.addresses if address.is_front]
     if not proxies:
-        raise BadWords("no address of the proxy (unix:PATH, tls:HOST:PORT) to watch")
+        raise BadWords("watching needs an address of the proxy (unix:PATH or tls:HOST:PORT), and there is none")
     pushed = Pushed(proxies[0], seconds)
     try:
         seen: View | None = None
@@ -298,6 +298,6 @@ def views(port: Port, seconds: float = 5.0) -> Iterator[View]:
                 if view != seen:
                     yield view
                 seen = view
-        raise Away(f"{proxies[0]}: it ended the connection")
+        raise Away(f"{proxies[0]}: the proxy closed the connection")
     finally:
         pushed.close()

@@ -28,9 +28,9 @@ def of_file(path: str, account: Account | None = None) -> Iterator[Finding]:
     except OSError as fault:
         yield of_absence(path, fault)
         return
-    kind = KINDS.get(stat.S_IFMT(found.st_mode), "file of another kind")
+    kind = KINDS.get(stat.S_IFMT(found.st_mode), "file of an unknown kind")
     is_file = kind == "file"
-    yield Finding("file", f"a {kind} of {found.st_size:,} bytes, {owned(found)}" + ("" if is_file else "; a store is a regular file"),
+    yield Finding("file", f"a {kind} of {found.st_size:,} bytes, {owned(found)}" + ("" if is_file else "; a store must be a regular file"),
                   "" if is_file else "Device")
     if not is_file:
         return
@@ -39,9 +39,9 @@ def of_file(path: str, account: Account | None = None) -> Iterator[Finding]:
     try:
         store = read_store(path)
     except NoStore as fault:
-        yield Finding("store", f"is not a readable store: {fault}" + (": the file is empty" if not found.st_size else ""), fault.name)
+        yield Finding("store", f"the file is not a readable store: {fault}" + (": the file is empty" if not found.st_size else ""), fault.name)
     except (OSError, Restless) as fault:
-        yield Finding("store", f"can't be read: {fault}", "Device")
+        yield Finding("store", f"the file can't be read: {fault}", "Device")
     else:
         yield from of_store(store)
     yield from of_space(path, found)
@@ -52,8 +52,8 @@ def of_absence(path: str, fault: OSError) -> Finding:
     if fault.errno != errno.ENOENT:
         return Finding("file", f"{fault.strerror}", "Device")
     if os.path.islink(path):
-        return Finding("file", f"a symbolic link to a missing file: {os.path.realpath(path)}", "Device")
-    return Finding("file", f"{fault.strerror}; a start would create an empty file", "NoMagic")
+        return Finding("file", f"the path is a symbolic link to a missing file: {os.path.realpath(path)}", "Device")
+    return Finding("file", f"{fault.strerror}; a start of the server would create an empty file", "NoMagic")
 
 
 def of_folder(folder: str) -> Iterator[Finding]:
@@ -75,39 +75,39 @@ def owned(found: os.stat_result) -> str:
 def of_access(path: str, account: Account) -> Iterator[Finding]:
     """Reports whether the server's user may use the file and its folder, and whether the disk completes a sync."""
     if not may_try_as(account):
-        yield Finding("access", f"only root can check whether {account.name} may open it (sudo)",
-                      left_out=f"whether {account.name} may open it")
+        yield Finding("access", f"only root can check whether the user {account.name} may open the store: use sudo",
+                      left_out=f"whether the user {account.name} may open the store")
         return
     if not account.is_known:
-        yield Finding("access", f"no user of this machine has the number {account.uid}, which owns the folder: it may be from another "
-                                "machine; give the server's user with --user")
+        yield Finding("access", f"the folder belongs to user number {account.uid}, but no user of this machine has that number: the folder may "
+                                "be from another machine. Name the server's user with --user")
     trial = tried_as(account, os.path.realpath(path))
     if trial.failed:
-        yield Finding("access", f"the user {account.name} {trial.failed}; if the server runs as {account.name}, run chown {account.name} "
-                                f"{path}, and check the modes above", "Device")
+        yield Finding("access", f"the user {account.name} {trial.failed}. If the server runs as {account.name}, run chown {account.name} "
+                                f"{path}, and check the modes in the lines above", "Device")
     elif trial.synced is None:
-        yield Finding("access", f"opening and syncing it and its folder takes longer than {SYNC_SECONDS:g} s",
-                      later="a slow or hanging disk")
+        yield Finding("access", f"opening and syncing the store and its folder takes longer than {SYNC_SECONDS:g} s",
+                      later="the disk is slow or hangs")
     else:
-        yield Finding("access", f"the user {account.name} may open it and its folder; syncing both took {trial.synced:.3f} s")
+        yield Finding("access", f"the user {account.name} may open the store and its folder; syncing both took {trial.synced:.3f} s")
 
 
 def of_lock(found: os.stat_result) -> Iterator[Finding]:
     """Reports which process has locked the file."""
     holders = lock_holders(found)
     for process in holders:
-        yield Finding("lock", f"held by process {process}{commanded(process)}: a second start is refused", "Device")
+        yield Finding("lock", f"process {process}{commanded(process)} holds the lock, so a second start is refused", "Device")
         yield from of_program(process)
         yield from of_output(process)
     if not holders:
-        yield Finding("lock", "no process on this machine holds it")
+        yield Finding("lock", "no process on this machine holds the lock")
 
 
 def of_program(process: int) -> Iterator[Finding]:
     """Reports which program a process runs. This distinguishes one build of the server from another."""
     if program := program_of(process):
         yield Finding("program", f"process {process} runs {program.path}, SHA-256 {program.checksum}" + (
-            "" if program.is_there else "; the file at that path has changed: the process runs the old one until it is restarted"))
+            "" if program.is_there else "; the file at that path has changed: the process runs the old program until it is restarted"))
 
 
 def of_output(process: int) -> Iterator[Finding]:
@@ -116,13 +116,14 @@ def of_output(process: int) -> Iterator[Finding]:
     if pipe is not None:
         read = ", ".join(f"process {each}{commanded(each)}" for each in pipe.readers) or "no process"
         yield Finding("output", f"process {process} writes to a pipe that {read} reads" +
-                      ("; it is full: end its reader" if pipe.is_full else ""), later="an output that nobody reads" if pipe.is_full else "")
+                      ("; the pipe is full: end the process that reads it" if pipe.is_full else ""),
+                      later="nobody reads the server's output" if pipe.is_full else "")
 
 
 def of_limit(who: str, limit: int | None, needed: int) -> Iterator[Finding]:
     if limit is not None and limit < needed:
-        yield Finding("limit", f"{who} may write files of at most {limit:,} bytes: a longer one ends it by SIGXFSZ, without a message",
-                      later="its end by a signal")
+        yield Finding("limit", f"{who} may write files of at most {limit:,} bytes: at a longer file, SIGXFSZ ends it without a message",
+                      later="a signal ends the server")
 
 
 def of_store(store: Store) -> Iterator[Finding]:
@@ -134,14 +135,14 @@ def of_store(store: Store) -> Iterator[Finding]:
     nodes = [node for node, mode in store.world.modes.items() if mode != "ready"]
     if nodes:
         yield Finding("store", f"in the snapshot these nodes are in a reset: {', '.join(map(str, nodes))}")
-    yield Finding("store", "its bytes are a store; resetd check says whether its steps are accepted and its world is legal")
+    yield Finding("store", "the file is a readable store; resetd check reports whether its steps are accepted and its world is legal")
 
 
 def of_space(path: str, found: os.stat_result) -> Iterator[Finding]:
     """Reports whether the file can grow to its full length."""
     space, full = os.statvfs(path), HEADER + 2 * half_size(path)
     free, lacks = space.f_bavail * space.f_frsize, max(full - found.st_blocks * 512, 0)
-    yield Finding("space", f"{free:,} bytes are free, and the file may take {lacks:,} more",
+    yield Finding("space", f"{free:,} bytes are free, and the store may need up to {lacks:,} more",
                   later="Stopped" if free < lacks else "")
     if space.f_flag & os.ST_RDONLY:
         yield Finding("space", "the file system is mounted read-only", "Device")

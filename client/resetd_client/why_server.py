@@ -19,10 +19,11 @@ from .waiting import AUDIT, of_groups
 
 KEPT_SECONDS = "11 minutes"  # the longest time for which one client keeps all others waiting
 CONDITIONS = {
-    Condition.STOPPED: ("is stopped by a signal (SIGSTOP or a debugger): kill -CONT {} continues it", "a stop"),
-    Condition.IN_A_CALL: ("has a thread in a system call that does not return, such as a sync of a slow or hanging disk: "
-                          "see the kernel's log (journalctl -k)", "a slow or hanging disk"),
-    Condition.SPINNING: ("has a thread that is always busy, either working or spinning", ""),
+    Condition.STOPPED: ("process {process} is stopped by a signal (SIGSTOP or a debugger): kill -CONT {process} continues it",
+                        "a signal has stopped the server"),
+    Condition.IN_A_CALL: ("process {process} has a thread in a system call that does not return, such as a sync of a slow or hanging disk: "
+                          "see the kernel's log (journalctl -k)", "the disk is slow or hangs"),
+    Condition.SPINNING: ("process {process} has a thread that is always busy, either working or spinning", ""),
 }
 
 
@@ -34,7 +35,7 @@ def of_address(text: str, seconds: float, path: str, audit: str = AUDIT) -> Iter
         host, port = host_and_port(text)
         socket.inet_aton(host)
     except (ValueError, OSError):
-        yield Finding("address", f"{text} is not of the form A.B.C.D:P", "Usage")
+        yield Finding("address", f"the address {text} is not of the form A.B.C.D:P", "Usage")
         return
     try:
         with socket.socket() as trial:
@@ -42,10 +43,10 @@ def of_address(text: str, seconds: float, path: str, audit: str = AUDIT) -> Iter
     except OSError as fault:
         yield Finding("address", f"{host}: {fault.strerror}", "Socket")
     if port < lowest_port() and os.geteuid() != 0:
-        yield Finding("address", f"only root may use port {port}: others may use ports from {lowest_port()}", "Socket")
+        yield Finding("address", f"only root may use port {port}: other users may use ports from {lowest_port()} on", "Socket")
     listeners = sorted(listening(host, port))
     for process in listeners:
-        yield Finding("address", f"process {process}{commanded(process)} listens there: no other process can", "Socket")
+        yield Finding("address", f"process {process}{commanded(process)} listens at this address, so no other process can", "Socket")
     yield from of_answer(f"{host}:{port}", seconds, path, listeners, audit)
 
 
@@ -57,8 +58,8 @@ def of_network(path: str) -> Iterator[Finding]:
             join_network(process)
             yield Finding("address", f"process {process} has a private network: the address is checked inside that network")
         except OSError as fault:
-            text = f"process {process} has a private network, which can't be joined ({fault.strerror})"
-            yield Finding("address", text, left_out="what listens at the address inside it")
+            text = f"process {process} has a private network, which this user can't join ({fault.strerror})"
+            yield Finding("address", text, left_out="what listens at the address inside the private network")
         return
 
 
@@ -69,8 +70,8 @@ def of_answer(address: str, seconds: float, path: str, listeners: list[int], aud
     try:
         view = Port(address, seconds).show()
     except NotNow as not_now:
-        yield Finding("answer", f"a coordinator answers {not_now.name}: its device has failed, or it is ending; resetctl close ends it",
-                      fault)
+        yield Finding("answer", f"a coordinator answers with {not_now.name}: its device has failed, or the coordinator is ending; "
+                                "resetctl close ends it", fault)
     except NotTaken as other:
         yield Finding("answer", str(other), fault)
     except Away as away:
@@ -79,7 +80,7 @@ def of_answer(address: str, seconds: float, path: str, listeners: list[int], aud
         if not is_refused:
             yield from of_silence(address, listeners or holders_of(path))
     else:
-        yield Finding("answer", f"a coordinator with {len(view.nodes)} nodes and {view.settled:,} steps on the disk", fault)
+        yield Finding("answer", f"a coordinator with {len(view.nodes)} nodes and {view.settled:,} steps on the disk answers", fault)
         yield from of_store_behind(path, before, view)
         yield from of_groups(view, audit)
 
@@ -95,11 +96,13 @@ def of_store_behind(path: str, before: Reading | None, view: View) -> Iterator[F
     """Reports whether a coordinator has the store in this file."""
     after = read_if_allowed(path)
     if not before or not after:
-        text = "whether the coordinator has the store on this file"
-        yield Finding("answer", f"unknown {text}: this user can't read it, or it changes too fast", left_out=text)
+        text = "whether this file is the coordinator's store"
+        yield Finding("answer", f"it is unknown {text}: this user can't read the file, or the file changes too fast", left_out=text)
     elif differs := difference(before, view, after):
-        yield Finding("answer", f"that is not the store on this file: it {differs}. The coordinator has another store, or this file was "
-                                "overwritten, truncated or replaced under it, and its answers are lost when it ends", later="a loss")
+        yield Finding("answer", f"this file is not the server's store: {differs}. The coordinator has another store, or this file was "
+                                "overwritten, truncated or replaced while the coordinator used it; what the coordinator answers now is "
+                                "lost when it ends",
+                      later="the coordinator's answers are lost when it ends")
 
 
 def holders_of(path: str) -> list[int]:
@@ -114,12 +117,12 @@ def of_silence(address: str, servers: list[int]) -> Iterator[Finding]:
     for process in servers:
         if condition := condition_of(process):
             text, later = CONDITIONS[condition]
-            yield Finding("server", f"process {process} {text.format(process)}", later=later)
+            yield Finding("server", text.format(process=process), later=later)
     having = peers(*host_and_port(address))
     for peer in having:
         if peer.is_served:
-            yield Finding("client", f"{told_peer(peer)} has the one connection, and no other client is served: end it, or wait "
-                                    f"at most {KEPT_SECONDS}", later="a client that keeps the one connection")
+            yield Finding("client", f"{told_peer(peer)} has the server's only connection, so no other client is served: end that client, or wait "
+                                    f"at most {KEPT_SECONDS}", later="a client keeps the server's only connection")
     if waiting := [peer for peer in having if not peer.is_served and peer.user is not None]:
         yield Finding("client", f"{', '.join(map(told_peer, waiting))} {'wait' if len(waiting) > 1 else 'waits'} for a connection")
 
@@ -130,8 +133,8 @@ def told_peer(peer: Peer) -> str:
         return " and ".join(f"process {each}{commanded(each)}" for each in peer.processes) + (
             f" of {user_name(peer.user)}" if peer.user is not None else "")
     if peer.user is not None:
-        return f"a process of {user_name(peer.user)} (only root sees which) at {peer.address}"
-    return f"a client at {peer.address} without a process on this machine"
+        return f"a process of the user {user_name(peer.user)} at {peer.address} (only root can see which process)"
+    return f"a client at {peer.address} that has no process on this machine"
 
 
 def lowest_port() -> int:

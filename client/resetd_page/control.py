@@ -13,12 +13,12 @@ from .recent import Recent
 from .server import BadListener, Server
 from .state import State
 
-ABOUT = """Shows the nodes, the links and resets in progress on a page for browsers, read-only, as they change.
+ABOUT = """Serves a read-only web page that shows the nodes, the links and the resets in progress as they change.
 
 It is a client of resetd-proxy that may `show` and `watch`, and sends no orders. It needs Debian's python3-aiohttp. Put a web proxy with authentication
 before it for people on other hosts, or use `ssh -L`.
 
-Exit statuses: 0 stopped; 1 it can't listen, or an address is not one of resetd-proxy; 2 wrong arguments."""
+Exit statuses: 0 stopped; 1 it can't listen, or an address does not belong to resetd-proxy; 2 wrong arguments."""
 
 
 class Arguments(argparse.Namespace):
@@ -33,11 +33,14 @@ class Arguments(argparse.Namespace):
 def read_arguments() -> Arguments:
     parser = argparse.ArgumentParser(prog="resetd-page", description=ABOUT, formatter_class=argparse.RawDescriptionHelpFormatter)
     parser.add_argument("--address", required=True, metavar="ADDRESS",
-                        help="unix:PATH or tls:HOST:PORT of resetd-proxy; tls: takes its certificate from RESETD_CERTIFICATE, RESETD_KEY, RESETD_AUTHORITY or RESETD_TLS")
+                        help="the address of resetd-proxy, unix:PATH or tls:HOST:PORT; for tls: the PEM files come from RESETD_CERTIFICATE, "
+                        "RESETD_KEY and RESETD_AUTHORITY, or from RESETD_TLS")
     parser.add_argument("--listen", default="127.0.0.1:4173", metavar="ADDRESS",
-                        help="unix:PATH (mode 0660), HOST:PORT of the loopback, or systemd: the socket that it passes (%(default)s)")
-    parser.add_argument("--host", action="append", default=[], metavar="NAME", help="a name of the page in the Host header, beside localhost; may be repeated")
-    parser.add_argument("--audit", default="", metavar="FILE", help="the proxy's audit file, to show the last orders too")
+                        help="where to serve the page: unix:PATH (mode 0660), HOST:PORT of the loopback, or systemd for the socket that "
+                        "systemd passes (default: %(default)s)")
+    parser.add_argument("--host", action="append", default=[], metavar="NAME",
+                        help="a host name, besides localhost, under which browsers may open the page; may be repeated")
+    parser.add_argument("--audit", default="", metavar="FILE", help="the proxy's audit file, from which the page also shows the last orders")
     return parser.parse_args(namespace=Arguments())
 
 
@@ -47,7 +50,7 @@ def main() -> int:
     try:
         port = Port(arguments.address)
         if not port.is_front:
-            raise BadWords(f"{arguments.address}: not an address of the proxy (unix:PATH, tls:HOST:PORT)")
+            raise BadWords(f"{arguments.address} is not an address of the proxy (unix:PATH or tls:HOST:PORT)")
         asyncio.run(serve(arguments, port))
     except (BadListener, BadWords, Unreadable, OSError) as fault:
         print(f"resetd-page: {fault}", file=sys.stderr)

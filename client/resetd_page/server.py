@@ -52,7 +52,7 @@ class Server:
     @web.middleware
     async def _check_host(self, request: web.Request, handler: Any) -> web.StreamResponse:
         if name_of(request.headers.get("Host", "")) not in self._hosts:
-            raise web.HTTPMisdirectedRequest(text="this page has another name: see --host\n")
+            raise web.HTTPMisdirectedRequest(text="the page is not served under this host name: the option --host adds names\n")
         response: web.StreamResponse = await handler(request)
         return response
 
@@ -97,14 +97,14 @@ def listening(address: str) -> socket.socket:
     """Returns a socket that listens at an address. Raises OSError and BadListener."""
     if address == "systemd":
         if os.environ.get("LISTEN_PID") != str(os.getpid()) or os.environ.get("LISTEN_FDS") != "1":
-            raise BadListener("systemd has not passed one socket")
+            raise BadListener("systemd has not passed exactly one socket")
         return socket.socket(fileno=FIRST_DESCRIPTOR)
     if address.startswith("unix:"):
         return unix_listening(address.removeprefix("unix:"))
     host, _, port = address.rpartition(":")
     host = host.strip("[]")
     if not (port.isascii() and port.isdigit() and host in LOOPBACK or is_loopback(host) and port.isdigit()):
-        raise BadListener(f"{address}: not unix:PATH, systemd, or HOST:PORT of the loopback")
+        raise BadListener(f"can't listen at {address}: use unix:PATH, systemd, or HOST:PORT of the loopback")
     return socket.create_server((host, int(port)), family=socket.AF_INET6 if ":" in host else socket.AF_INET)
 
 

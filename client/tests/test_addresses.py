@@ -152,12 +152,12 @@ class Certificates(Case):
     def test_a_proxy_that_the_authority_has_not_signed(self) -> None:
         stranger, address = of_tls(self.server, self.pem, "stranger")
         self.addCleanup(stranger.close)
-        with self.assertRaisesRegex(Untrusted, "its certificate is not accepted"):
+        with self.assertRaisesRegex(Untrusted, "does not accept the server's certificate"):
             Port(address, 30, self.credentials()).show()
         self.assertEqual(self.server.seen, [])
 
     def test_a_proxy_of_another_name(self) -> None:
-        with self.assertRaisesRegex(Untrusted, "its certificate is not accepted"):
+        with self.assertRaisesRegex(Untrusted, "does not accept the server's certificate"):
             Port(self.address.replace("127.0.0.1", "localhost"), 30, self.credentials()).show()
 
     def test_a_client_that_the_proxy_does_not_take(self) -> None:
@@ -223,6 +223,6 @@ class Certificates(Case):
         status, out, told = self.run_words(*words, "--authority", f"{self.pem}/authority.pem", "show", address=self.address)
         self.assertEqual((status, "node group" in out), (0, True), told)
         status, _, told = self.run_words(*words, "--authority", f"{self.pem}/foreign.pem", "show", address=self.address)
-        self.assertEqual((status, "its certificate is not accepted" in told), (1, True), told)
+        self.assertEqual((status, "does not accept the server's certificate" in told), (1, True), told)
         status, _, told = self.run_words(*words, "show", address=self.address)
-        self.assertEqual((status, "missing PEM files for tls: authority" in told), (1, True), told)
+        self.assertEqual((status, "these are not set: authority" in told), (1, True), told)

@@ -92,17 +92,18 @@ class Advice(unittest.TestCase):
         view = View.of({"accepted": 9, "settled": 9, "nodes": [[3, 1, "ready", 0, 4, 4], [5, 2, "ready", 0, 0, 0]], "links": []})
         confirm = {"op": "confirm", "node": 3, "epoch": 4}
         self.assertEqual(explained(Refused(15, "BadEpoch"), confirm, view),
-                         "15 BadEpoch: node 3 is at epoch 4, and 4 is confirmed")
+                         "15 BadEpoch: node 3 is at epoch 4, and its last confirmed epoch is 4")
         self.assertEqual(explained(Refused(15, "BadEpoch"), confirm),
-                         "15 BadEpoch: the epoch was confirmed before, or the node went back: look at `show`")
+                         "15 BadEpoch: the epoch was confirmed before, or the node has gone back to a lower epoch: compare the epochs in `show`")
         self.assertEqual(explained(Refused(99, "Later"), confirm, view), "99 Later")
         self.assertEqual(explained(Faulted("Later"), confirm, view), "Later")
 
     def test_a_view_that_has_changed_since_says_what_to_do(self) -> None:
         view = View.of({"accepted": 9, "settled": 9, "nodes": [[3, 1, "ready", 0, 4, 4], [5, 1, "ready", 0, 0, 0]], "links": []})
         for number, name, order, said in (
-                (6, "UnknownNode", {"node": 3}, "look at `show`"), (8, "HasLinks", {"node": 3}, "drop its links first"),
-                (13, "DegreeFull", {"a": 3, "b": 5}, "drop one first"), (14, "LinksFull", {"a": 3, "b": 5}, "drop one first")):
+                (6, "UnknownNode", {"node": 3}, "`show` lists the nodes that exist"), (8, "HasLinks", {"node": 3}, "drop the node's links first"),
+                (13, "DegreeFull", {"a": 3, "b": 5}, "drop one of the node's links first"),
+                (14, "LinksFull", {"a": 3, "b": 5}, "drop another link first")):
             self.assertEqual(explained(Refused(number, name), order, view), f"{number} {name}: {said}")
 
 

@@ -79,7 +79,7 @@ class Orders(FrontCase):
         """An earlier proxy does not know these orders: that is reported in one line, and ends the member."""
         self.proxy.to_order = '{"fault":"BadRequest"}'
         member = Member(self.port, self.at_proxy, 1, None, lambda epoch: None, told=self.told.append)
-        with self.assertRaisesRegex(EarlierFront, "the proxy is of an earlier version than this library"):
+        with self.assertRaisesRegex(EarlierFront, "the proxy is older than this library"):
             member.look()
 
     def test_a_number_out_of_its_range_is_not_sent(self) -> None:

@@ -48,7 +48,7 @@ class Words(Case):
     def test_a_copy_is_a_store_and_replaces_one(self) -> None:
         os.chmod(self.store, 0o640)
         for count in (5, 6):
-            self.assertEqual(self.run_words("backup", self.store, self.out), (0, f"copied {count} steps, version 2\n", ""))
+            self.assertEqual(self.run_words("backup", self.store, self.out), (0, f"copied a store of {count} steps, version 2\n", ""))
             done = subprocess.run([PROGRAM, "check", self.out], capture_output=True, encoding="utf-8", check=False)
             self.assertEqual(done.stdout, f"legal {count}\n")
             self.assertEqual(stat.S_IMODE(os.stat(self.out).st_mode), 0o640)
@@ -74,8 +74,8 @@ class Words(Case):
             file.write("something else than a store")
         self.run_words("backup", self.store, self.out)
         for source, out, said in ((self.store, self.store, "the copy would replace the store itself"),
-                                  (self.out, self.store, "a process has locked it: a store that is being served can't be replaced"),
-                                  (self.store, f"{self.folder}/text", "it is not a store")):
+                                  (self.out, self.store, "a process has locked this file: a store that is being served can't be replaced"),
+                                  (self.store, f"{self.folder}/text", "this file is not a store, so it is not replaced")):
             self.assertEqual(self.run_words("backup", source, out), (2, "", f"resetctl: {out}: {said}\n"))
 
     def test_what_is_no_file_is_not_replaced(self) -> None:
@@ -107,8 +107,8 @@ class Words(Case):
         self.server.await_settled()
         status, out, _ = self.run_words("steps", self.store)
         rows = out.splitlines()
-        self.assertEqual((status, rows[0]), (0, f"version 2, half 0: 0 steps in the snapshot, of which each client's last order is "
-                                                f"known, and {len(rows) - 1} in {len({row.split()[1] for row in rows[1:]})} batches"))
+        self.assertEqual((status, rows[0]), (0, f"version 2, half 0: the snapshot has 0 steps, of which only each client's last order "
+                                                f"is kept, and {len({row.split()[1] for row in rows[1:]})} batches have {len(rows) - 1} steps"))
         self.assertEqual(rows[1].split(), ["1", "1-5", "client", "16", "order", "1:", "add", "1", "1"])
         self.assertEqual(rows[6].split(), ["6", "6-6", "client", "16", "order", "6:", "reset", "1"])
         self.assertEqual(rows[7].split()[:6], ["7", "7-7", "2", "takes", "abort", "1"])

@@ -41,7 +41,7 @@ class Lines(Case):
         self.server.steps = 100  # and numbers above the count of steps are not tried
         status, out, told = ran(f"{EXAMPLES}/service", "1", self.server.address, f"{self.folder}/service", "--no-signals")
         self.assertEqual((status, out), (1, ""), told[-1_000:])
-        self.assertIn("none is that of its last or its next order", told.splitlines()[-1])
+        self.assertIn("none is the number of the client's last or next order", told.splitlines()[-1])
         self.assertNotIn("Traceback", told)
 
 

@@ -37,7 +37,7 @@ class Watching(Case):
         self.server.by_somebody("confirm", node=2, epoch=1)
         self.assertEqual(self.look(10), (Level.OK, ()))
         self.assertEqual(self.look(69), (Level.OK, ()))
-        self.assertEqual(self.look(75), (Level.WARNING, ("epoch 1 of node 1 is unconfirmed for 65 s",)))
+        self.assertEqual(self.look(75), (Level.WARNING, ("epoch 1 of node 1 has been unconfirmed for 65 s",)))
         self.server.reset(1)
         self.assertEqual(self.look(80), (Level.OK, ()))
 
@@ -100,7 +100,7 @@ class Watching(Case):
 
     def test_a_wave_that_stands_still(self) -> None:
         """A wave is reported if nothing waits, or if so many steps were settled meanwhile that its own must be among them."""
-        told = "a wave has stood still at node 1 (abort) for {} s: resend"
+        told = "a wave has made no progress at node 1 (abort) for {} s: run resetctl resend"
         self.expect("idle", [(0, 9, 9, 0, []), (6, 9, 9, 0, [told.format(6)]), (7, 30, 30, 0, [told.format(7)])])
         self.expect("busy", [(0, 9, 8, 0, []), (1, 1_000, 999, 0, []), (2, 1_040, 1_039, 0, []), (5, 1_050, 1_040, 0, [told.format(5)])])
 
@@ -123,7 +123,7 @@ class Watching(Case):
         with mock.patch("time.time", lambda: 5_000.0):
             self.assertNotIn("unconfirmed", self.run_words("health")[1])
         with mock.patch("resetd_client.control.checks.boot_clock", lambda: boot_clock() + 61):
-            self.assertIn("epoch 1 of node 1 is unconfirmed for 6", self.run_words("health")[1])
+            self.assertIn("epoch 1 of node 1 has been unconfirmed for 6", self.run_words("health")[1])
 
     def test_stopped_and_away(self) -> None:
         self.server.is_stopped = True
@@ -158,8 +158,8 @@ class Lagging(Case):
         return check(self.port, Since(f"{self.folder}/since", now), bounds, 0.0, Signals(self.path, f"{self.folder}/kept")).findings
 
     def lag(self, node: int, epoch: int, more: str, seconds: int) -> tuple[str, ...]:
-        return (f"the file of signals lacks `signal {node} {epoch}`{more} for {seconds} s: the server can't print, and services learn "
-                "of a reset only by looking; free some space and restart it",)
+        return (f"the file of signals lacks `signal {node} {epoch}`{more} for {seconds} s: the server can't print, so services learn "
+                "of a reset only by looking. Free some disk space and restart the server",)
 
     def test_lines_that_do_not_come(self) -> None:
         self.assertEqual(self.look(0), ())
@@ -225,7 +225,7 @@ class Lagging(Case):
 
     def test_no_file(self) -> None:
         os.remove(self.path)
-        self.assertEqual(self.look(0), (f"the file of signals {self.path}: No such file or directory",))
+        self.assertEqual(self.look(0), (f"the file of signals can't be read: {self.path}: No such file or directory",))
 
 
 class SameStore(unittest.TestCase):
@@ -234,8 +234,8 @@ class SameStore(unittest.TestCase):
     def test_counts(self) -> None:
         view = View.of({"accepted": 12, "settled": 10, "nodes": [], "links": []})
         for before, after, differs in ((10, 10, ""), (10, 12, ""), (8, 10, ""), (12, 12, ""), (10, 500, ""),
-                                       (10, 9, "has 9 steps, and the coordinator has 10 on the disk"),
-                                       (13, 20, "had 13 steps, and the coordinator had accepted 12")):
+                                       (10, 9, "the file has 9 steps, but the coordinator has 10 steps on the disk"),
+                                       (13, 20, "the file had 13 steps, but the coordinator had accepted only 12")):
             self.assertEqual(difference(Reading(before), view, Reading(after)), differs)
         gone = Reading(None, "can't be read (No such file or directory)")
         self.assertEqual(difference(Reading(10), view, gone), gone.why_not)
@@ -247,7 +247,7 @@ class OtherStore(Case):
     """Changes that somebody makes to the file of a running server."""
 
     is_real = True
-    LOST = "resetd CRITICAL: that is not the store on this file: "
+    LOST = "resetd CRITICAL: this file is not the server's store: "
 
     def look(self) -> tuple[int, str]:
         return self.run_words("health", "--unconfirmed", "1000000", "--store", self.server.store)[:2]
@@ -294,7 +294,7 @@ class OtherStore(Case):
         with mock.patch("resetd_client.store_file.os.open", side_effect=PermissionError(13, "Permission denied")):
             health = check(self.port, Since(f"{self.folder}/since", 0), Bounds(), store=self.server.store)
         self.assertEqual(health.level, Level.UNKNOWN)
-        self.assertIn(f"the store can't be compared: {self.server.store}: Permission denied", health.findings)
+        self.assertIn(f"the server's store can't be compared with the file: {self.server.store}: Permission denied", health.findings)
 
     def test_a_store_that_is_at_work_is_the_one_on_its_file(self) -> None:
         """Orders, waves and checkpoints go on meanwhile."""
@@ -312,7 +312,7 @@ class OtherStore(Case):
         try:
             for _ in range(100):
                 health = check(self.port, Since(f"{self.folder}/since", 0), Bounds(), 30.0, store=self.server.store)
-                self.assertNotIn("that is not the store", " ".join(health.findings))
+                self.assertNotIn("is not the server's store", " ".join(health.findings))
         finally:
             ended.set()
             worker.join()

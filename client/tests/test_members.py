@@ -146,7 +146,7 @@ class Members(MemberCase):
         self.server.by_somebody("drop", a=1, b=2)
         self.server.by_somebody("remove", node=1)
         self.look(member)
-        self.assertEqual((self.told[-1], member.run), ("node 1 is not there", None))
+        self.assertEqual((self.told[-1], member.run), ("node 1 does not exist", None))
         self.server.by_somebody("add", node=1, group=1)
         self.look(member)
         self.assertEqual((self.begun, self.rows()[0], member.run), ([1, 1], (1, 1), Run(1, "")))
@@ -361,7 +361,8 @@ class Refusals(MemberCase):
         help."""
         member = self.in_a_run()
         asked, settled = sum(order.get("op") == "reset" for order in self.server.seen), self.port.show().settled
-        for count, words in ((settled + 1, f"--fence {settled + 1}`"), (3 << 40, "generation 3 were there, and this one has 0")):
+        for count, words in ((settled + 1, f"--fence {settled + 1}`"),
+                             (3 << 40, "generation 3 has used the resource, but this member has generation 0")):
             member.note_overtaken({2}, count)
             member.note_overtaken({2}, 0)
             with self.assertRaisesRegex(StoreWentBack, words):
@@ -441,7 +442,7 @@ class Lives(MemberCase):
             raise ZeroDivisionError
 
         with self.assertRaises(ZeroDivisionError), self.followed(begin) as member:
-            self.expect(lambda: any("no longer follows" in told for told in self.told))
+            self.expect(lambda: any("has stopped following" in told for told in self.told))
             with self.assertRaises(ZeroDivisionError), member.in_run():
                 self.fail("there is no run")
         member.orders.close()
@@ -479,7 +480,7 @@ class Lives(MemberCase):
             self.expect(lambda: member.run is not None)
             with mock.patch.object(member.port, "show", side_effect=ZeroDivisionError):
                 member.reset("so that it looks")
-                self.expect(lambda: any("no longer follows" in told for told in self.told))
+                self.expect(lambda: any("has stopped following" in told for told in self.told))
                 self.expect(lambda: member.run is None)
 
 

@@ -25,7 +25,7 @@ class Takes(unittest.TestCase):
     def test_a_view_of_another_address_has_as_many_steps(self) -> None:
         newest = Newest()
         newest.take(NEW, view(20))
-        with self.assertRaisesRegex(Past, "127.0.0.1:1 shows 19 settled steps, and 127.0.0.1:2 has shown 20"):
+        with self.assertRaisesRegex(Past, "127.0.0.1:1 shows 19 settled steps, but 127.0.0.1:2 has already shown 20"):
             newest.take(OLD, view(19))
         newest.take(OLD, view(20))
         self.assertRaises(Past, newest.take, NEW, view(19))

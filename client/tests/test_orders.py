@@ -142,7 +142,7 @@ class Numbers(Case):
         again = self.orders(recovers=True)
         again.order("reset", node=2)
         self.assertEqual(self.server.last(1), 6)
-        self.assertTrue(any("got no answer at first" in text for text in self.told))
+        self.assertTrue(any("had no answer at first" in text for text in self.told))
 
     @in_memory
     def test_a_count_is_found_from_anywhere(self) -> None:
@@ -201,7 +201,7 @@ class Numbers(Case):
         self.assertEqual(orders.order("reset", node=1).kind, "started")
         self.assertEqual(len(self.told), 1, self.told)
         self.assertIn("'remove'", self.told[0])
-        self.assertIn("got no answer at first, and then 8 HasLinks", self.told[0])
+        self.assertIn("had no answer at first, and now the answer is 8 HasLinks", self.told[0])
 
     def test_a_count_is_found_without_nodes(self) -> None:
         self.assertEqual(find_count(Port(self.started().address, 120), 3), 0)

@@ -117,9 +117,9 @@ class Strange(unittest.TestCase):
         def silent(_: socket.socket) -> None:
             ended.wait(20)
 
-        with self.assertRaisesRegex(Away, r"connected, but no answer for 0\.3 s"):
+        with self.assertRaisesRegex(Away, r"connected, but got no answer for 0\.3 s"):
             self.port(silent, 0.3).show()
-        with self.assertRaisesRegex(Away, "it ended the connection without an answer"):
+        with self.assertRaisesRegex(Away, "the other end closed the connection without an answer"):
             self.port(lambda _: None, 20).show()
 
     def test_one_that_says_what_is_no_text(self) -> None:

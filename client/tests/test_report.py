@@ -67,7 +67,7 @@ class Report(Case):
             file.write(found["store"])
         self.assertIn(b"reset 1", found["steps.txt"])
         self.assertIn(" order 1: reset 1", self.run_words("steps", f"{self.folder}/copy")[1])
-        self.assertIn(f"held by process {self.server.process.pid}".encode(), found["why.txt"])
+        self.assertIn(f"lock     process {self.server.process.pid} ".encode(), found["why.txt"])
         self.assertIn(f"{checksum_of(PROGRAM)}  {PROGRAM}, run by process {self.server.process.pid}".encode(), found["versions.txt"])
         self.assertIn(b"control/report.py\n", found["versions.txt"])
         self.assertIn(b"--unit other --unit other-proxy --unit other-health\n", found["journal.txt"])
@@ -91,16 +91,16 @@ class Report(Case):
         self.assertEqual(found["store"], APPENDED[:50])
         self.assertIn(b"not found: ", found["show.json"])
         self.assertIn(b"not found: BadRecord", found["steps.txt"])
-        self.assertIn(b"a start now would end with BadRecord", found["why.txt"])
+        self.assertIn(b"a start now would end with the fault BadRecord", found["why.txt"])
         self.assertIn(b"no process on this machine has locked the store", found["process.txt"])
 
     def test_only_the_lines_of_its_device(self) -> None:
         with mock.patch("resetd_client.device.devices_of", return_value=["vdz9"]):
             self.assertEqual(kernel_lines(self.store), "kernel: I/O error, dev vdz9, sector 7\n")
         with mock.patch("resetd_client.device.devices_of", return_value=["vdz"]):
-            self.assertEqual(kernel_lines(self.store), "none of the 3 lines is about vdz\n")
+            self.assertEqual(kernel_lines(self.store), "none of the kernel's 3 messages is about vdz\n")
         with mock.patch("resetd_client.device.devices_of", return_value=["dz9"]):
-            self.assertEqual(kernel_lines(self.store), "none of the 3 lines is about dz9\n")
+            self.assertEqual(kernel_lines(self.store), "none of the kernel's 3 messages is about dz9\n")
         with mock.patch("resetd_client.device.devices_of", return_value=[]):
             self.assertIn("not on a block device", kernel_lines(self.store))
         self.assertEqual(devices_of("/proc/self/status"), [])

@@ -33,7 +33,7 @@ class Controls(Case):
         self.run_words("drop", "1", "2")
         status, _, told = self.run_words("remove", "2")
         self.assertEqual(status, 0)
-        self.assertIn("removed: 2. A service may keep its files", told)
+        self.assertIn("removed nodes: 2. If a node is removed for good", told)
         self.run_words("add", "2", "1")
         self.assertEqual(self.run_words("--quiet", "remove", "2"), (0, "", ""))
 
@@ -47,12 +47,12 @@ class Controls(Case):
         for words, said in (("add 1 1", "7 NodeExists: node 1 already exists, in group 1"),
                             ("reset 9", "6 UnknownNode: node 9 does not exist; the nodes are 1, 2, 3, 4"),
                             ("remove 2", "8 HasLinks: node 2 is linked with 1, 3: drop these links first"),
-                            ("join 1 1", "9 SameNode: a link has two ends"),
-                            ("join 1 4", "10 OtherGroup: node 1 is in group 1, node 4 in group 2: to change a node's "
+                            ("join 1 1", "9 SameNode: a link must join two different nodes"),
+                            ("join 1 4", "10 OtherGroup: node 1 is in group 1, and node 4 is in group 2: to change a node's "
                                          "group, remove the node and add it again"),
-                            ("join 1 2", "11 LinkExists: 1 and 2 are already linked"),
-                            ("drop 1 3", "12 NoLink: 1 and 3 are not linked; 1 is linked with 2"),
-                            ("confirm 1 1", "15 BadEpoch: node 1 is at epoch 1, and 1 is confirmed")):
+                            ("join 1 2", "11 LinkExists: nodes 1 and 2 are already linked"),
+                            ("drop 1 3", "12 NoLink: nodes 1 and 3 are not linked; node 1 is linked with 2"),
+                            ("confirm 1 1", "15 BadEpoch: node 1 is at epoch 1, and its last confirmed epoch is 1")):
             self.assertEqual(self.run_words(*words.split()), (1, "", f"resetctl: {said}\n"))
 
     def test_a_mistyped_number_locks_nothing(self) -> None:
@@ -130,7 +130,7 @@ class Controls(Case):
         self.run_words("--state", f"{self.folder}/bob", "add", "5", "1")
         status, _, told = self.run_words("add", "6", "1")
         self.assertEqual(status, 0)
-        self.assertIn("it is not sent again", told)
+        self.assertIn("this order is not sent again", told)
         self.server.await_settled()
         self.assertEqual(self.server.row(1)[1], 1)
 
@@ -148,7 +148,7 @@ class Controls(Case):
         self.server.await_settled()
         status, _, told = self.run_words("confirm", "1", "1")
         self.assertEqual((status, self.server.row(1)), (0, [1, 2, 1]))
-        self.assertIn("sent again, since there was no answer: reset 2", told)
+        self.assertIn("sending these orders again, because they had no answer: reset 2", told)
 
     def test_no_silence(self) -> None:
         began = time.monotonic()
@@ -169,15 +169,15 @@ class Controls(Case):
                 self.assertTrue(1.5 < time.monotonic() - began < 19, words)  # for an order: 20 and more
                 if words[0] == "show":
                     self.assertEqual(err.getvalue(), f"resetctl: waiting for an answer from {address}\nresetctl: no answer: {address}: "
-                                     "connected, but no answer for 2 s: another client may hold the one connection\n")
+                                     "connected, but got no answer for 2 s: another client may hold the server's only connection\n")
 
     def test_something_else_at_the_address(self) -> None:
         self.server.faults = ["<!DOCTYPE HTML>"] * 3
         for words in (["show"], ["reset", "1"]):
             status, _, told = self.run_words(*words)
-            self.assertEqual((status, told), (1, f"resetctl: {self.server.address} is not a coordinator: it said "
+            self.assertEqual((status, told), (1, f"resetctl: {self.server.address} is not a coordinator: it answered "
                                                  "'<!DOCTYPE HTML>'\n"))
-        self.assertEqual(self.run_words("health")[:2], (3, f"resetd UNKNOWN: {self.server.address} is not a coordinator: it said "
+        self.assertEqual(self.run_words("health")[:2], (3, f"resetd UNKNOWN: {self.server.address} is not a coordinator: it answered "
                                                            "'<!DOCTYPE HTML>'\n"))
 
     def test_files_that_cannot_be_used(self) -> None:
@@ -187,8 +187,8 @@ class Controls(Case):
 
     def test_stopped_says_what_to_do(self) -> None:
         self.server.is_stopped = True
-        self.assertEqual(self.run_words("reset", "1")[2], "resetctl: the server answers Stopped: send the same order with the "
-                                                          "same number after the next start; `close` ends the server\n")
+        self.assertEqual(self.run_words("reset", "1")[2], "resetctl: the server answers Stopped: after the server's next start, send "
+                                                          "the same order with the same number; `close` ends the server\n")
 
     def test_show(self) -> None:
         self.server.reset(1)
@@ -215,7 +215,7 @@ class Controls(Case):
             self.assertEqual(self.run_words("apply", path)[0], 3)
         status, _, told = self.run_words("apply", path)
         self.assertEqual(status, 0)
-        self.assertIn("sent again, since there was no answer: add 4 1; drop 1 2", told)
+        self.assertIn("sending these orders again, because they had no answer: add 4 1; drop 1 2", told)
         self.assertEqual((sorted(self.server.nodes), self.server.pairs()), ([1, 2, 3, 4], []))
 
     def test_health_and_metrics(self) -> None:

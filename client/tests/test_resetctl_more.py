@@ -43,7 +43,7 @@ class Audit(Case):
         """Resets that were carried out, or may have been, are shown; refused and denied ones are not."""
         self.assertEqual(self.printed("--reset")[:-1], [
             "2026-01-30T12:00:00.214Z  alice (pid 42)  reset 3  started 17; as client 15, number 8; 0.004 s",
-            "2026-01-31T08:00:01.000Z  bob (pid 6)  reset 4  no answer: perhaps carried out; 30.0 s"])
+            "2026-01-31T08:00:01.000Z  bob (pid 6)  reset 4  no answer: the order may have been carried out; 30.0 s"])
         self.assertEqual(len(self.printed("--reset", "--node", "3")), 2)
 
     def test_who_was_denied_what(self) -> None:
@@ -100,7 +100,7 @@ class Json(Case):
         with open(path, "w", encoding="utf-8") as file:
             file.write("[[node]]\nid = 1\ngroup = 1\n[[node]]\nid = 2\ngroup = 2\n")
         status, orders = self.one("diff", "--json", path)
-        self.assertEqual((status, orders[0]), (1, {"op": "drop", "members": {"a": 1, "b": 2}, "note": "an end changes its group"}))
+        self.assertEqual((status, orders[0]), (1, {"op": "drop", "members": {"a": 1, "b": 2}, "note": "the group of a linked node changes"}))
         self.run_words("apply", path)
         self.assertEqual(self.one("diff", "--json", path), (0, []))
 
@@ -164,7 +164,7 @@ class Bench(Case):
         last = self.server.last(16)
         status, out, told = self.run_words("bench", "--waves", "1", "--orders", "2")
         self.assertEqual((status, out, self.server.last(16)), (1, "", last))
-        self.assertIn("services have confirmed epochs of nodes 2:", told)
+        self.assertIn("these nodes have services: 2.", told)
         self.assertEqual(self.run_words("bench", "--waves", "1", "--orders", "2", "--with-services")[0], 0)
         self.assertEqual(self.server.row(1)[1], 2)
 
@@ -172,7 +172,7 @@ class Bench(Case):
         with self.orders() as book:
             book.order_all([{"op": "add", "node": node, "group": 1} for node in range(4, 65)])
         status, out, told = self.run_words("bench", "--waves", "1")
-        self.assertEqual((status, "orders" in out, "wave" in out, "no orders are measured" in told), (0, False, True, True))
+        self.assertEqual((status, "orders" in out, "wave" in out, "the order rate is not measured" in told), (0, False, True, True))
 
 
 load_tests = over_both

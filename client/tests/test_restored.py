@@ -23,7 +23,7 @@ class Restored(Case):
         for times in (1, 2):
             told = renew(self.port, self.orders(name=str(times)), 300)
             self.assertEqual((told, self.epochs()), (
-                "a reset in each of 3 groups: all 6 nodes have a new epoch", [times] * 6))
+                "each of the 3 groups was reset, and all 6 nodes have a new epoch", [times] * 6))
 
     def test_after_a_restore_the_count_is_found(self) -> None:
         copy = self.server.copy()
@@ -37,14 +37,14 @@ class Restored(Case):
 
     def test_the_command(self) -> None:
         status, out, _ = self.run_words("--patience", "300", "restored")
-        self.assertEqual((status, out, self.epochs()), (0, "a reset in each of 3 groups: all 6 nodes have a new epoch\n", [1] * 6))
+        self.assertEqual((status, out, self.epochs()), (0, "each of the 3 groups was reset, and all 6 nodes have a new epoch\n", [1] * 6))
 
     def test_the_generation_is_named(self) -> None:
         """It is one above that of the count, so that no earlier member has a greater fence."""
         for count, generation in ((0, 1), ((1 << 40) - 1, 1), (1 << 40, 2), ((8_388_607 << 40) - 1, 8_388_607)):
             status, out, _ = self.run_words("--patience", "300", "restored", "--fence", str(count))
             self.assertEqual((status, out.splitlines()[1:]), (0, [
-                f"now start all members with generation {generation}, or with a greater one if a member had that generation before"]))
+                f"now start all members with generation {generation}, or with a greater generation if a member has already used that one"]))
 
     def test_counts_above_which_there_is_no_generation(self) -> None:
         """Then nothing is asked for."""
@@ -56,7 +56,7 @@ class Restored(Case):
     def test_a_node_that_gets_no_new_epoch_is_named(self) -> None:
         reset = self.server.reset
         self.server.reset = lambda node: None if node == 12 else reset(node)
-        with self.assertRaisesRegex(Away, "node 12;"):
+        with self.assertRaisesRegex(Away, "node 12:"):
             renew(self.port, self.orders(), 1)
 
 

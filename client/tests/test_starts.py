@@ -326,7 +326,7 @@ class Versions(Case):
 
     def test_a_file_of_a_later_version_is_refused(self) -> None:
         keep(self.path, '{"1": {"begun": 4, "party": null, "seal": 7}}\n')
-        with self.assertRaisesRegex(Unreadable, "a later version of the library wrote it"):
+        with self.assertRaisesRegex(Unreadable, "a later version of the library wrote the file"):
             Shelf(self.path)
 
     def test_what_was_read_is_synced_before_it_counts(self) -> None:

@@ -29,7 +29,7 @@ class Told(Case):
             with self.assertLogs("resetd_client", "WARNING") as logs:
                 self.overtaken(orders)
         self.assertEqual(err.getvalue(), "")
-        self.assertRegex(logs.output[0], "'remove'.* got no answer at first, and then 8 HasLinks")
+        self.assertRegex(logs.output[0], "'remove'.* had no answer at first, and now the answer is 8 HasLinks")
         self.assertEqual(len(logs.output), 1)
 
     def test_a_caller_hears_it_instead(self) -> None:

@@ -37,7 +37,7 @@ class Topologies(unittest.TestCase):
         have = self.network(star, *((1, node) for node in range(2, 18)))
         want = self.network(star, *((1, node) for node in range(3, 19)))
         self.assertEqual(self.words(have, want), [
-            "drop 1 2    # before 1 and 18 are joined: there is no room for both", "join 1 18"])
+            "drop 1 2    # this makes room for the link between 1 and 18", "join 1 18"])
 
     def test_all_links_are_taken(self) -> None:
         nodes = {node: 1 for node in range(1, 65)}

@@ -49,32 +49,33 @@ class Files(Case):
     def test_a_store(self) -> None:
         for data, count, index, used in ((APPENDED, 1, 0, 45), (CHECKPOINTED, 0, 1, 17)):
             status, lines = self.why(self.put(data))
-            self.assertEqual((status, lines[-1]), (0, "nothing found here prevents a start"))
+            self.assertEqual((status, lines[-1]), (0, "these checks found nothing that prevents a start"))
             self.assertIn(f"store    half {index} is selected; {used} of its 32,768 bytes are used", lines)
             self.assertTrue(any(line.startswith(f"store    version 1, {count} steps: 0 in the snapshot") for line in lines))
             self.assertRegex(lines[1], rf"^file     a file of {len(data):,} bytes, -rw-r----- \S+:\S+$")
-            self.assertIn("lock     no process on this machine holds it", lines)
+            self.assertIn("lock     no process on this machine holds the lock", lines)
 
     def test_where_it_stops_to_read(self) -> None:
         for data, told in ((b"", "NoMagic: at byte 0, the file does not begin with the header of a store: the file is empty"),
-                           (APPENDED[:50], "BadRecord: at byte 38, a body of 23 bytes extends past the end with its gate"),
-                           (FRESH[:17] + b"\3" + FRESH[18:], "BadSnapshot: at byte 17, version 3 is not known"),
+                           (APPENDED[:50], "BadRecord: at byte 38, a body of 23 bytes and its gate byte extend past the end"),
+                           (FRESH[:17] + b"\3" + FRESH[18:], "BadSnapshot: at byte 17, this library does not know version 3 of the format"),
                            (APPENDED[:48] + b"\7" + APPENDED[49:], "BadBatch: at byte 48, batch 0 can't be decoded (BadByte)")):
             status, lines = self.why(self.put(data))
             name = told.split(":")[0]
-            self.assertEqual((status, lines[-1]), (1, f"a start now would end with {name}: store: is not a readable store: {told}"))
+            self.assertEqual((status, lines[-1]), (
+                1, f"a start now would end with the fault {name}: store: the file is not a readable store: {told}"))
 
     def test_what_is_no_file(self) -> None:
         os.mkfifo(f"{self.folder}/fifo")
         os.symlink(f"{self.folder}/nowhere", f"{self.folder}/link")
-        for path, told in (("none", "NoMagic: file: No such file or directory; a start would create an empty file"),
-                           ("link", f"Device: file: a symbolic link to a missing file: {self.folder}/nowhere"),
+        for path, told in (("none", "NoMagic: file: No such file or directory; a start of the server would create an empty file"),
+                           ("link", f"Device: file: the path is a symbolic link to a missing file: {self.folder}/nowhere"),
                            ("none/store", f"Device: folder: {self.folder}/none: No such file or directory"),
                            (".", "Device: file: a folder of "), ("fifo", "Device: file: a FIFO of 0 bytes, p"),
                            ("/dev/null", "Device: file: a character device of 0 bytes, c")):
             status, lines = self.why(os.path.join(self.folder, path))
             self.assertEqual(status, 1)
-            self.assertTrue(lines[-1].startswith(f"a start now would end with {told}"), lines)
+            self.assertTrue(lines[-1].startswith(f"a start now would end with the fault {told}"), lines)
 
     def test_who_holds_the_lock(self) -> None:
         store = self.put(FRESH)
@@ -85,7 +86,7 @@ class Files(Case):
             other_device = os.stat_result([*found[:2], found.st_dev + 1, *found[3:10]])
             self.assertEqual((lock_holders(found), lock_holders(other_device)), ([os.getpid()], []))
         self.assertEqual(status, 1)
-        self.assertTrue(any(line.startswith(f"lock     held by process {os.getpid()} (") for line in lines), lines)
+        self.assertTrue(any(line.startswith(f"lock     process {os.getpid()} (") for line in lines), lines)
 
     def test_a_limit_and_a_mode(self) -> None:
         store = self.put(FRESH)
@@ -93,8 +94,8 @@ class Files(Case):
         resource.setrlimit(resource.RLIMIT_FSIZE, (65_552, before[1]))
         self.addCleanup(resource.setrlimit, resource.RLIMIT_FSIZE, before)
         status, lines = self.why(store)
-        self.assertEqual((status, lines[-1]), (1, "a running server may run into this: its end by a signal: limit: this shell may write files "
-                                                  "of at most 65,552 bytes: a longer one ends it by SIGXFSZ, without a message"))
+        self.assertEqual((status, lines[-1]), (1, "a running server may have this problem: a signal ends the server: limit: this shell may "
+                                                  "write files of at most 65,552 bytes: at a longer file, SIGXFSZ ends it without a message"))
 
     @unittest.skipUnless(os.geteuid() == 0, "it needs root: it acts as another user")
     def test_the_user_of_the_server(self) -> None:
@@ -102,7 +103,8 @@ class Files(Case):
         self.move_to_all()
         store = self.put(FRESH)
         os.chmod(store, 0o600)
-        refused = "a start now would end with Device: access: the user nobody can't open it to read and write: Permission denied; "
+        refused = ("a start now would end with the fault Device: access: the user nobody can't open the file for reading and writing: "
+                   "Permission denied. ")
         self.assertEqual(self.why(store)[0], 0)
         status, lines = self.why("--user", "nobody", store)
         self.assertEqual((status, lines[-1][:len(refused)]), (1, refused))
@@ -111,10 +113,10 @@ class Files(Case):
         self.assertEqual(self.why(store)[1][-1][:len(refused)], refused)
         os.chown(store, nobody.pw_uid, -1)
         status, lines = self.why(store)
-        self.assertEqual((status, lines[-1]), (0, "nothing found here prevents a start"))
-        self.assertTrue(any("the user nobody may open it and its folder; syncing both took" in line for line in lines), lines)
+        self.assertEqual((status, lines[-1]), (0, "these checks found nothing that prevents a start"))
+        self.assertTrue(any("the user nobody may open the store and its folder; syncing both took" in line for line in lines), lines)
         os.chmod(self.folder, 0o300)
-        self.assertIn("access: the user nobody can't open its folder: Permission denied", self.why(store)[1][-1])
+        self.assertIn("access: the user nobody can't open the file's folder: Permission denied", self.why(store)[1][-1])
 
     @unittest.skipUnless(os.geteuid() == 0, "it needs root: it acts as another user")
     def test_a_folder_of_a_lost_machine(self) -> None:
@@ -125,7 +127,7 @@ class Files(Case):
             os.chown(path, 54_321, 54_321)
         status, lines = self.why(store)
         self.assertEqual(status, 0)
-        self.assertTrue(any("no user of this machine has the number 54321" in line for line in lines), lines)
+        self.assertTrue(any("the folder belongs to user number 54321" in line for line in lines), lines)
         self.assertEqual(self.why("--user", "nobody", store)[0], 1)
 
     def test_who_can_not_try(self) -> None:
@@ -133,7 +135,8 @@ class Files(Case):
         store = self.put(FRESH)
         with mock.patch("resetd_client.access.os.geteuid", return_value=12_345):
             status, lines = self.why("--user", "54321", store)
-        self.assertEqual((status, lines[-1]), (0, "nothing found here prevents a start; not checked: whether 54321 may open it"))
+        self.assertEqual((status, lines[-1]), (
+            0, "these checks found nothing that prevents a start; not checked: whether the user 54321 may open the store"))
 
     def test_a_disk_that_hangs(self) -> None:
         """A sync that never returns blocks nothing here."""
@@ -141,21 +144,21 @@ class Files(Case):
             trial = tried_as(account_of(os.geteuid()), self.put(FRESH), 1.0)
         self.assertEqual(trial, Trial("", None))
         with mock.patch("resetd_client.why.tried_as", return_value=trial):
-            self.assertIn("a running server may run into this: a slow or hanging disk: access: ", self.why(f"{self.folder}/store")[1][-1])
+            self.assertIn("a running server may have this problem: the disk is slow or hangs: access: ", self.why(f"{self.folder}/store")[1][-1])
         with mock.patch("resetd_client.access.os.fdatasync", side_effect=OSError(5, "Input/output error")):
-            self.assertEqual(tried_as(account_of(os.geteuid()), self.put(FRESH)).failed, "can't sync it: Input/output error")
+            self.assertEqual(tried_as(account_of(os.geteuid()), self.put(FRESH)).failed, "can't sync the file: Input/output error")
 
     def test_addresses(self) -> None:
         store = self.put(FRESH)
         with socket.create_server(("127.0.0.1", 0)) as other:
             status, lines = self.why(store, f"127.0.0.1:{other.getsockname()[1]}")
         self.assertEqual(status, 1)
-        told = rf"^a start now would end with Socket: address: process {os.getpid()} \(.*\) listens there"
+        told = rf"^a start now would end with the fault Socket: address: process {os.getpid()} \(.*\) listens at this address"
         self.assertTrue(any(re.search(told, line) for line in lines), lines)
-        self.assertTrue(any("connected, but no answer for 2 s" in line for line in lines))
+        self.assertTrue(any("connected, but got no answer for 2 s" in line for line in lines))
         for address, name in (("localhost:4170", "Usage"), ("127.0.0.1:0", "Usage"), ("192.0.2.7:4170", "Socket")):
             status, lines = self.why(store, address)
-            self.assertTrue(lines[-1].startswith(f"a start now would end with {name}: address: "), lines)
+            self.assertTrue(lines[-1].startswith(f"a start now would end with the fault {name}: address: "), lines)
 
     def test_for_whom_a_group_waits(self) -> None:
         """The members are named, with the time since when and the last sign of life. If all are through, nothing is reported."""
@@ -166,7 +169,7 @@ class Files(Case):
         self.server.reset(1)
         self.server.by_somebody("confirm", node=1, epoch=1)
         lines = self.why(store, self.server.address, "--audit", f"{self.folder}/none")[1]
-        self.assertIn("group    node 2 has not confirmed epoch 1: the 3 nodes of its group wait", lines)
+        self.assertIn("group    node 2 has not confirmed epoch 1: all 3 nodes of its group wait for this", lines)
         self.assertTrue(any("the proxy's audit can't be read" in line for line in lines), lines)
         with open(f"{self.folder}/audit", "w", encoding="utf-8") as audit:
             for time, op, node, kind in (("11:01", "confirm", 2, "done"), ("11:02", "reset", 3, "started"), ("11:03", "reset", 3, "joined"), ("11:04", "confirm", 1, "done")):
@@ -174,16 +177,17 @@ class Files(Case):
                                         "answer": {"kind": kind, "step": 1}}) + "\n")
             audit.write("torn")
         lines = self.why(store, self.server.address, "--audit", f"{self.folder}/audit")[1]
-        waits = "since 11:02: the 3 nodes of its group wait; its last sign of life:"
+        waits = "since the reset at 11:02: all 3 nodes of its group wait for this; the node's last sign of life was a"
         self.assertEqual([line for line in lines if line.startswith("group")], [
-            f"group    node 2 has not confirmed epoch 1, {waits} confirm at 11:01 by service",
-            f"group    node 3 has not confirmed epoch 1, {waits} reset at 11:03 by service"])
+            f"group    node 2 has not confirmed epoch 1 {waits} confirm at 11:01 by service",
+            f"group    node 3 has not confirmed epoch 1 {waits} reset at 11:03 by service"])
 
     def test_a_coordinator_with_another_store(self) -> None:
         self.server.ring(2)
         status, lines = self.why(self.put(FRESH), self.server.address)
         self.assertEqual(status, 1)
-        self.assertTrue(any(line.startswith("a running server may run into this: a loss: answer: that is not the store on this file")
+        self.assertTrue(any(line.startswith("a running server may have this problem: the coordinator's answers are lost when it ends: "
+                                            "answer: this file is not the server's store")
                             for line in lines))
 
 
@@ -264,7 +268,7 @@ class Networks(unittest.TestCase):
                                      stdout=subprocess.PIPE, encoding="utf-8", check=False)
                 server.kill()
             self.assertIn(f"process {server.pid} has a private network: the address is checked inside that network", why.stdout)
-            self.assertIn(f"a start now would end with Device: lock: held by process {server.pid} (", why.stdout)
+            self.assertIn(f"a start now would end with the fault Device: lock: process {server.pid} (", why.stdout)
             self.assertIn("a coordinator with 0 nodes and 0 steps on the disk", why.stdout)
 
 
@@ -275,8 +279,8 @@ class BesideTheProgram(Case):
 
     def foretold(self, path: str, address: str) -> str:
         last = self.run_words("why", path, address)[1].splitlines()
-        told = [line for line in last if line.startswith("a start now would end with ")]
-        return told[0].split()[6].rstrip(":") if told else ""
+        told = [line for line in last if line.startswith("a start now would end with the fault ")]
+        return told[0].split()[8].rstrip(":") if told else ""
 
     def ended(self, path: str, address: str) -> str:
         """Returns the fault with which a start ends, or nothing if the server listens."""
@@ -313,9 +317,9 @@ class BesideTheProgram(Case):
         assert isinstance(self.server, Real) and self.server.process
         self.server.ring(2)
         _, out, _ = self.run_words("why", self.server.store, self.server.behind)
-        self.assertIn(f"held by process {self.server.process.pid} ({PROGRAM} serve {self.server.store} 127.0.0.1:0)", out)
+        self.assertIn(f"process {self.server.process.pid} ({PROGRAM} serve {self.server.store} 127.0.0.1:0)", out)
         self.assertIn("a coordinator with 2 nodes and 3 steps on the disk", out)
-        self.assertNotIn("that is not the store on this file", out)
+        self.assertNotIn("this file is not the server's store", out)
 
     def test_which_program_it_runs(self) -> None:
         """A program that was replaced while the server runs is reported."""
@@ -339,7 +343,7 @@ class BesideTheProgram(Case):
             client.sendall(b'{"op":"show"}\n')
             self.assertTrue(client.recv(1))  # this client is the one that is served
             lines = self.run_words("why", self.server.store, self.server.behind)[1].splitlines()
-        keeps = "a running server may run into this: a client that keeps the one connection: client: process "
+        keeps = "a running server may have this problem: a client keeps the server's only connection: client: process "
         self.assertTrue(any(line.startswith(f"{keeps}{os.getpid()} (") for line in lines), lines)
 
     def test_a_server_that_is_stopped(self) -> None:
@@ -348,9 +352,9 @@ class BesideTheProgram(Case):
         os.kill(process, signal.SIGSTOP)
         lines = self.run_words("why", self.server.store, self.server.behind)[1].splitlines()
         os.kill(process, signal.SIGCONT)
-        stopped = f"a running server may run into this: a stop: server: process {process} is stopped by a signal"
+        stopped = f"a running server may have this problem: a signal has stopped the server: server: process {process} is stopped by a signal"
         self.assertTrue(any(line.startswith(stopped) and f"kill -CONT {process}" in line for line in lines), lines)
-        self.assertFalse(any("the one connection, and nobody" in line for line in lines), lines)
+        self.assertFalse(any("has the server's only connection" in line for line in lines), lines)
 
     def test_an_output_that_nobody_reads(self) -> None:
         self.expect_the_reader_told(*os.pipe())
@@ -376,17 +380,17 @@ class BesideTheProgram(Case):
         output = f"output   process {process.pid} writes to a pipe that process {os.getpid()} ("
         told = self.run_words("why", self.server.store, self.server.behind)[1]
         self.assertIn(output, told)
-        self.assertNotIn("a running server may run into this", told)
+        self.assertNotIn("a running server may have this problem", told)
         for number in range(1, 401):
             self.server.ask(op="reset", client=9, number=number, node=1)
         self.assertEqual(self.server.ask(op="close"), {"kind": "closed"})
         told = self.run_words("why", self.server.store, self.server.behind)[1]
         self.assertIn(output, told)
-        self.assertIn("a running server may run into this: an output that nobody reads: output: process", told.splitlines()[-1])
+        self.assertIn("a running server may have this problem: nobody reads the server's output: output: process", told.splitlines()[-1])
 
     def test_a_file_that_was_cut_under_its_server(self) -> None:
         assert isinstance(self.server, Real)
         self.server.ring(2)
         self.server.reset(1)
         os.truncate(self.server.store, 100)
-        self.assertIn("that is not the store on this file", self.run_words("why", self.server.store, self.server.behind)[1])
+        self.assertIn("this file is not the server's store", self.run_words("why", self.server.store, self.server.behind)[1])

@@ -145,7 +145,7 @@ class PageProgram(Shown):
     def test_wrong_addresses(self) -> None:
         for words, message in ((("--address", self.server.address), "not an address of the proxy"),
                                (("--address", "unix:/nowhere", "--listen", "192.0.2.1:80"), "HOST:PORT of the loopback"),
-                               (("--address", "unix:/nowhere", "--listen", "systemd"), "has not passed one socket")):
+                               (("--address", "unix:/nowhere", "--listen", "systemd"), "has not passed exactly one socket")):
             with self.subTest(words):
                 ran = self.second(*words)
                 self.assertEqual((ran.returncode, message in ran.stderr), (1, True), ran.stderr)
@@ -156,7 +156,7 @@ class PageProgram(Shown):
             file.write("raise ModuleNotFoundError(name='aiohttp')\n")
         with mock.patch.dict(os.environ, PYTHONPATH=self.folder):
             ran = self.second("--help")
-        self.assertEqual((ran.returncode, ran.stderr), (1, "resetd-page: python3-aiohttp is not installed\n"))
+        self.assertEqual((ran.returncode, ran.stderr), (1, "resetd-page: the Debian package python3-aiohttp is not installed\n"))
 
     def second(self, *words: str) -> subprocess.CompletedProcess[str]:
         return subprocess.run([PYTHON, f"{CLIENT}/resetd-page", *words], capture_output=True, text=True, timeout=DEADLINE, check=False)

@@ -39,7 +39,7 @@ def no_answer(desk: Desk) -> None:
             see(desk.why(store, server), f"is stopped by a signal (SIGSTOP or a debugger): kill -CONT {server.process.pid}")
         with held(server):
             see(desk.health(server, patience=0, seconds=2).text, "resetd CRITICAL: no answer: ")
-            see(desk.why(store, server), f"client   process {os.getpid()} (", "has the one connection")
+            see(desk.why(store, server), f"client   process {os.getpid()} (", "has the server's only connection")
         see(desk.health(server).text, "resetd OK: well")
 
 
@@ -94,7 +94,7 @@ def a_device_that_fails(desk: Desk) -> None:
         see(desk.health(server).text, "resetd OK: well")
 
 
-@row("`that is not the store on this file`")
+@row("`this file is not the server's store`")
 def another_store(desk: Desk) -> None:
     store = desk.store()
     shutil.copy(store, desk.path("old"))
@@ -105,8 +105,8 @@ def another_store(desk: Desk) -> None:
         server.order(2, "reset", node=1)
         server.await_quiet()
         words = ("--store", store, "--unconfirmed", "1000000")
-        see(desk.health(server, *words).text, f"resetd CRITICAL: that is not the store on this file: {store} has ")
-        see(desk.why(store, server), "a running server may run into this: a loss: answer: that is not the store on this file")
+        see(desk.health(server, *words).text, f"resetd CRITICAL: this file is not the server's store: {store}: the file has ")
+        see(desk.why(store, server), "a running server may have this problem: the coordinator's answers are lost when it ends: answer: this file is not the server's store")
         folder = f"/proc/{server.process.pid}/fd"
         held = next(f"{folder}/{name}" for name in os.listdir(folder) if os.readlink(f"{folder}/{name}") == f"{store} (deleted)")
         see(desk.resetctl("backup", held, desk.path("left")).text, "copied ")
@@ -151,13 +151,13 @@ def a_slow_disk(desk: Desk) -> None:
                 connection.send({"op": "reset", "client": 1, "number": 1, "node": 1})
             told = told_of_a_wave(server, desk.path(f"health{seconds}"))
             see(desk.why(store, server), "syncing both took ")
-        if "stood still" in told or seconds > 2 and "have waited for the disk" not in told:
+        if "made no progress" in told or seconds > 2 and "have waited for the disk" not in told:
             raise NotSeen(f"at {seconds} s a sync the check printed: {sorted(told)}")
 
 
 def told_of_a_wave(server: Serving, memory: str) -> set[str]:
     """Returns what the check finds from the beginning of a wave to its end, by looks in quick succession."""
-    port, told, words = Port(server.address, LONG), set[str](), {"stood still", "have waited for the disk"}
+    port, told, words = Port(server.address, LONG), set[str](), {"made no progress", "have waited for the disk"}
     while True:
         view = port.show()
         if view.settled == view.accepted > 4 and all(node.mode == "ready" for node in view.nodes):
@@ -167,25 +167,25 @@ def told_of_a_wave(server: Serving, memory: str) -> set[str]:
         time.sleep(0.1)
 
 
-@row("`a wave has stood still at node N`")
+@row("`a wave has made no progress at node N`")
 def a_lost_packet(desk: Desk) -> None:
     """The workers, which submit the packets that a start sends again, run out of memory, and so lose one."""
     store, refusing = desk.write("store", migrations.IN_A_RESET), Refusing(PROGRAM, desk.folder)
     with Serving(store, env=refusing.environment(1, 1_000_000, threads=WORKERS)) as server:
-        desk.await_health(server, "a wave has stood still at node 1 (abort)")
+        desk.await_health(server, "a wave has made no progress at node 1 (abort)")
         refusing.refuse(refusing.count() + 1, 0)
         until("the end of the wave", lambda: desk.resetctl("resend", server=server) and
               all(row[2] == "ready" for row in server.show()["nodes"]))
         see(desk.health(server).text, "resetd OK: well")
 
 
-@row("`epoch E of node N is unconfirmed`")
+@row("`epoch E of node N has been unconfirmed`")
 def a_service_that_is_down(desk: Desk) -> None:
     store = desk.store(1)
     with Serving(store) as server:
         server.order(1, "reset", client=9, node=1)
         server.await_quiet()
-        desk.await_health(server, "epoch 1 of node 1 is unconfirmed for ", "--unconfirmed", "1")
+        desk.await_health(server, "epoch 1 of node 1 has been unconfirmed for ", "--unconfirmed", "1")
         with service(desk, server) as words:
             until("its start", lambda: bool(server.show()["nodes"][0][4] == server.show()["nodes"][0][5] > 0))
             see(words(), "service 1: starts anew, epoch ")
@@ -262,7 +262,7 @@ def a_reader_that_hangs(desk: Desk) -> None:
         try:
             server.leave()
             see(str(server.ask({"op": "close"})), "closed")
-            see(desk.why(store, server), f"process {reader.pid} (sleep 3600) reads; it is full: end its reader")
+            see(desk.why(store, server), f"process {reader.pid} (sleep 3600) reads; the pipe is full: end the process that reads it")
         finally:
             reader.kill()
             reader.wait()

@@ -26,14 +26,14 @@ def device_at_a_start(desk: Desk) -> None:
     store = desk.store()
     with Serving(store) as server:
         desk.start_ends(store, 3, "Device")
-        see(desk.why(store, server), f"lock     held by process {server.process.pid} (", "a start now would end with Device: lock: ")
+        see(desk.why(store, server), f"lock     process {server.process.pid} (", "a start now would end with the fault Device: lock: ")
     desk.expect_served(store)
     if os.geteuid() == 0:
         os.chmod(desk.folder, 0o755)
         os.chmod(store, 0o600)
-        see(desk.why(store, None, "--user", "nobody"), "Device: access: the user nobody can't open it to read and write")
+        see(desk.why(store, None, "--user", "nobody"), "Device: access: the user nobody can't open the file for reading and writing")
         shutil.chown(store, "nobody")
-        see(desk.why(store, None, "--user", "nobody"), "nothing found here prevents a start")
+        see(desk.why(store, None, "--user", "nobody"), "these checks found nothing that prevents a start")
 
 
 @row("`resetd: Device` from each command, at once")
@@ -41,14 +41,14 @@ def no_regular_file(desk: Desk) -> None:
     os.mkfifo(desk.path("store"))
     for command in ("check", "show"):
         expect(ran(command, desk.path("store")), faulted(3, "Device"))
-    see(desk.why(desk.path("store")), "file     a FIFO of 0 bytes", "a start now would end with Device: file: ")
+    see(desk.why(desk.path("store")), "file     a FIFO of 0 bytes", "a start now would end with the fault Device: file: ")
 
 
 @row("any fault at a start, and you don't know why")
 def any_fault(desk: Desk) -> None:
     store = desk.store()
     os.truncate(store, 60)
-    see(desk.why(store), "a start now would end with BadRecord: store: is not a readable store: BadRecord: at byte ")
+    see(desk.why(store), "a start now would end with the fault BadRecord: store: the file is not a readable store: BadRecord: at byte ")
     desk.start_ends(store, 1, "BadRecord")
     see(desk.resetctl("report", "--store", store, desk.path("report.tar.gz"), patience=0, seconds=2).text, "why.txt", "written to ")
 
@@ -80,7 +80,7 @@ def no_store(desk: Desk) -> None:
     copy = desk.store(name="copy")
     store = desk.write("store", b"")
     desk.start_ends(store, 1, "NoMagic")
-    see(desk.why(store), "a start now would end with NoMagic: store: is not a readable store", "the file is empty")
+    see(desk.why(store), "a start now would end with the fault NoMagic: store: the file is not a readable store", "the file is empty")
     os.remove(store)
     shutil.copy(copy, store)
     desk.expect_served(store)
@@ -105,7 +105,7 @@ def damaged(desk: Desk) -> None:
         desk.write("store", bytes_)
         desk.start_ends(store, 1, name)
         see(ran("check", store).told, name)
-        see(desk.why(store), f"a start now would end with {name}: ")
+        see(desk.why(store), f"a start now would end with the fault {name}: ")
         with open(store, "rb") as file:
             if file.read() != bytes_:
                 raise NotSeen("the command wrote something")
@@ -121,7 +121,7 @@ def a_taken_address(desk: Desk) -> None:
         address = f"127.0.0.1:{other.getsockname()[1]}"
         desk.start_ends(store, 3, "Socket", address)
         see(desk.resetctl("why", store, address, patience=0, seconds=2).text, f"process {os.getpid()} (",
-            "a start now would end with Socket: address: ")
+            "a start now would end with the fault Socket: address: ")
     desk.expect_served(store)
 
 

@@ -1,8 +1,9 @@
-"""`resetctl`: a person's side of a coordinator.
+"""Controls a resetd coordinator: sends orders to it, and inspects the server and its store.
 
 Exit statuses: 0 done; 1 refused, with the refusal on standard error, or `diff` or `why` found something; 2 wrong
-words, or a topology file that can't be read; 3 no answer within --patience; 4 the folder of this client's numbers
-can't be used, or they are not found. `health` ends as monitoring checks do: 0 well, 1 warning, 2 critical, 3 unknown.
+arguments, or a topology file that can't be read; 3 no answer within --patience; 4 the folder of this client's order
+numbers can't be used, or its order number was not found. `health` exits like a monitoring check: 0 well, 1 warning,
+2 critical, 3 unknown.
 """
 
 from __future__ import annotations
@@ -33,23 +34,24 @@ def parser() -> argparse.ArgumentParser:
     top = argparse.ArgumentParser(prog="resetctl", description=__doc__, formatter_class=argparse.RawDescriptionHelpFormatter)
     top.add_argument("--version", action="version", version=f"resetctl {__version__}")
     top.add_argument("--address", default=os.environ.get("RESETD_ADDRESS") or default_address(),
-                     help="HOST:PORT of the coordinator, unix:PATH or tls:HOST:PORT of resetd-proxy, or several separated by commas "
-                     "(RESETD_ADDRESS; a socket of resetd-proxy that you may open, else 127.0.0.1:4170)")
+                     help="the address of the server (HOST:PORT) or of resetd-proxy (unix:PATH, tls:HOST:PORT), or several, separated by commas "
+                     "(default: RESETD_ADDRESS, else a socket of resetd-proxy that you may open, else 127.0.0.1:4170)")
     for name, about in CREDENTIALS.items():
-        top.add_argument(f"--{name}", metavar="PEM", help=f"for tls: {about} (RESETD_{name.upper()})")
+        top.add_argument(f"--{name}", metavar="PEM", help=f"the PEM file with {about}, for a tls: address (default: RESETD_{name.upper()})")
     top.add_argument("--client", type=ranges.of("client"), metavar="C",
-                     default=os.environ.get("RESETD_CLIENT") or str(CLIENTS[-1]), help="the client's number (RESETD_CLIENT, 16)")
+                     default=os.environ.get("RESETD_CLIENT") or str(CLIENTS[-1]),
+                     help="the client's number, 1 to 16 (default: RESETD_CLIENT, else 16)")
     top.add_argument("--state", default=os.environ.get("RESETCTL_STATE") or default_state(), metavar="FOLDER",
-                     help="the folder for this client's order numbers (RESETCTL_STATE, ~/.local/state/resetctl)")
+                     help="the folder for this client's order numbers (default: RESETCTL_STATE, else ~/.local/state/resetctl)")
     top.add_argument("--patience", type=ranges.span, metavar="SECONDS",
-                     help="how long to resend a line that has no answer (30; 2 for commands that only read)")
+                     help="for how many seconds to resend a request that gets no answer (default: 30; 2 for commands that only read)")
     top.add_argument("--seconds", type=ranges.some_seconds, metavar="SECONDS",
-                     help="how long one answer may take (20; 2 for commands that only read)")
-    top.add_argument("--quiet", action="store_true", help="print no reply to an order, resend or close")
+                     help="how many seconds to wait for each answer (default: 20; 2 for commands that only read)")
+    top.add_argument("--quiet", action="store_true", help="do not print the replies to orders, resend and close")
     commands = top.add_subparsers(dest="command", required=True, metavar="COMMAND")
     for command in COMMANDS:
         each = commands.add_parser(command.name, help=command.about, description=f"{command.about}.",
-                                   epilog="Exit statuses and common options: resetctl --help.")
+                                   epilog="resetctl --help describes the exit statuses and the common options.")
         each.set_defaults(call=command.call, is_look=command.is_look)
         command.add_words(each)
     return top
@@ -87,7 +89,7 @@ def main(arguments: list[str] | None = None) -> int:
         complain(f"{words.file}: {fault}")
         return REFUSED
     except (CountLost, CountNotFound, Held, Unreadable) as fault:
-        complain(f"{fault}{'; resetctl count recovers the number' if isinstance(fault, CountLost) else ''}")
+        complain(f"{fault}{'; run resetctl count to recover the number' if isinstance(fault, CountLost) else ''}")
         return COUNT
     except NotTaken as refused:
         complain(control.why(refused))

@@ -108,7 +108,7 @@ def came_of(entry: Entry) -> str:
         else:
             parts.append(str(answer.get("fault", "answered")))
     elif entry["event"] == "unanswered":
-        parts.append("no answer: perhaps carried out")
+        parts.append("no answer: the order may have been carried out")
     if isinstance(passed := entry.get("passed"), dict):
         parts.append(f"as client {passed.get('client')}, number {passed.get('number')}")
     if "count" in entry:
@@ -119,13 +119,13 @@ def came_of(entry: Entry) -> str:
 
 
 def add_log_words(parser: argparse.ArgumentParser) -> None:
-    parser.add_argument("file", metavar="FILE", nargs="?", default=AUDIT, help=f"the proxy's audit file, - for standard input ({AUDIT})")
-    parser.add_argument("--reset", action="store_true", help="only resets that were carried out, or may have been")
-    parser.add_argument("--denied", action="store_true", help="only denied requests")
-    parser.add_argument("--node", type=ranges.of("node"), help="only orders at this node")
-    parser.add_argument("--since", metavar="TIME", help="only from this time on, in UTC (2026-01-31T12:00)")
-    parser.add_argument("--until", metavar="TIME", help="only before this time")
-    parser.add_argument("--json", action="store_true", help="print the lines as they are in the file")
+    parser.add_argument("file", metavar="FILE", nargs="?", default=AUDIT, help=f"the proxy's audit file, or - for standard input (default: {AUDIT})")
+    parser.add_argument("--reset", action="store_true", help="print only resets that were carried out, or may have been")
+    parser.add_argument("--denied", action="store_true", help="print only denied requests")
+    parser.add_argument("--node", type=ranges.of("node"), help="print only orders that name this node")
+    parser.add_argument("--since", metavar="TIME", help="print only entries from this time on, in UTC, such as 2026-01-31T12:00")
+    parser.add_argument("--until", metavar="TIME", help="print only entries before this time, in UTC")
+    parser.add_argument("--json", action="store_true", help="print each entry as a line of JSON, as in the file")
 
 
 COMMANDS = (Command("log", "prints who ordered what and when, from the proxy's audit file", log, add_log_words, is_look=True),)

@@ -28,7 +28,7 @@ T = TypeVar("T")
 
 
 def add_json(parser: argparse.ArgumentParser) -> None:
-    parser.add_argument("--json", action="store_true", help="print one line of JSON")
+    parser.add_argument("--json", action="store_true", help="print the result as one line of JSON")
 
 
 def print_json(value: object) -> None:
@@ -89,12 +89,12 @@ class Control:
         if not book.unanswered:
             return
         left = book.unanswered
-        complain(f"sent again, since there was no answer: {'; '.join(map(told_order, left))}")
+        complain(f"sending these orders again, because they had no answer: {'; '.join(map(told_order, left))}")
         try:
             for order, outcome in zip(left, self.patient(book.settle)):
                 complain(f"{told_order(order)}: {outcome if isinstance(outcome, NotTaken) else told_reply(outcome)}")
         except CountLost:
-            complain(f"client {self.words.client} has sent later orders: use show to see whether this order was carried out; it is not sent again")
+            complain(f"client {self.words.client} has sent later orders, so this order is not sent again: use show to see whether it was carried out")
             self.patient(book.recover)
 
     def carry_out(self, book: Orders, op: str, **members: int) -> Reply:

@@ -25,8 +25,8 @@ def bench(control: Control) -> int:
     words = control.words
     view = control.show()
     if (served := [node.node for node in view.nodes if node.confirmed]) and not words.with_services:
-        complain(f"services have confirmed epochs of nodes {', '.join(map(str, served))}: each would begin again at each of "
-                 f"{words.waves} resets; use --with-services to run anyway")
+        complain(f"these nodes have services: {', '.join(map(str, served))}. Each service would begin again at each of the "
+                 f"{words.waves} resets; to run anyway, use --with-services")
         return REFUSED
     with control.orders() as book:
         control.settle(book)
@@ -44,7 +44,7 @@ def measured_orders(control: Control, book: Orders, view: View) -> dict[str, flo
     the orders add and remove a node that does not."""
     node = next((node for node in reversed(NODES) if view.node(node) is None), None)
     if node is None:
-        complain(f"all {len(NODES)} nodes exist, so no orders are measured: they would add and remove a node")
+        complain(f"all {len(NODES)} nodes exist, so the order rate is not measured: that needs a node to add and remove")
         return {}
     pair: list[Order] = [{"op": "add", "node": node, "group": GROUPS[-1]}, {"op": "remove", "node": node}]
     each = [timed(partial(carried_out, control, book, [order])) for order in pair * (control.words.orders // 2)]
@@ -73,7 +73,7 @@ def wave(control: Control, book: Orders, node: int) -> None:
     until = time.monotonic() + WAVE_SECONDS
     while not all(row.mode == "ready" and row.epoch > before.get(row.node, -1) for row in control.show().connected(node)):
         if time.monotonic() > until:
-            raise Away(f"the reset of node {node} is not over after {WAVE_SECONDS:g} s")
+            raise Away(f"the reset of node {node} has not ended after {WAVE_SECONDS:g} s")
 
 
 def carried_out(control: Control, book: Orders, orders: list[Order]) -> None:
@@ -93,10 +93,10 @@ def timed(call: Callable[[], object]) -> float:
 def add_bench_words(parser: argparse.ArgumentParser) -> None:
     add_json(parser)
     parser.add_argument("--orders", type=ranges.some_orders, default=ORDERS, metavar="N",
-                        help=f"the number of orders, sent one after another, at least 2 ({ORDERS})")
-    parser.add_argument("--waves", type=ranges.amount, default=WAVES, metavar="N", help=f"the number of resets ({WAVES})")
-    parser.add_argument("--with-services", action="store_true", help="run even if nodes have services, which then begin again")
+                        help=f"how many orders to send one after another, at least 2 (default: {ORDERS})")
+    parser.add_argument("--waves", type=ranges.amount, default=WAVES, metavar="N", help=f"how many resets to ask for (default: {WAVES})")
+    parser.add_argument("--with-services", action="store_true", help="run even if nodes have services, which then begin again at each reset")
 
 
-COMMANDS = (Command("bench", "measures the server's order rate and the time of a wave; refuses if nodes have services", bench,
+COMMANDS = (Command("bench", "measures the server's order rate and the duration of a wave; refuses to run if nodes have services", bench,
                     add_bench_words),)

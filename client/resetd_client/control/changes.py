@@ -12,7 +12,8 @@ from ..view import View
 from . import ranges
 from .base import DONE, REFUSED, Command, Control, add_json, complain, print_json, told_order, told_reply
 
-NUMBERS = {"node": "1 to 64", "group": "1 to 16", "a": "one end", "b": "the other end", "epoch": "the shown epoch"}
+NUMBERS = {"node": "the node, 1 to 64", "group": "the node's group, 1 to 16", "a": "the node at one end of the link",
+           "b": "the node at the other end", "epoch": "the node's epoch, as resetctl show prints it"}
 
 
 def order(control: Control) -> int:
@@ -30,8 +31,8 @@ def order(control: Control) -> int:
 def say_what_becomes_of_files(control: Control, nodes: list[int]) -> None:
     """Prints what the services of removed nodes should do with their files."""
     if nodes and not control.words.quiet:
-        complain(f"removed: {', '.join(map(str, nodes))}. A service may keep its files: if its node is added again it asks for one "
-                 "reset. If a node is removed for good, remove its service's files too")
+        complain(f"removed nodes: {', '.join(map(str, nodes))}. If a node is removed for good, remove its service's files too. If it will "
+                 "be added again, its service may keep its files, and will ask for one reset")
 
 
 def resend(control: Control) -> int:
@@ -51,7 +52,7 @@ def count(control: Control) -> int:
     words = control.words
     with control.orders() as book:
         for each in book.unanswered:
-            complain(f"given up, and perhaps carried out: {told_order(each)}")
+            complain(f"giving up this order, which had no answer and may have been carried out: {told_order(each)}")
         print(f"client {words.client}: {control.patient(lambda: book.recover(words.most))}")
     return DONE
 
@@ -100,7 +101,7 @@ def apply(control: Control) -> int:
         for each, reply in zip(orders, control.carry_out_all(book, lines, view.accepted)):
             print(f"{told_reply(reply)}: {each}", flush=True)
     say_what_becomes_of_files(control, [each.members["node"] for each in orders if each.op == "remove"])
-    print(f"{len(orders)} orders; the network matches {control.words.topology}")
+    print(f"carried out {len(orders)} orders; the network now matches {control.words.topology}")
     return DONE
 
 
@@ -112,7 +113,7 @@ def numbers(*names: str) -> Callable[[argparse.ArgumentParser], None]:
 
 
 def add_count_words(parser: argparse.ArgumentParser) -> None:
-    parser.add_argument("--most", type=ranges.count, default=MOST_TRIED, help=f"the maximum number of order numbers to try ({MOST_TRIED})")
+    parser.add_argument("--most", type=ranges.count, default=MOST_TRIED, help=f"the maximum number of order numbers to try (default: {MOST_TRIED})")
 
 
 def add_diff_words(parser: argparse.ArgumentParser) -> None:
@@ -121,22 +122,22 @@ def add_diff_words(parser: argparse.ArgumentParser) -> None:
 
 
 def add_topology_words(parser: argparse.ArgumentParser) -> None:
-    parser.add_argument("topology", metavar="TOPOLOGY", help="a topology file (docs/FORMATS.md)")
+    parser.add_argument("topology", metavar="TOPOLOGY", help="the topology file, in the format that docs/FORMATS.md describes")
 
 
 COMMANDS = (
-    Command("reset", "asks for a reset of a node, which reaches all nodes that links connect with it", order, numbers("node")),
+    Command("reset", "asks for a reset of a node, and so of all nodes that are linked with it directly or through others", order, numbers("node")),
     Command("confirm", "confirms that a node's service has begun an epoch", order, numbers("node", "epoch")),
     Command("add", "adds a node", order, numbers("node", "group")),
     Command("remove", "removes a node that has no links", order, numbers("node")),
     Command("join", "links two nodes", order, numbers("a", "b")),
-    Command("drop", "removes the link of two nodes", order, numbers("a", "b")),
-    Command("resend", "sends the packets in transit again, if a wave makes no progress", resend),
+    Command("drop", "removes the link between two nodes", order, numbers("a", "b")),
+    Command("resend", "sends the packets in transit again, which helps a wave that makes no progress", resend),
     Command("close", "shuts the server down", close),
-    Command("count", "recovers the number of this client's last order if it was lost", count, add_count_words),
-    Command("diff", "prints the orders that would make the network match a topology file; exits with 1 if there are any",
+    Command("count", "recovers the number of this client's last order, if that number was lost", count, add_count_words),
+    Command("diff", "prints the orders that would make the network match a topology file; exits with 1 if any are needed",
             diff, add_diff_words, is_look=True),
-    Command("check-topology", "checks a topology file as `resetd init` does, without a store; exits with 2 if it is invalid",
+    Command("check-topology", "checks a topology file like `resetd init`, but makes no store; exits with 2 if the file is invalid",
             check_topology, add_topology_words, is_look=True),
-    Command("apply", "sends the orders that make the network match a topology file, each once", apply, add_topology_words),
+    Command("apply", "sends the orders that make the network match a topology file; each is carried out once", apply, add_topology_words),
 )

@@ -26,7 +26,7 @@ def health(control: Control) -> int:
         found = check(control.port, since, Bounds(words.steps, words.wave, words.unconfirmed), control.patience, signals, words.store)
         if found.is_stopped and words.close_stopped:
             control.port.close()
-            print("resetctl: the server answered Stopped, and was closed")
+            print("resetctl: the server answered with Stopped, so it was closed")
     except (ResetdError, OSError) as fault:
         if words.json:
             print_json({"findings": [str(fault)], "level": Level.UNKNOWN.name})
@@ -62,25 +62,27 @@ def write_metrics(control: Control) -> int:
 
 def add_health_words(parser: argparse.ArgumentParser) -> None:
     add_json(parser)
-    parser.add_argument("--steps", type=ranges.span, default=5.0, metavar="SECONDS", help="how long steps may wait for the disk (5)")
-    parser.add_argument("--wave", type=ranges.span, default=5.0, metavar="SECONDS", help="how long a wave may make no progress (5)")
+    parser.add_argument("--steps", type=ranges.span, default=5.0, metavar="SECONDS",
+                        help="report steps that have waited for the disk for this many seconds (default: 5)")
+    parser.add_argument("--wave", type=ranges.span, default=5.0, metavar="SECONDS",
+                        help="report a wave that has made no progress for this many seconds (default: 5)")
     parser.add_argument("--unconfirmed", type=ranges.span, default=60.0, metavar="SECONDS",
-                        help="how long an epoch may be unconfirmed (60)")
-    parser.add_argument("--signals", metavar="FILE", help="warn if this file of the server's signals lacks lines")
-    parser.add_argument("--store", metavar="FILE", help="critical if this is not the server's store")
+                        help="report an epoch that has been unconfirmed for this many seconds (default: 60)")
+    parser.add_argument("--signals", metavar="FILE", help="warn if signals are missing from this file, to which the server's output is written")
+    parser.add_argument("--store", metavar="FILE", help="report a critical state if this file is not the server's store")
     parser.add_argument("--close-stopped", action="store_true",
-                        help="close a server that answers Stopped, so that its service manager restarts it")
+                        help="close a server that answers with Stopped, so that its service manager restarts it")
 
 
 def add_metrics_words(parser: argparse.ArgumentParser) -> None:
-    parser.add_argument("--store", metavar="STORE", help="also report whether this is the server's store")
+    parser.add_argument("--store", metavar="STORE", help="also report whether this file is the server's store")
     parser.add_argument("file", metavar="FILE", nargs="?", default="-",
-                        help="the file to write, which is replaced as a whole (standard output)")
+                        help="the file to write, which is replaced as a whole (default: standard output)")
 
 
 COMMANDS = (
-    Command("health", "checks the server: exits with 0 if all is well, 1 warning, 2 critical, 3 unknown", health, add_health_words,
-            is_look=True),
+    Command("health", "checks the server; the exit status is 0 if all is well, 1 for a warning, 2 if critical, 3 if unknown",
+            health, add_health_words, is_look=True),
     Command("metrics", "writes metrics for node_exporter's textfile collector", write_metrics, add_metrics_words,
             is_look=True),
 )

@@ -135,8 +135,8 @@ def completion(control: Control) -> int:
 
 
 def add_completion_words(parser: argparse.ArgumentParser) -> None:
-    parser.add_argument("shell", choices=SHELLS, metavar="SHELL", help="bash or zsh")
+    parser.add_argument("shell", choices=SHELLS, metavar="SHELL", help="the shell: bash or zsh")
 
 
-COMMANDS = (Command("completion", "prints a script that completes these commands in a shell", completion, add_completion_words,
+COMMANDS = (Command("completion", "prints a script with which a shell completes the commands of resetctl", completion, add_completion_words,
                     is_look=True),)

@@ -19,7 +19,7 @@ from .base import DONE, Command, Control, add_json, print_json
 
 MARKS = {"ready": "·", "abort": "A", "converge": "C"}
 PROXY_SECONDS = 30.0  # between two looks, if the proxy reports changes
-LEGEND = "· through  o not confirmed yet  A abort  C converge; epoch/confirmed"
+LEGEND = "· confirmed, o not confirmed yet, A abort, C converge; node:epoch/confirmed"
 
 
 def show(control: Control) -> int:
@@ -45,7 +45,7 @@ def table(view: View) -> str:
         lines.append(f"{row.node:4d} {row.group:5d} {row.mode:8s} {row.parent or '-':>6} {row.epoch:5d} "
                      f"{row.confirmed:9d}{' ' if row.is_begun else '*'} {' '.join(map(str, sorted(near.get(row.node, []))))}")
     if any(not row.is_begun for row in view.nodes):
-        lines.append("* in a reset, or not confirmed yet")
+        lines.append("* the node is in a reset, or its epoch is not confirmed yet")
     return "\n".join(line.rstrip() for line in lines)
 
 
@@ -78,7 +78,7 @@ def looked(control: Control) -> list[str]:
         return [f"no answer: {away}"]
     marks = "".join(MARKS.get(node.mode, "?") if node.mode != "ready" or node.is_begun else "o" for node in view.nodes)
     rest = [f"{node.node}:{node.epoch}/{node.confirmed}" for node in view.nodes if not node.is_begun]
-    return [f"[{marks}] {view.settled} steps", " ".join(rest) or "confirmed at every node"]
+    return [f"[{marks}] {view.settled} steps", " ".join(rest) or "every node has confirmed its epoch"]
 
 
 def draw(picture: list[str], before: list[str] | None) -> None:
@@ -94,12 +94,12 @@ def note(picture: list[str]) -> None:
 
 def add_watch_words(parser: argparse.ArgumentParser) -> None:
     parser.add_argument("--every", type=ranges.some_seconds, default=0.2, metavar="SECONDS",
-                        help="how often to look if no proxy reports changes (0.2)")
-    parser.add_argument("--for", dest="for_seconds", type=ranges.span, metavar="SECONDS", help="end after this many seconds (never)")
+                        help="the seconds between two looks, if no proxy reports changes (default: 0.2)")
+    parser.add_argument("--for", dest="for_seconds", type=ranges.span, metavar="SECONDS", help="end after this many seconds (default: never)")
 
 
 COMMANDS = (
     Command("show", "prints the nodes and links", show, add_json, is_look=True),
-    Command("watch", "draws the nodes' modes as they change; prints a line for each change if the output is not a terminal", watch,
+    Command("watch", "draws the nodes' modes as they change; if the output is not a terminal, prints a line for each change", watch,
             add_watch_words, is_look=True),
 )

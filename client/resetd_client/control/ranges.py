@@ -20,14 +20,14 @@ def span(text: str) -> float:
     except ValueError:
         seconds = -1.0
     if not 0 <= seconds <= MOST_SECONDS:
-        raise argparse.ArgumentTypeError(f"{text!r} is not a number of seconds")
+        raise argparse.ArgumentTypeError(f"{text!r} is not a valid number of seconds")
     return seconds
 
 
 def some_seconds(text: str) -> float:
     """Parses a number of seconds, more than 0."""
     if (seconds := span(text)) == 0:
-        raise argparse.ArgumentTypeError("it must be more than 0 seconds")
+        raise argparse.ArgumentTypeError("the number of seconds must be more than 0")
     return seconds
 
 
@@ -53,7 +53,7 @@ def count(text: str) -> int:
 def fence_count(text: str) -> int:
     """Parses the count of a fence, as a database stores it."""
     if not is_number(text, MOST_FENCE_COUNT) or int(text) > MOST_FENCE_COUNT:
-        raise argparse.ArgumentTypeError(f"{text!r} is not a fence count")
+        raise argparse.ArgumentTypeError(f"{text!r} is not a fence count: use a whole number below 2^63")
     return int(text)
 
 
@@ -67,7 +67,7 @@ def amount(text: str) -> int:
 def some_orders(text: str) -> int:
     """Parses a count of at least two."""
     if (value := amount(text)) < 2:
-        raise argparse.ArgumentTypeError(f"{text!r} are too few")
+        raise argparse.ArgumentTypeError(f"{text} is too few: at least 2 are needed")
     return value
 
 
@@ -81,4 +81,4 @@ def account(text: str) -> Account:
     try:
         return account_named(text)
     except KeyError:
-        raise argparse.ArgumentTypeError(f"there is no user {text!r}") from None
+        raise argparse.ArgumentTypeError(f"this machine has no user {text!r}") from None

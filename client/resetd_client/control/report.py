@@ -37,21 +37,22 @@ class Part:
 
 def parts(control: Control) -> Iterator[Part]:
     words = control.words
-    yield Part("why.txt", "what resetctl why prints", lambda: why_text(control))
-    yield Part("show.json", "what the server shows", lambda: json.dumps(patiently(control.port.show, control.patience).members()))
-    yield Part("store", "a copy of the store, as resetctl backup makes it; if the store can't be read, the file's bytes",
+    yield Part("why.txt", "the output of resetctl why", lambda: why_text(control))
+    yield Part("show.json", "the nodes and links, as resetctl show --json prints them",
+               lambda: json.dumps(patiently(control.port.show, control.patience).members()))
+    yield Part("store", "a copy of the store, made like resetctl backup, or the file's bytes if the store can't be read",
                lambda: copy_of(words.store))
-    yield Part("steps.txt", "its steps since the last checkpoint", lambda: steps_text(words.store, False))
-    yield Part("steps-before.txt", "the steps of the previous half", lambda: steps_text(words.store, True))
+    yield Part("steps.txt", "the store's steps since the last checkpoint", lambda: steps_text(words.store, False))
+    yield Part("steps-before.txt", "the steps in the store's previous half", lambda: steps_text(words.store, True))
     for name, path in memories(control):
-        yield Part(name, f"what resetctl health remembers ({path})", lambda path=path: bytes_of(path))  # type: ignore[misc]
-    yield Part("journal.txt", f"the last {MOST_LINES} lines of the units {words.unit}, {words.unit}-proxy and {words.unit}-health",
+        yield Part(name, f"the state that resetctl health keeps ({path})", lambda path=path: bytes_of(path))  # type: ignore[misc]
+    yield Part("journal.txt", f"the last {MOST_LINES} journal lines of the units {words.unit}, {words.unit}-proxy and {words.unit}-health",
                lambda: said("journalctl", "--no-pager", "--quiet", "--output", "short-iso-precise", "--lines", MOST_LINES,
                             "--unit", words.unit, "--unit", f"{words.unit}-proxy", "--unit", f"{words.unit}-health"))
-    yield Part("versions.txt", "versions, and checksums of the program and the library", lambda: versions(words.store))
-    yield Part("process.txt", "the server's limits, and the state of each of its threads", lambda: process_text(words.store))
-    yield Part("filesystem.txt", "mount, space and device of the store", lambda: file_system(words.store))
-    yield Part("kernel.txt", "the kernel's messages about that device", lambda: kernel_lines(words.store))
+    yield Part("versions.txt", "the versions, and the checksums of the program and the library", lambda: versions(words.store))
+    yield Part("process.txt", "the server's resource limits, and the state of each of its threads", lambda: process_text(words.store))
+    yield Part("filesystem.txt", "the mount, the free space and the device of the store", lambda: file_system(words.store))
+    yield Part("kernel.txt", "the kernel's messages about the store's device", lambda: kernel_lines(words.store))
 
 
 def why_text(control: Control) -> str:
@@ -95,7 +96,7 @@ def versions(path: str) -> str:
              "package " + said("dpkg-query", "--show", "resetd").strip()]
     for process in lock_holders(os.stat(path)):
         if program := program_of(process):
-            now = "the file is unchanged" if program.is_there else "the file at that path has changed since"
+            now = "the file has not changed since" if program.is_there else "the file at that path has changed since"
             lines.append(f"{program.checksum}  {program.path}, run by process {process}; {now}")
     for folder, _, names in sorted(os.walk(PACKAGE)):
         lines += [f"{checksum_of(os.path.join(folder, name))}  {os.path.relpath(os.path.join(folder, name), PACKAGE)}"
@@ -107,7 +108,7 @@ def process_text(path: str) -> str:
     text = ""
     for process in lock_holders(os.stat(path)):
         text += f"process {process}\n{bytes_of(f'/proc/{process}/limits').decode()}"
-        text += "".join(f"thread {thread}: {state}, went to sleep {rests} times\n"
+        text += "".join(f"thread {thread}: state {state}; the thread has gone to sleep {rests} times\n"
                         for thread, (state, rests) in sorted(threads_of(process).items()))
     return text or "no process on this machine has locked the store\n"
 
@@ -134,7 +135,7 @@ def report(control: Control) -> int:
     except BaseException:
         os.remove(out)
         raise
-    print(f"{table}written to {out}, which only its owner may read; it contains nothing else about this machine")
+    print(f"{table}The report was written to {out}, which only its owner may read; it contains nothing else about this machine")
     return DONE
 
 
@@ -145,13 +146,14 @@ def put_into(archive: tarfile.TarFile, name: str, content: bytes) -> None:
 
 
 def add_words(parser: argparse.ArgumentParser) -> None:
-    parser.add_argument("out", metavar="OUT.tar.gz", help="a file that does not exist yet")
-    parser.add_argument("--store", metavar="FILE", default="/var/lib/resetd/store", help="the store (/var/lib/resetd/store)")
-    parser.add_argument("--unit", metavar="NAME", default="resetd", help="the unit of the server (resetd)")
+    parser.add_argument("out", metavar="OUT.tar.gz", help="the file to write, which must not exist yet")
+    parser.add_argument("--store", metavar="FILE", default="/var/lib/resetd/store", help="the store's file (default: /var/lib/resetd/store)")
+    parser.add_argument("--unit", metavar="NAME", default="resetd", help="the server's systemd unit (default: resetd)")
     parser.add_argument("--memory", metavar="FOLDER", default="/var/lib/resetd-health",
-                        help="the state of the timer's health (/var/lib/resetd-health)")
+                        help="the folder in which the health timer keeps its state (default: /var/lib/resetd-health)")
 
 
-COMMANDS = (Command("report", "writes a file for diagnosing a fault: the output of why, show, steps and health, a copy of the "
-                    "store, the units' journal, versions, limits, file system, the kernel's lines about the device", report, add_words,
+COMMANDS = (Command("report", "writes a file for diagnosing a fault, with the output of why, show and steps, the state that "
+                    "health keeps, a copy of the store, the units' journal, the versions, the server's limits, the file system, "
+                    "and the kernel's messages about the device", report, add_words,
                     is_look=True),)

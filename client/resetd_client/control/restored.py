@@ -12,7 +12,7 @@ from .base import DONE, Command, Control
 
 def add_words(parser: argparse.ArgumentParser) -> None:
     parser.add_argument("--fence", type=ranges.fence_count, metavar="COUNT",
-                        help="the greatest fence count in your databases: also print the generation for their members")
+                        help="the greatest fence count in your databases; the command then also prints the generation to give their members")
 
 
 def restored(control: Control) -> int:
@@ -24,9 +24,10 @@ def restored(control: Control) -> int:
         control.settle(book)
         control.tell(control.patient(lambda: renew(control.port, book, control.patience)))
     if count is not None:
-        control.tell(f"now start all members with generation {generation_of(count) + 1}, or with a greater one if a member had that generation before")
+        control.tell(f"now start all members with generation {generation_of(count) + 1}, "
+                     "or with a greater generation if a member has already used that one")
     return DONE
 
 
-COMMANDS = (Command("restored", "asks for a reset in each group after a restore, and waits until every node has a new epoch",
+COMMANDS = (Command("restored", "asks for a reset in each group after the store was restored, and waits until every node has a new epoch",
                     restored, add_words),)

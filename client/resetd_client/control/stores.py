@@ -33,7 +33,7 @@ def why(control: Control) -> int:
         print_json({"findings": [asdict(finding) for finding in findings], "told": told.splitlines()})
         return REFUSED if told else DONE
     left_out = "".join(f"; not checked: {finding.left_out}" for finding in findings if finding.left_out)
-    print(told or f"nothing found here prevents a start{left_out}")
+    print(told or f"these checks found nothing that prevents a start{left_out}")
     return REFUSED if told else DONE
 
 
@@ -48,8 +48,8 @@ def told_start(findings: list[Finding]) -> str:
     """Returns the fault with which a start of the server would end now, and the faults that a running server may run into; empty if
     there is none."""
     faults = sorted((finding for finding in findings if finding.fault), key=lambda finding: finding.fault != "Usage")
-    told = [f"a start now would end with {finding.fault}: {finding.about}: {finding.text}" for finding in faults[:1]]
-    told += [f"a running server may run into this: {finding.later}: {finding.about}: {finding.text}" for finding in findings if finding.later]
+    told = [f"a start now would end with the fault {finding.fault}: {finding.about}: {finding.text}" for finding in faults[:1]]
+    told += [f"a running server may have this problem: {finding.later}: {finding.about}: {finding.text}" for finding in findings if finding.later]
     return "\n".join(told)
 
 
@@ -60,8 +60,8 @@ def steps(control: Control) -> int:
         print_json(store_members(store))
         return DONE
     half, rows = store.half, list(store_rows(store))
-    print(f"version {half.version}, half {half.index}: {store.world.count} steps in the snapshot, of which each client's last "
-          f"order is known, and {store.count - store.world.count} in {len(store.batches)} batches")
+    print(f"version {half.version}, half {half.index}: the snapshot has {store.world.count} steps, of which only each client's last "
+          f"order is kept, and {len(store.batches)} batches have {store.count - store.world.count} steps")
     for row in rows:
         print(row)
     return DONE
@@ -97,7 +97,7 @@ def backup(control: Control) -> int:
         put(out, store.half.file(), os.fstat(descriptor))
     finally:
         os.close(descriptor)
-    control.tell(f"copied {store.count} steps, version {store.half.version}")
+    control.tell(f"copied a store of {store.count} steps, version {store.half.version}")
     return DONE
 
 
@@ -116,8 +116,8 @@ def why_not(out: str, source: os.stat_result) -> str:
     if os.path.samestat(found, source):
         return "the copy would replace the store itself"
     if lock_holders(found):
-        return "a process has locked it: a store that is being served can't be replaced"
-    return "" if not head or head[1:9] == MAGIC else "it is not a store"
+        return "a process has locked this file: a store that is being served can't be replaced"
+    return "" if not head or head[1:9] == MAGIC else "this file is not a store, so it is not replaced"
 
 
 def put(path: str, data: bytes, like: os.stat_result) -> None:
@@ -142,29 +142,33 @@ def put(path: str, data: bytes, like: os.stat_result) -> None:
 def add_why_words(parser: argparse.ArgumentParser) -> None:
     add_json(parser)
     add_file_words(parser)
-    parser.add_argument("at", metavar="ADDRESS", nargs="?", help="the address of the server, A.B.C.D:P")
-    parser.add_argument("--audit", metavar="FILE", default=AUDIT, help=f"the proxy's audit file, which shows how long a group has waited ({AUDIT})")
-    parser.add_argument("--user", type=ranges.account, metavar="NAME", help="the user that the server runs as (the folder's owner)")
+    parser.add_argument("at", metavar="ADDRESS", nargs="?", help="the server's address, as an IPv4 address and a port (A.B.C.D:P)")
+    parser.add_argument("--audit", metavar="FILE", default=AUDIT,
+                        help=f"the proxy's audit file, which shows how long a group has waited (default: {AUDIT})")
+    parser.add_argument("--user", type=ranges.account, metavar="NAME",
+                        help="the user that the server runs as (default: the owner of the store's folder)")
 
 
 def add_file_words(parser: argparse.ArgumentParser) -> None:
-    parser.add_argument("file", metavar="FILE", help="the store")
+    parser.add_argument("file", metavar="FILE", help="the store's file")
 
 
 def add_steps_words(parser: argparse.ArgumentParser) -> None:
     add_json(parser)
     add_file_words(parser)
-    parser.add_argument("--before", action="store_true", help="read the half from before the last checkpoint, which is kept until the next one")
+    parser.add_argument("--before", action="store_true",
+                        help="read the store's previous half, from before the last checkpoint; it is kept until the next checkpoint")
 
 
 def add_backup_words(parser: argparse.ArgumentParser) -> None:
     add_file_words(parser)
-    parser.add_argument("out", metavar="OUT", help="the copy; an older copy is replaced as a whole")
+    parser.add_argument("out", metavar="OUT", help="the file for the copy; an older copy there is replaced as a whole")
 
 
 COMMANDS = (
-    Command("why", "checks the store's file and the address, and prints what would make a start fail; exits with 1 if anything would", why, add_why_words, is_look=True),
+    Command("why", "checks the store's file and the server's address, and prints what would make a start fail; "
+            "exits with 1 if it finds a problem", why, add_why_words, is_look=True),
     Command("steps", "prints the steps of a store, each with the batch in which it was settled", steps,
             add_steps_words),
-    Command("backup", "copies a store, even while it is served", backup, add_backup_words),
+    Command("backup", "copies a store, even while a server uses it", backup, add_backup_words),
 )
