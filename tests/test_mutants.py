@@ -149,6 +149,12 @@ plants crate=low planted-in=3 untested=0 no-ensures=1 proves=2 same=0 refused=7 
     def test_each_mutant_of_the_list_has_a_reason(self) -> None:
         self.assertTrue(all(plants.reviewed(plants.LIST).values()))
 
+    def test_each_crate_has_a_night(self) -> None:
+        sizes = {"one": 9, "two": 4, "three": 4, "four": 1}
+        shares = [plants.share_of(sizes, 2, night) for night in (10, 11)]
+        self.assertEqual(shares, [["one"], ["two", "three", "four"]])
+        self.assertEqual(plants.share_of(sizes, 1, 10), ["one", "two", "three", "four"])
+
 
 class OfCi(Case):
     """The edits that CI tries."""

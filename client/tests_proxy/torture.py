@@ -34,6 +34,7 @@ BURSTS = (1, 1, 3, 30, 90)  # lines that are sent before the first answer is rea
 FAR = 1 << 32  # no node comes to this epoch
 BAD_EPOCH = {"name": "BadEpoch", "refused": 15}
 LINGER_NONE = struct.pack("ii", 1, 0)
+MOST_HURTS = 4  # in a row, without an answered reset between them
 
 
 class Wrong(Exception):
@@ -276,7 +277,8 @@ class Passer(threading.Thread):
 
 
 class Torture:
-    """Orderers, a watcher and others at a proxy, until the time is over. `hurt` does something to the server, again and again."""
+    """Orderers, a watcher and others at a proxy, until the time is over. `hurt` does something to the server, again and again, but
+    only a few times without an answer between: on a busy machine one may take longer than the pause."""
 
     def __init__(self, proxy: Proxy, seed: int, nodes: int, clients: int, audit: AuditTail | None = None) -> None:
         self.proxy, self.seed, self.audit = proxy, seed, audit
@@ -296,15 +298,19 @@ class Torture:
             return is_new
 
     def run(self, seconds: float, hurt: Callable[[random.Random], None]) -> None:
-        choice = random.Random(self.seed)
+        choice, answered, in_a_row = random.Random(self.seed), 0, 0
         for each in self.all:
             each.start()
         timer = threading.Timer(seconds, self.is_over.set)
         timer.start()
         try:
             while not self.is_over.wait(choice.random() / 4):
-                hurt(choice)
-                self.hurts += 1
+                if self.answered() > answered:
+                    answered, in_a_row = self.answered(), 0
+                if in_a_row < MOST_HURTS:
+                    hurt(choice)
+                    self.hurts += 1
+                    in_a_row += 1
         finally:
             timer.cancel()
             self.is_over.set()
@@ -318,8 +324,12 @@ class Torture:
         """How many were carried out, as the orderers know it at the end."""
         return sum(orderer.known for orderer in self.orderers)
 
+    def answered(self) -> int:
+        """How many resets were answered as carried out."""
+        return sum(orderer.answered for orderer in self.orderers)
+
     def said(self) -> str:
-        answered, lost = sum(each.answered for each in self.orderers), sum(each.lost for each in self.orderers)
+        lost = sum(each.lost for each in self.orderers)
         connections, lines = sum(each.connections for each in self.orderers), sum(each.lines for each in self.orderers)
-        return (f"{lines} lines over {connections} connections; {answered} resets were answered, {lost} lost their "
+        return (f"{lines} lines over {connections} connections; {self.answered()} resets were answered, {lost} lost their "
                 f"connections, {self.resets()} were carried out, each once; {self.watcher.views} views were pushed")

@@ -10,9 +10,10 @@ import time
 from collections.abc import Callable
 from typing import TYPE_CHECKING, Any
 
+from .network import PATIENCE, Host
+
 if TYPE_CHECKING:
     from .keeper import Keeper
-    from .network import Host
     from .records import Records
 
 # maximum number of bytes in a line
@@ -61,15 +62,15 @@ class Site:
         if self.present is keeper:
             self.present = self.keepers[(self.keepers.index(keeper) + 1) % len(self.keepers)]
 
-    def ask(self, request: Json, seconds: float) -> tuple[Json, Keeper]:
+    def ask(self, request: Json) -> tuple[Json, Keeper]:
         """Sends a request until a coordinator carries it out. Returns the reply, and the address that gave it."""
-        met = self.ask_while(lambda: True, request, seconds)
+        met = self.ask_while(lambda: True, request)
         assert met
         return met
 
-    def ask_while(self, is_wanted: Callable[[], bool], request: Json, seconds: float) -> tuple[Json, Keeper] | None:
+    def ask_while(self, is_wanted: Callable[[], bool], request: Json) -> tuple[Json, Keeper] | None:
         """Like `ask`, but returns None once the request is no longer wanted."""
-        until = time.monotonic() + seconds
+        until = time.monotonic() + PATIENCE
         while time.monotonic() < until and is_wanted():
             keeper = self.present
             try:
@@ -82,7 +83,7 @@ class Site:
             self.next_after(keeper)
             time.sleep(0.05)
         if is_wanted():
-            raise Lost(f"{request} was not answered within {seconds} s")
+            raise Lost(f"{request} was not answered within {PATIENCE} s")
         return None
 
 
@@ -97,13 +98,13 @@ class Client:
         self.refused = ""
         self.drops = 0  # one answer in this many is dropped, to see that this is noticed
 
-    def order(self, op: str, seconds: float = 120, is_wanted: Callable[[], bool] = lambda: True,
+    def order(self, op: str, is_wanted: Callable[[], bool] = lambda: True,
               **members: int) -> Json | None:
         """Carries out an order, or the one that still waits for its answer. Returns its reply or its refusal."""
         if self.unanswered is None:
             number = self.answered["number"] + 1 if self.answered else 1
             self.unanswered = {"op": op, "client": self.number, "number": number, **members}
-        met = self.site.ask_while(is_wanted, self.unanswered, seconds)
+        met = self.site.ask_while(is_wanted, self.unanswered)
         if met is None:
             return None
         reply, keeper = met
@@ -124,7 +125,7 @@ class Client:
         """Sends the last answered order again, which must get the same answer."""
         if self.answered is None:
             return
-        reply, keeper = self.site.ask(self.answered, 60)
+        reply, keeper = self.site.ask(self.answered)
         if reply != self.reply:
             raise Lost(f"{self.answered} was answered {self.reply}, and sent again {reply} by {keeper.host.name} "
                        f"(without an answer: {self.unanswered})")

@@ -10,6 +10,7 @@ import time
 
 from .clients import Away, Json, Lost, ask
 from .network import Failed, Host, make_switch, run, wait_for
+from .pulse import Pulse
 from .trial import QUICK, tell
 
 ROOT = os.path.dirname(os.path.dirname(os.path.dirname(os.path.abspath(__file__))))
@@ -67,7 +68,7 @@ class Machine(Host):
         os.makedirs(self.group, exist_ok=True)
         self.boot_by(BOOT, ROOT, group=self.group)
         try:
-            wait_for(f"systemd of {self.name}", 60, self.is_up, 0.5)
+            wait_for(f"systemd of {self.name}", self.is_up, 0.5)
         except Failed as late:
             _, jobs = self.run("systemctl", "list-jobs", "--no-pager", is_checked=False)
             raise Failed(f"{late}:\n{jobs}") from late
@@ -105,7 +106,7 @@ def try_words(program: str, folder: str) -> None:
     for numbers, words in blocks():
         typed = [line for line in words.splitlines() if not line.startswith("apt-get ")]
         for number in numbers:
-            machines[number - 1].run("sh", "-ec", f"cd {ROOT}\n" + "\n".join(typed), seconds=120)
+            machines[number - 1].run("sh", "-ec", f"cd {ROOT}\n" + "\n".join(typed))
         where = " ".join(machines[number - 1].name for number in numbers)
         print(f"on {where}:\n    " + "\n    ".join(typed), flush=True)
     print()
@@ -115,7 +116,7 @@ def try_words(program: str, folder: str) -> None:
 def wait_standby(machine: Machine) -> float:
     """Waits until the unit has tried to start, and was refused by the lock."""
     try:
-        return wait_for("a refused start", 60, lambda: machine.unit("ExecMainStatus") == "3", 0.5)
+        return wait_for("a refused start", lambda: machine.unit("ExecMainStatus") == "3", 0.5)
     except Failed as late:
         _, told = machine.run("systemctl", "status", "--no-pager", "--lines=5", "resetd", "srv-resetd.mount",
                               "glusterd", is_checked=False)
@@ -131,7 +132,7 @@ def check_held_in(machine: Machine) -> None:
 
 
 def lose_one(machines: list[Machine]) -> None:
-    wait_for("a coordinator", 30, lambda: any(machine.listens() for machine in machines))
+    wait_for("a coordinator", lambda: any(machine.listens() for machine in machines))
     first = next(machine for machine in machines if machine.listens())
     second = next(machine for machine in machines if machine is not first)
     check_held_in(first)
@@ -139,11 +140,12 @@ def lose_one(machines: list[Machine]) -> None:
     order: Json = {"op": "reset", "client": 1, "number": 1, "node": 3}
     reply = ask(first, PORT, order)
     tell(f"{first.name} serves: {reply}; the unit of {second.name} was refused, status 3")
+    pulse = Pulse()
     first.kill()
     killed = time.monotonic()
-    wait_for("another coordinator", 60, second.listens)
+    wait_for("another coordinator", second.listens)
     took = time.monotonic() - killed
-    if ask(second, PORT, order) != reply or took > QUICK:
+    if ask(second, PORT, order) != reply or pulse.seconds(killed, killed + took) > QUICK:
         raise Lost(f"{second.name} answered {ask(second, PORT, order)} after {took:.1f} s")
     tell(f"the whole machine {first.name} was killed; {second.name} answered after {took:.1f} s, and gave the same reply to the same order")
     first.boot()
@@ -151,7 +153,7 @@ def lose_one(machines: list[Machine]) -> None:
     tell(f"{first.name} is switched on again, and is a standby now")
     late_mount(first)
     ask(second, PORT, {"op": "close"})
-    wait_for("a start after the close", 30, lambda: any(machine.listens() for machine in machines))
+    wait_for("a start after the close", lambda: any(machine.listens() for machine in machines))
     tell(f"a close to {second.name}: {next(m for m in machines if m.listens()).name} serves")
 
 
@@ -159,11 +161,11 @@ def late_mount(machine: Machine) -> None:
     """Tries a standby whose volume is mounted late: nothing is created in its place."""
     machine.run("sh", "-c", "systemctl mask --runtime --now srv-resetd.mount; mountpoint /srv/resetd", is_checked=False)
     before = int(machine.unit("NRestarts"))
-    wait_for("tries without a mount", 30, lambda: int(machine.unit("NRestarts")) > before + 2)
+    wait_for("tries without a mount", lambda: int(machine.unit("NRestarts")) > before + 2)
     _, there = machine.run("ls", "-A", "/srv/resetd")
     if there:
         raise Lost(f"without the volume {machine.name} made {there}")
     machine.run("systemctl", "unmask", "--runtime", "srv-resetd.mount")
-    wait_for("the mount", 60, lambda: machine.run("mountpoint", "-q", "/srv/resetd", is_checked=False)[0] == 0, 0.5)
+    wait_for("the mount", lambda: machine.run("mountpoint", "-q", "/srv/resetd", is_checked=False)[0] == 0, 0.5)
     wait_standby(machine)
     tell(f"without its mount the unit of {machine.name} tried again and made no file; it mounted the volume late")

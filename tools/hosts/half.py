@@ -1,15 +1,18 @@
 """The sixth part of the trial: the last byte of an order reaches only one brick, and is read there."""
 
 import json
+import os
+import signal
 import subprocess
 import time
 
 from .clients import Json
 from .keeper import STORE, Keeper
-from .network import Failed, Host, wait_for
+from .network import PATIENCE, Failed, Host, wait_for
 from .trial import Trial, tell
 
 LOAD = 2  # seconds of orders after the byte
+TRIES = 10
 
 # Takes the place of a coordinator and appends one order as docs/FORMATS.md says, with the file's lock: the body after the closed
 # gate, and a sync; then the gate. Before the gate is opened it is written unchanged, so that the volume has noted already that a
@@ -38,7 +41,7 @@ os.fdatasync(file)
 
 
 def write_half(trial: Trial) -> None:
-    keeper = trial.present
+    keeper = trial.serving()
     print(f"6. The last byte of an order reaches the brick of {keeper.host.name} alone, and the next start reads it "
           "there.", flush=True)
     _, view, _ = trial.wait_quiet()
@@ -66,36 +69,50 @@ def write_half(trial: Trial) -> None:
 
 
 def end_all(trial: Trial, keeper: Keeper) -> None:
-    """Ends every coordinator and every standby."""
-    for each in trial.keepers:
+    """Ends the standby and then the coordinator, and lets none start. The standby is first, since a start that is under way would
+    take over at the close."""
+    for each in (trial.other(keeper), keeper):
         each.pause()
-    before = len(keeper.ends())
-    trial.site.ask({"op": "close"}, 30)
-    wait_for("the end", 30, lambda: len(keeper.ends()) > before)
+        if each is keeper:
+            trial.close()
+        each.wait_rests()
 
 
 def append_half(trial: Trial, host: Host, order: Json) -> list[str]:
+    """Appends an order whose gate is opened in one brick alone. Returns the gate in each brick. A try fails if the bricks stop too
+    late: after a second the volume no longer counts the write as in progress, and after four it has lost the bricks."""
+    for _ in range(TRIES):
+        held = try_append(trial, host, order)
+        if sorted(held) != ["00", "00", "00"]:
+            break
+        tell("(the bricks stopped too late, so the byte reached none of them; once more)")
+    if sorted(held) != ["00", "00", "01"]:
+        raise Failed(f"the gate in the bricks is {' '.join(held)}")
+    return held
+
+
+def try_append(trial: Trial, host: Host, order: Json) -> list[str]:
     """Stops the other two bricks just before the gate is opened, and restarts them. Returns the gate in each brick."""
     volume, others = trial.volume, [other for other in trial.hosts if other is not host]
+    bricks = [other.number_outside(volume.present_brick(other)) for other in others]
     writer = subprocess.Popen(host.inside("python3", "-c", APPEND, STORE, json.dumps(order)), encoding="utf-8",
-                              stdin=subprocess.PIPE, stdout=subprocess.PIPE, stderr=subprocess.DEVNULL)
-    assert writer.stdin and writer.stdout
-    gate = int(writer.stdout.readline() or -1)
-    for other in others:
-        volume.freeze_brick(other)
+                              stdin=subprocess.PIPE, stdout=subprocess.PIPE, stderr=subprocess.PIPE)
+    assert writer.stdin and writer.stdout and writer.stderr
+    line = writer.stdout.readline()
+    if not line:
+        raise Failed(f"the append ended before the gate: {writer.stderr.read()}")
+    gate = int(line)
+    volume.freeze_bricks(bricks)
     writer.stdin.write("\n")
     writer.stdin.flush()
     mine = trial.hosts.index(host)
-    wait_for("the byte in one brick", 60, lambda: volume.bytes()[mine][gate] == 1)
-    for other in others:
-        volume.kill_brick(other)
-    if writer.wait(30) == 0:
+    wait_for("the byte in one brick", lambda: volume.bytes()[mine][gate] == 1 or writer.poll() is not None)
+    for brick in bricks:
+        os.kill(brick, signal.SIGKILL)
+    if writer.wait(PATIENCE) == 0:
         raise Failed("the byte reached another brick")
     for other in others:
         volume.start_brick(other)
     for keeper in trial.keepers:
-        wait_for(f"{keeper.host.name}: all bricks", 30, lambda: volume.is_connected(keeper.host), 0.2)
-    held = [f"{held[gate]:02x}" for held in volume.bytes()]
-    if sorted(held) != ["00", "00", "01"]:
-        raise Failed(f"the gate in the bricks is {' '.join(held)}")
-    return held
+        wait_for(f"{keeper.host.name}: all bricks", lambda: volume.is_connected(keeper.host), 0.2)
+    return [f"{held[gate]:02x}" for held in volume.bytes()]

@@ -1,5 +1,6 @@
 """A coordinator or a standby on one host: `serve`, started again and again like by examples/resetd-standby.service."""
 
+import contextlib
 import os
 import subprocess
 
@@ -15,7 +16,9 @@ KEEP = r"""
 store=$1 folder=$2 again=$3
 shift 3
 while :; do
-  if [ -s "$store" ] && [ ! -e "$folder/paused" ]; then
+  if [ -e "$folder/paused" ]; then
+    : > "$folder/rests"
+  elif [ -s "$store" ]; then
     "$@" >> "$folder/signals" 2> "$folder/error"
     status=$?
     echo "$status $(cat "$folder/error")" >> "$folder/ended"
@@ -61,9 +64,15 @@ class Keeper:
         self.process = subprocess.Popen(words, stdin=subprocess.DEVNULL)
 
     def pause(self) -> None:
-        """Prevents further starts, until `go_on`."""
+        """Prevents further starts, until `go_on`. One that is under way goes on."""
+        with contextlib.suppress(FileNotFoundError):
+            os.remove(self.path("rests"))
         with open(self.path("paused"), "w", encoding="utf-8"):
             pass
+
+    def wait_rests(self) -> None:
+        """Waits until no start is under way, and none comes."""
+        wait_for(f"a pause of {self.host.name}", lambda: os.path.exists(self.path("rests")))
 
     def go_on(self) -> None:
         os.remove(self.path("paused"))
@@ -87,7 +96,7 @@ class Keeper:
     def wait_refused(self) -> int:
         """Waits until a standby has tried to start, and was refused by a lock. Returns its status."""
         before = len(self.ends())
-        wait_for(f"a start of the standby on {self.host.name}", 30, lambda: len(self.ends()) > before)
+        wait_for(f"a start of the standby on {self.host.name}", lambda: len(self.ends()) > before)
         if self.ends()[-1] not in ("3", REFUSED):
             raise Lost(f"the standby on {self.host.name} ended with {self.ends()[-1]}")
         return 3

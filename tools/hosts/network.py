@@ -19,6 +19,7 @@ from typing import IO
 
 LIBC = ctypes.CDLL(None, use_errno=True)
 NEW_NETWORK = 0x40000000
+PATIENCE = 240  # seconds after which something hangs, on the busiest machine too
 GET_FLAGS, SET_FLAGS, UP = 0x8913, 0x8914, 1
 SWITCH = "switch"
 
@@ -48,13 +49,13 @@ class Failed(Exception):
     """A step in the trial's own setup failed; this implies nothing about the coordinator."""
 
 
-def run(words: list[str], seconds: float = 60, is_checked: bool = True) -> tuple[int, str]:
+def run(words: list[str], is_checked: bool = True) -> tuple[int, str]:
     """Runs a command to its end. Returns its status and its output."""
     try:
         done = subprocess.run(words, stdin=subprocess.DEVNULL, stdout=subprocess.PIPE, stderr=subprocess.STDOUT,
-                              encoding="utf-8", errors="replace", timeout=seconds, check=False)
+                              encoding="utf-8", errors="replace", timeout=PATIENCE, check=False)
     except subprocess.TimeoutExpired as late:
-        raise Failed(f"{' '.join(words)}: not within {seconds} s") from late
+        raise Failed(f"{' '.join(words)}: not within {PATIENCE} s") from late
     if is_checked and done.returncode != 0:
         raise Failed(f"{' '.join(words)}: status {done.returncode}: {done.stdout.strip()}")
     return done.returncode, done.stdout
@@ -136,8 +137,16 @@ class Host:
         return ["nsenter", f"--target={self.first}", "--mount", "--net", "--pid", "--uts", "--ipc", "--cgroup",
                 "--wd=/", *words]
 
-    def run(self, *words: str, seconds: float = 60, is_checked: bool = True) -> tuple[int, str]:
-        return run(self.inside(*words), seconds, is_checked)
+    def run(self, *words: str, is_checked: bool = True) -> tuple[int, str]:
+        return run(self.inside(*words), is_checked)
+
+    def number_outside(self, number: str) -> int:
+        """Returns the number that a process of this host has outside it."""
+        for entry in filter(str.isdigit, os.listdir("/proc")):
+            with contextlib.suppress(OSError):  # it has ended meanwhile
+                if namespace_of(entry) == namespace_of(self.first) and inner_number(entry) == number:
+                    return int(entry)
+        raise Failed(f"{self.name} has no process {number}")
 
     @contextlib.contextmanager
     def network(self) -> Iterator[None]:
@@ -149,6 +158,17 @@ class Host:
                 yield
             finally:
                 enter(back)
+
+
+def namespace_of(process: object) -> str:
+    """Returns the name of the namespace that gives a process its innermost number."""
+    return os.readlink(f"/proc/{process}/ns/pid")
+
+
+def inner_number(process: str) -> str:
+    """Returns the innermost number of a process."""
+    with open(f"/proc/{process}/status", encoding="utf-8") as file:
+        return next(line.split()[-1] for line in file if line.startswith("NSpid:"))
 
 
 def set_link(name: str, is_up: bool) -> None:
@@ -164,11 +184,11 @@ def enter(namespace: IO[bytes]) -> None:
         raise Failed(f"no way into a network namespace: {os.strerror(ctypes.get_errno())}")
 
 
-def wait_for(what: str, seconds: float, is_so: Callable[[], object], pause: float = 0.05) -> float:
+def wait_for(what: str, is_so: Callable[[], object], pause: float = 0.05) -> float:
     """Waits until `is_so` returns a true value. Returns the seconds that it took."""
     begun = time.monotonic()
     while not is_so():
-        if time.monotonic() - begun > seconds:
-            raise Failed(f"{what}: not within {seconds} s")
+        if time.monotonic() - begun > PATIENCE:
+            raise Failed(f"{what}: not within {PATIENCE} s")
         time.sleep(pause)
     return time.monotonic() - begun

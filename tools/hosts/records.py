@@ -48,11 +48,15 @@ class Records:
         with self.lock:
             return next((when for when, who in self.answers if who is keeper and when >= since), None)
 
-    def longest_gap(self, since: float) -> float:
-        """Returns the longest time without an answer from a moment until now."""
+    def gaps(self, since: float) -> list[tuple[float, float]]:
+        """Returns the times without an answer from a moment until now, by their beginnings and ends."""
         with self.lock:
             moments = [since, *(when for when, _ in self.answers if when >= since), time.monotonic()]
-        return max(later - sooner for sooner, later in zip(moments, moments[1:]))
+        return list(zip(moments, moments[1:]))
+
+    def longest_gap(self, since: float) -> float:
+        """Returns the seconds of the longest time without an answer from a moment until now."""
+        return max(later - sooner for sooner, later in self.gaps(since))
 
     def count(self, since: float = 0.0) -> int:
         with self.lock:

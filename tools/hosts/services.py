@@ -41,7 +41,7 @@ class Service:
                 self.begin(int(words[2]))
 
     def look(self) -> None:
-        met = self.client.site.ask_while(lambda: self.is_on, {"op": "show"}, 120)
+        met = self.client.site.ask_while(lambda: self.is_on, {"op": "show"})
         if met:
             self.begin(next(row[4] for row in met[0]["nodes"] if row[0] == self.node))
         self.looked = time.monotonic()

@@ -4,7 +4,8 @@ import time
 
 from .clients import Away, Client, Json, Load, Lost, Site, ask
 from .keeper import REFUSED, STORE, Keeper, look_into
-from .network import Host, make_switch, wait_for
+from .network import PATIENCE, Host, make_switch, wait_for
+from .pulse import Pulse
 from .records import Records
 from .services import Service
 from .volume import DIRECT, FRESH, OPTIONS, STRICT_LOCKS, Volume
@@ -12,7 +13,7 @@ from .volume import DIRECT, FRESH, OPTIONS, STRICT_LOCKS, Volume
 MEMBERS = range(1, 9)
 LOAD_CLIENTS = range(9, 14)
 HALF = 32768
-QUICK = 10  # seconds within which another host has to answer
+QUICK = 10  # seconds within which another host has to answer, by the pulse
 PLANTED = ("no-strict-locks", "page-cache", "other-brick", "dropped-answers", "old-copy", "signal-again",
            "not-rewritten")
 
@@ -35,7 +36,7 @@ class Trial:
         options = {**OPTIONS, STRICT_LOCKS: "off"} if planted == "no-strict-locks" else OPTIONS
         self.volume = Volume(self.hosts, options, FRESH if planted == "page-cache" else f"{DIRECT},{FRESH}")
         self.keepers = [Keeper(program, host, planted != "not-rewritten") for host in self.hosts[:2]]
-        self.records = Records(self.keepers)
+        self.records, self.pulse = Records(self.keepers), Pulse()
         self.site = Site(self.hosts[2], self.keepers)
         self.clients = [Client(number, self.site, self.records) for number in (*MEMBERS, *LOAD_CLIENTS)]
         self.services = list[Service]()
@@ -61,7 +62,7 @@ class Trial:
             old.write(self.volume.bytes()[0])
         tell(f"host1: resetd init /srv/resetd/store ring.toml: {printed.strip()}")
         first.start()
-        wait_for("a coordinator on host 1", 30, lambda: first.starts() == 1)
+        wait_for("a coordinator on host 1", lambda: first.starts() == 1)
         tell(f"host1: resetd serve /srv/resetd/store {first.address}: listening")
         tell(f"host2: the same, {second.address}: status {second.serve_by_hand()}")
         second.start()
@@ -85,31 +86,36 @@ class Trial:
 
     def wait_takeover(self, keeper: Keeper, since: float) -> float:
         """Waits until another host's coordinator has answered an order of the load. Returns the seconds that it took."""
-        wait_for(f"an answer of {keeper.host.name}", 90,
+        wait_for(f"an answer of {keeper.host.name}",
                  lambda: self.load.fault or keeper.gave_up() or self.records.first_answer(keeper, since), 0.01)
         answered = self.records.first_answer(keeper, since)
         if answered is None:
             raise self.load.fault or Lost(f"the start on {keeper.host.name} ended with {keeper.gave_up()}")
-        if answered - since > QUICK:
-            raise Lost(f"{keeper.host.name} took over after {answered - since:.1f} s, but should have taken over within {QUICK} s")
+        self.check_quick(since, answered)
         return answered - since
 
-    def wait_quiet(self, seconds: float = 60) -> tuple[Keeper, Json, dict[int, int]]:
+    def check_quick(self, since: float, until: float) -> None:
+        """Checks that no more than QUICK seconds were between two answers, or between a loss and the next answer."""
+        beaten = self.pulse.seconds(since, until)
+        if beaten > QUICK:
+            raise Lost(f"no order was answered for {until - since:.1f} s, {beaten:.1f} s by the pulse: {QUICK} are allowed")
+
+    def wait_quiet(self) -> tuple[Keeper, Json, dict[int, int]]:
         """Waits until no reset is in progress, each member has confirmed, and each order has its answer. Returns the epochs. (A
         settled order is in `show` before its answer has arrived; then the order before it would be out of turn.)"""
-        keeper, until = self.present, time.monotonic() + seconds
+        keeper, until = self.present, time.monotonic() + PATIENCE
         while time.monotonic() < until:
-            view, keeper = self.site.ask({"op": "show"}, seconds)
+            view, keeper = self.site.ask({"op": "show"})
             rows = view["nodes"]
             if all(row[2] == "ready" and row[4] == row[5] for row in rows) and \
                     view["accepted"] == view["settled"] and not any(client.unanswered for client in self.clients) and \
-                    self.site.ask({"op": "resend"}, seconds)[0] == {"count": 0, "kind": "resent"}:
+                    self.site.ask({"op": "resend"})[0] == {"count": 0, "kind": "resent"}:
                 return keeper, view, {row[0]: row[4] for row in rows}
             for service in self.services:
                 if service.fault:
                     raise service.fault
             time.sleep(0.05)
-        raise Lost(f"a reset did not end within {seconds} s: {rows}")
+        raise Lost(f"a reset did not end within {PATIENCE} s: {rows}")
 
     def check(self) -> None:
         """Checks everything that was promised, while no order is in progress."""
@@ -154,17 +160,17 @@ class Trial:
         """Sends a request to an old coordinator, whose end follows this number of earlier ones: it must refuse, and a close
         ends it with the fault of its device. If a client of the load has already closed it, only its end is seen."""
         try:
-            reply = ask(self.site.host, keeper.address, request, 30)
+            reply = ask(self.site.host, keeper.address, request, PATIENCE)
             if reply.get("name") != "Stopped":
                 raise Lost(f"the old coordinator on {keeper.host.name} answered {reply}")
-            closed = ask(self.site.host, keeper.address, {"op": "close"}, 30)
+            closed = ask(self.site.host, keeper.address, {"op": "close"}, PATIENCE)
             if closed != {"kind": "closed"}:
                 raise Lost(f"the old coordinator on {keeper.host.name} answered a close {closed}")
         except Away as fault:
             told = f"answered {request['op']}: {fault}"
         else:
             told = "answered a new order with Stopped"
-        wait_for(f"the end on {keeper.host.name}, which {told}", 30, lambda: len(keeper.ends()) > before)
+        wait_for(f"the end on {keeper.host.name}, which {told}", lambda: len(keeper.ends()) > before)
         ended = keeper.ends()[before]
         if ended != REFUSED:
             raise Lost(f"the old coordinator on {keeper.host.name} ended with {ended}")
@@ -173,24 +179,35 @@ class Trial:
     def starts(self) -> int:
         return sum(keeper.starts() for keeper in self.keepers)
 
+    def serving(self) -> Keeper:
+        """Returns the coordinator that serves."""
+        return self.site.ask({"op": "show"})[1]
+
+    def close(self) -> Keeper:
+        """Ends the coordinator that serves, in order. Returns it."""
+        keeper = self.serving()
+        ended = len(keeper.ends())
+        ask(self.site.host, keeper.address, {"op": "close"}, PATIENCE)
+        wait_for(f"the end on {keeper.host.name}", lambda: len(keeper.ends()) > ended)
+        if keeper.ends()[ended] != "0":
+            raise Lost(f"closed in order, the coordinator on {keeper.host.name} ended with {keeper.ends()[ended]}")
+        return keeper
+
     def hand_over(self) -> float:
         """Ends the present coordinator in order, and waits for the next start on any host. Returns the seconds that it took. A
         coordinator has the file open on the bricks that its host had when it opened the file, so each host must have all
         bricks."""
         for keeper in self.keepers:
-            wait_for(f"{keeper.host.name}: all bricks", 30, lambda: self.volume.is_connected(keeper.host), 0.2)
-        starts, begun, keeper = self.starts(), time.monotonic(), self.present
-        ended = len(keeper.ends())
-        self.site.ask({"op": "close"}, 30)
-        wait_for("a start after the close", 30, lambda: self.starts() > starts, 0.01)
-        self.site.ask({"op": "show"}, 30)
-        if keeper.ends()[ended] != "0":
-            raise Lost(f"closed in order, the coordinator on {keeper.host.name} ended with {keeper.ends()[ended]}")
+            wait_for(f"{keeper.host.name}: all bricks", lambda: self.volume.is_connected(keeper.host), 0.2)
+        starts, begun = self.starts(), time.monotonic()
+        self.close()
+        wait_for("a start after the close", lambda: self.starts() > starts, 0.01)
+        self.site.ask({"op": "show"})
         return time.monotonic() - begun
 
     def hand_over_to(self, keeper: Keeper) -> None:
         """Closes coordinators until this one serves."""
-        until = time.monotonic() + 60
+        until = time.monotonic() + PATIENCE
         while self.present is not keeper:
             if time.monotonic() > until:
                 raise Lost(f"{keeper.host.name} did not serve again")
@@ -209,11 +226,8 @@ class Trial:
             status, printed, _ = look_into(self.program, held, self.folder)
             print(f"brick of {host.name}: {len(held)} bytes; resetd check: {status} {printed}")
 
-    def stop(self) -> tuple[Keeper, str]:
+    def stop(self) -> Keeper:
+        """Stops the services, and then the coordinator. Returns it."""
         for service in self.services:
             service.stop()
-        keeper = self.present
-        before = len(keeper.ends())
-        self.site.ask({"op": "close"}, 30)
-        wait_for("the end", 30, lambda: len(keeper.ends()) > before)
-        return keeper, keeper.ends()[before]
+        return self.close()

@@ -1,9 +1,12 @@
 """The replicated volume: created on three hosts, mounted on each, and inspected at its bricks."""
 
+import glob
 import hashlib
+import os
+import signal
 
 from .clients import Lost
-from .network import Failed, Host, wait_for
+from .network import PATIENCE, Failed, Host, wait_for
 
 NAME, BRICK, MOUNT = "resetd", "/srv/brick/resetd", "/srv/resetd"
 # Without direct I/O a host that served before reads the file's old pages from its own page cache.
@@ -42,8 +45,8 @@ class Volume:
     def __init__(self, hosts: list[Host], options: dict[str, str], mount_options: str) -> None:
         self.hosts, self.options, self.mount_options = hosts, dict(options), mount_options
 
-    def gluster(self, host: Host, *words: str, seconds: float = 60, is_checked: bool = True) -> tuple[int, str]:
-        return host.run("gluster", "--mode=script", *words, seconds=seconds, is_checked=is_checked)
+    def gluster(self, host: Host, *words: str, is_checked: bool = True) -> tuple[int, str]:
+        return host.run("gluster", "--mode=script", *words, is_checked=is_checked)
 
     def make(self) -> None:
         """Creates the volume on hosts that are on: glusterd on each, one pool, the volume with its options, mounted on each."""
@@ -64,11 +67,11 @@ class Volume:
 
     def manage(self, host: Host) -> None:
         host.run("glusterd")
-        wait_for(f"glusterd of {host.name}", 30,
+        wait_for(f"glusterd of {host.name}",
                  lambda: self.gluster(host, "--timeout=5", "pool", "list", is_checked=False)[0] == 0)
 
     def wait_peers(self, host: Host) -> None:
-        wait_for("the hosts of the pool", 30,
+        wait_for("the hosts of the pool",
                  lambda: self.gluster(host, "pool", "list", is_checked=False)[1].count("Connected") == len(self.hosts))
 
     def mount(self, host: Host, is_checked: bool = True) -> bool:
@@ -79,8 +82,8 @@ class Volume:
     def join(self, host: Host) -> None:
         """Rejoins a host that was switched on again: its glusterd starts its brick, and the volume is mounted."""
         self.manage(host)
-        wait_for(f"the brick of {host.name}", 30, lambda: self.brick_process(host) is not None)
-        wait_for(f"the volume on {host.name}", 30, lambda: self.mount(host, is_checked=False), 0.5)
+        wait_for(f"the brick of {host.name}", lambda: self.brick_process(host) is not None)
+        wait_for(f"the volume on {host.name}", lambda: self.mount(host, is_checked=False), 0.5)
 
     def brick_process(self, host: Host) -> str | None:
         """Returns the number of the brick's process on its host, or None if there is none."""
@@ -99,17 +102,12 @@ class Volume:
     def kill_brick(self, host: Host) -> None:
         host.run("kill", "-9", self.present_brick(host))
 
-    def freeze_brick(self, host: Host) -> None:
-        """Stops a brick from processing messages. Its threads stop once the first of them has got the signal, on a busy machine
-        some time later; that is waited for."""
-        number = self.present_brick(host)
-        host.run("kill", "-STOP", number)
-        wait_for(f"the brick of {host.name} to stop", 10, lambda: self.is_frozen(host, number), 0.01)
-
-    def is_frozen(self, host: Host, number: str) -> bool:
-        """Returns whether each thread of a process has stopped."""
-        _, printed = host.run("sh", "-c", f"cat /proc/{number}/task/*/stat", is_checked=False)
-        return {line.rsplit(") ", 1)[-1][:1] for line in printed.splitlines()} == {"T"}
+    def freeze_bricks(self, bricks: list[int]) -> None:
+        """Stops bricks, by their numbers outside their hosts, from processing messages. Their threads stop some time after the
+        signal; that is waited for."""
+        for number in bricks:
+            os.kill(number, signal.SIGSTOP)
+        wait_for("the bricks to stop", lambda: all(map(is_frozen, bricks)), 0.001)
 
     def set_healing(self, is_on: bool) -> None:
         """Sets whether bricks are checked for writes that they owe another one."""
@@ -117,7 +115,7 @@ class Volume:
 
     def start_brick(self, host: Host) -> None:
         self.gluster(host, "volume", "start", NAME, "force")
-        wait_for(f"the brick of {host.name}", 30, lambda: self.brick_process(host) is not None)
+        wait_for(f"the brick of {host.name}", lambda: self.brick_process(host) is not None)
 
     def is_connected(self, host: Host) -> bool:
         """Returns whether the volume's client on a host has all three bricks. After a loss it looks for them every 3 s."""
@@ -126,18 +124,18 @@ class Volume:
 
     def is_healed(self, host: Host) -> bool:
         """Returns whether all three bricks are running and none owes another one a write."""
-        status, printed = self.gluster(host, "volume", "heal", NAME, "info", seconds=120, is_checked=False)
+        status, printed = self.gluster(host, "volume", "heal", NAME, "info", is_checked=False)
         return status == 0 and printed.count("Number of entries: 0") == len(self.hosts)
 
-    def wait_healed(self, host: Host, seconds: float = 60) -> tuple[bytes, float]:
+    def wait_healed(self, host: Host) -> tuple[bytes, float]:
         """Waits until no brick owes another one a write and all have the same bytes. Returns these bytes, and the seconds that
         it took. The bytes are compared too, because a write of the last second may not be in the bricks' lists yet."""
         try:
-            took = wait_for("healing", seconds, lambda: self.is_healed(host) and len(set(self.bytes())) == 1, 0.5)
+            took = wait_for("healing", lambda: self.is_healed(host) and len(set(self.bytes())) == 1, 0.5)
         except Failed as late:
             told = ", ".join(f"{host.name} {hashlib.sha256(held).hexdigest()[:12]}"
                              for host, held in zip(self.hosts, self.bytes()))
-            raise Lost(f"the bricks still differ, or have writes to heal, after {seconds} s: {told}") from late
+            raise Lost(f"the bricks still differ, or have writes to heal, after {PATIENCE} s: {told}") from late
         return self.bytes()[0], took
 
     def bytes(self, name: str = "store") -> list[bytes]:
@@ -147,3 +145,12 @@ class Volume:
             with open(f"{host.folder}{BRICK}/{name}", "rb") as file:
                 held.append(file.read())
         return held
+
+
+def is_frozen(number: int) -> bool:
+    """Returns whether each thread of a process has stopped."""
+    states = set[str]()
+    for path in glob.glob(f"/proc/{number}/task/*/stat"):
+        with open(path, encoding="utf-8") as file:
+            states.add(file.read().rsplit(") ", 1)[-1][:1])
+    return states == {"T"}
