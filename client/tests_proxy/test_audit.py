@@ -196,6 +196,7 @@ class FullDisk(Audited):
 class BeforeTheAnswer(Audited):
     def test_a_kill_between(self) -> None:
         """An order is carried out, its line can't be written yet, and the proxy is killed: no answer went out."""
+        self.proxy.kill()
         proxy = Piped(self.folder, self.server.address, *self.arguments(), "--audit", "-")
         self.addCleanup(proxy.kill)
         client = proxy.connect()

@@ -114,6 +114,7 @@ class Metrics(Audited):
 
 class Output(Audited):
     def test_metrics_on_standard_output(self) -> None:
+        self.proxy.kill()
         proxy = Piped(self.folder, self.server.address, *self.arguments(), "--metrics", "-")
         self.addCleanup(proxy.kill)
         with proxy.connect() as client:
