@@ -81,7 +81,7 @@ class Unread(Case):
         path = f"{self.folder}/orders/order.json"
         for text in (b"no", b"[]", b"{}", b'"x"', b'{"answered": false, "number": 1, "order": 3}', b"\xff\xfe"):
             self.write(path, text)
-            with self.subTest(text=text), self.assertRaisesRegex(Unreadable, "remove it") as caught:
+            with self.subTest(text=text), self.assertRaisesRegex(Unreadable, "remove (it|the file)") as caught:
                 Orders(self.port, 1, f"{self.folder}/orders")
             self.assertEqual(caught.exception.path, path)
         try:
@@ -95,14 +95,14 @@ class Unread(Case):
 
     def test_starts_that_do_not_read(self) -> None:
         self.write(f"{self.folder}/orders/start-1.json", b"no\n")
-        with self.assertRaisesRegex(Unreadable, "remove it"):
+        with self.assertRaisesRegex(Unreadable, "remove (it|the file)"):
             Member(self.port, self.orders(), 1, None, lambda _: None)
 
     def test_resetctl_tells_them_from_wrong_words(self) -> None:
         self.server.ring(2)
         self.write(f"{self.folder}/{self.server.address.replace(':', '_')}/client-16/order.json", b"no")
         status, _, told = self.run_words("reset", "1")
-        self.assertEqual((status, "remove it" in told), (4, True), told)
+        self.assertEqual((status, "remove the file" in told), (4, True), told)
         self.assertEqual(self.run_words("--client", "3", "reset", "1")[0], 0)
 
     def test_words(self) -> None:
