@@ -152,8 +152,8 @@ class Orderer(threading.Thread):
         return encoded(order), lambda answer: self.check_reset(answer, order.get("number"))
 
     def check_reset(self, answer: dict[str, Any], number: int | None) -> None:
-        if number is not None and answer.get("name") == "OutOfTurn" and self.limit > self.known:
-            raise Ended  # an earlier connection's order came before it
+        if number is not None and answer.get("name") == "OutOfTurn" and number <= self.limit:
+            raise Ended  # an earlier connection's order had this number, and came before it
         if "kind" not in answer:
             raise Wrong(f"{self.known} to {self.limit} resets were carried out before it, {self.sent} is the last number")
         kind, step = answer["kind"], answer["step"]
