@@ -188,8 +188,10 @@ def read_credentials(path: str) -> dict[str, str]:
     except ValueError as fault:
         raise Unreadable(path, f" as TOML: {fault}") from fault
     for name, value in found.items():
-        if name not in CREDENTIALS or not isinstance(value, str):
-            raise Unreadable(path, f": {name} is not allowed; the only keys are {', '.join(CREDENTIALS)}, and each must be a string")
+        if name not in CREDENTIALS:
+            raise Unreadable(path, f": the key {name} is unknown; the only keys are {', '.join(CREDENTIALS)}")
+        if not isinstance(value, str):
+            raise Unreadable(path, f": the value of {name} must be a string, the path of a PEM file")
     return {name: os.path.join(os.path.dirname(path), value) for name, value in found.items()}
 
 

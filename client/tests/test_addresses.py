@@ -212,10 +212,10 @@ class Certificates(Case):
         self.assertEqual(found, Credentials(f"{self.pem}/client.pem", f"{self.folder}/there.key", "/other"))
         self.assertEqual(found.over(key="/mine", authority=None), Credentials(f"{self.pem}/client.pem", "/mine", "/other"))
         self.assertEqual(Credentials.found({}), Credentials())
-        for text in ("key = 1\n", "word = 'x'\n", "no toml"):
+        for text, said in (("key = 1\n", "the value of key must be a string"), ("word = 'x'\n", "the key word is unknown"), ("no toml", "as TOML")):
             with open(path, "w", encoding="utf-8") as file:
                 file.write(text)
-            self.assertRaises(Unreadable, Credentials.found, {"RESETD_TLS": path})
+            self.assertRaisesRegex(Unreadable, said, Credentials.found, {"RESETD_TLS": path})
         self.assertRaises(Unreadable, Credentials.found, {"RESETD_TLS": "/none"})
 
     def test_resetctl(self) -> None:
