@@ -39,7 +39,7 @@ class Table:
         self.labels |= {ghost.name for ghost in repository.ghosts}
         for line in (repository.root / TABLE).read_text().splitlines():
             cells = [cell.strip() for cell in line.strip().strip("|").split("|")]
-            if line.startswith("|") and len(cells) == 3 and cells[2] not in ("---", "Carried by"):
+            if line.startswith("|") and len(cells) == 3 and cells[2] not in ("---", "Contracts"):
                 title, words, carried = cells
                 if not title or title[0] in "." or title[0].islower() or title in [row.title for row in self.rows]:
                     self.wrong.append(f"{TABLE}: a row has no title: {line[:80]}")
