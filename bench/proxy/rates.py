@@ -29,7 +29,7 @@ class Rates:
 
 
 def cost(tools: Tools, load: tuple[int, int], part: int, is_audited: bool) -> Driven:
-    """The processor time of the proxy for an order, by connections and orders outstanding at each. The server answers at once."""
+    """The processor time of the proxy for an order, by connections and orders outstanding on each. The server answers at once."""
     orders = max(LOADS[load] // part, load[0] * load[1])
     with tempfile.TemporaryDirectory() as folder, Answering(tools, folder) as server:
         words = audit_words(tools, folder) if is_audited else []
