@@ -12,6 +12,7 @@ use Rattle.proxy_request.specs.declared.request.Request.TheVariants.{Order, Show
 use Rattle.proxy_request.specs.declared.request.TheConstants.{PROXY_CLIENT}
 use Rattle.proxy_request.specs.Requests.{asked_by, is_once, is_query, unnumbered_command}
 use Rattle.proxy_request.specs.Spelling.{spelled}
+use Rattle.proxy_access.specs.Resets.{names_epoch, permits}
 use Rattle.proxy_access.specs.declared.table.Access.{Access}
 
 abbrev pub access_rules : Access → List Rule
@@ -90,4 +91,6 @@ core_rules rules names = record {
   uses_number = is_reply;
   is_refusal = is_refusal;
   is_inconclusive = is_out_of_turn;
+  needs_view = λ line. if_request names_epoch (request_from line);
+  permits = λ view line. if_request (permits view) (request_from line);
 }

@@ -3,6 +3,7 @@
 ghost use Rattle.std.specs.Prelude.{◌≡◌, IfOk};
 ghost use Rattle.proxy_access.specs.Access.{core_rules, is_for_server, is_own, is_probe, access_principals, request_from, access_rules};
 
+use crate::resets::{names_epoch, permits};
 use crate::table::Access;
 use coord_admin::LineFault;
 use coord_types::Command;
@@ -22,6 +23,7 @@ impl Policy for Access {
                 is_once: false,
                 is_query: false,
                 is_unnumbered: false,
+                needs_view: false,
             });
         };
         Ok(Judgement {
@@ -29,6 +31,7 @@ impl Policy for Access {
             is_once: request.is_once(),
             is_query: request.is_query(),
             is_unnumbered: request.unnumbered_command().is_some(),
+            needs_view: names_epoch(&request),
         })
     }
 
@@ -56,6 +59,13 @@ impl Policy for Access {
 
     fn is_inconclusive(&self, answer: &[u8]) -> bool {
         is_out_of_turn(answer)
+    }
+
+    fn permits(&self, alloc: Global, view: &[u8], line: &[u8]) -> Result<bool, AllocError> {
+        let Some(request) = read(alloc, line)? else {
+            return Ok(false);
+        };
+        permits(alloc, view, &request)
     }
 }
 

@@ -9,7 +9,9 @@
 
 mod access;
 mod judging;
+mod resets;
 mod table;
 
 pub use access::PROXY_ROLE;
+pub use resets::{Judged, judge_line};
 pub use table::{Access, MOST_PRINCIPALS};

@@ -12,9 +12,10 @@ use Rattle.proxy_core.specs.declared.proxy.Outcome.{Outcome}
 use Rattle.proxy_core.specs.declared.proxy.Outcome.TheVariants.{To, Ended, Retry, Unsolicited}
 use Rattle.proxy_core.specs.Rules.{Rules, next, needs_number}
 use Rattle.proxy_core.specs.Pending.{Pending, is_from, step, text_of}
-use Rattle.proxy_core.specs.Machine.{Proxy, outcome, outcome_of, flown, held, is_in_turn, left, picked, rest, is_alike, is_flight, is_none, is_ready, lost_of, may_go, after_first_answer, admission, begins_order, is_late, put_back}
-use Rattle.proxy_core.specs.Run.{Request, Sent, Delivery, Answer, Run, Event, Arrives, Leaves, Flies, Answers, Breaks, TakesBack, Connects, Counts, broke, came, connected, happens, answer_of, is_ended, run, new_run, next_request, said, delivered_too, took, went, without, written}
+use Rattle.proxy_core.specs.Machine.{Proxy, outcome, outcome_of, flown, held, is_in_turn, left, picked, rest, is_alike, is_flight, is_none, is_ready, lost_of, may_go, after_first_answer, admission, begins_order, is_late, put_back, admission_after_view, is_permitted, may_connect, may_follow}
+use Rattle.proxy_core.specs.Run.{Request, Sent, Delivery, Answer, Run, Event, Arrives, Leaves, Flies, Answers, Breaks, Follows, TakesBack, Connects, Counts, broke, by_view, followed, came, connected, happens, answer_of, is_ended, run, new_run, next_request, said, delivered_too, took, went, without, written}
 use Rattle.proxy_core.specs.Numbers.{AreSerial, HasOneNumber, IsFresh, IsInOrder}
+use Rattle.proxy_core.specs.Views.{FollowViews}
 use Rattle.proxy_core.specs.Promises.{AreNumbered, AreOf, IsAllowed, IsAnswerTo, IsKnown, IsDenied, IsDeniedRightly, Keeps, hand, by_server, bytes_of, pending_of, is_first_at, is_once_at, refuses_number_at, place_if, places_of, places_delivered, sending, sendings}
 use Rattle.proxy_core.proofs.Hand.{hand_again, hand_first, hand_flies, hand_none, hand_other, hand_push, hand_rest, none_late, refused_without, within_without}
 use Rattle.proxy_core.proofs.Lists.{alike_rest, all_append, all_filter, all_left, all_picked, all_put, all_weaker, are_more, are_push, are_weaker, both_false, both_true, count_filter, count_less, count_sendings, count_picked, count_push, count_put, count_rest, either, ended_apart, flight_is, flight_rest, left_pending_of, map_put, none_from, numbered_push, of_push, one_place, picked_pending_of, rest_twice, server-append, text_same, delivered_push, without_pending_of, written_of}
@@ -224,8 +225,15 @@ more_denied_rightly r requests more t is = more_denied r requests more t t.answe
 admission_cases : (r : Rules) (c role : ℕ) (line : List ℕ) (f : Proxy) (P : Admission → Type 0)
     → (r.allows role line ≡ true → held c f < 64 → P Queued) → (r.allows role line ≡ false → held c f ≡ 0 → P Denied) → P Deferred → P (admission r c role line f)
 admission_cases r c role line f P queued denied later =
-    either P (r.allows role line) (cond (nat_lt (held c f) 64) Queued Deferred) (cond (held c f == 0) Denied Deferred)
-    (λ may. either P (nat_lt (held c f) 64) Queued Deferred (λ room. queued may (grind (arith, nat_tests))) (λ full. later))
+    either P (r.allows role line) (cond (not (r.needs_view line) && nat_lt (held c f) 64) Queued Deferred) (cond (held c f == 0) Denied Deferred)
+    (λ may. either P (not (r.needs_view line) && nat_lt (held c f) 64) Queued Deferred (λ waits. (let room = (both_true (not (r.needs_view line)) (nat_lt (held c f) 64) waits).1 in queued may (grind (arith, nat_tests)))) (λ full. later))
+    (λ may_not. either P (held c f == 0) Denied Deferred (λ none. denied may_not (grind (arith, nat_tests))) (λ some. later))
+
+pub following_cases : (r : Rules) (c role : ℕ) (line : List ℕ) (f : Proxy) (P : Admission → Type 0)
+    → (r.allows role line ≡ true → may_follow r line f ≡ true → P Queued) → (r.allows role line ≡ false → held c f ≡ 0 → P Denied) → P Deferred → P (admission_after_view r c role line f)
+following_cases r c role line f P queued denied later =
+    either P (r.allows role line) (cond (may_follow r line f) Queued Deferred) (cond (held c f == 0) Denied Deferred)
+    (λ may. either P (may_follow r line f) Queued Deferred (λ follows. queued may follows) (λ not_now. later))
     (λ may_not. either P (held c f == 0) Denied Deferred (λ none. denied may_not (grind (arith, nat_tests))) (λ some. later))
 
 -- one more line of a connection that is not over, at the end of both
@@ -298,7 +306,7 @@ turn_denied r a ended delivered k in_flight queued requests none turn d going =
 own_denied : (P : Delivery → Answer → Type 0) (delivered : List Delivery) (answers : List Answer) (c place : ℕ) → AreOf P (by_server delivered) answers → AreOf P (by_server (delivered ++ (record { to = c; place = place; answer = None }) ∷ [])) answers
 own_denied P delivered answers c place own = subst (λ l. AreOf P l answers) (sym (server-append delivered ((record { to = c; place = place; answer = None }) ∷ []) ∙ append-nil (by_server delivered))) own
 
-came_queued : (r : Rules) (w : Run) (in_flight queued : List Request) (c role : ℕ) (line : List ℕ) → is_ended c w.ended ≡ false → r.allows role line ≡ true → held c (with_hand r in_flight queued w).proxy < 64
+pub came_queued : (r : Rules) (w : Run) (in_flight queued : List Request) (c role : ℕ) (line : List ℕ) → is_ended c w.ended ≡ false → r.allows role line ≡ true → held c (with_hand r in_flight queued w).proxy < 64
     → Holds r (with_hand r in_flight queued w) → Holds r (came r (with_hand r in_flight queued w) c role line Queued)
 came_queued r w in_flight queued c role line going may room h =
     let a : Request = next_request w c role line in
@@ -486,6 +494,87 @@ flies_holds r w in_flight queued picks h =
     let v : Run = with_hand r in_flight queued w in
     either (Holds r) (may_go picks v.proxy) (went r picks v) v (λ may. went_holds r w in_flight queued picks may h) (λ may_not. h)
 
+-- ---- a line that needs a view is sent
+
+-- what lets it be sent
+pub record FollowsNow (r : Rules) (line : List ℕ) (f : Proxy) : Type 0 where
+  pub up : f.is_up ≡ true
+  pub none_flies : is_none f.flight ≡ true
+  pub none_waits : is_none f.waiting ≡ true
+  pub ready : (f.is_counted || not (needs_number r line)) ≡ true
+  pub permitted : is_permitted r f.view line ≡ true
+
+pub follows_of : (r : Rules) (line : List ℕ) (f : Proxy) → may_follow r line f ≡ true → FollowsNow r line f
+follows_of r line f may =
+    let ready : Bool = f.is_counted || not (needs_number r line) in
+    let permitted : Bool = is_permitted r f.view line in
+    let p = both_true f.is_up (is_none f.flight && (is_none f.waiting && (ready && permitted))) may in
+    let q = both_true (is_none f.flight) (is_none f.waiting && (ready && permitted)) p.1 in
+    let s = both_true (is_none f.waiting) (ready && permitted) q.1 in
+    let t = both_true ready permitted s.1 in
+    record { up = p.0; none_flies = q.0; none_waits = s.0; ready = t.0; permitted = t.1 }
+
+-- alone, it may go
+pub alone_goes : (up ready query : Bool) → up ≡ true → ready ≡ true → (up && (true && (true && (((query && true) || (not query && true)) && (true && (ready && true)))))) ≡ true
+alone_goes true true true is_up is_ready = refl
+alone_goes true true false is_up is_ready = refl
+alone_goes true false query is_up is_ready = absurd (cc is_ready)
+alone_goes false ready query is_up is_ready = absurd (cc is_up)
+
+-- the requests in hand before and after it is accepted
+abbrev pub accepted : Rules → Run → ℕ → ℕ → List ℕ → Run
+accepted r w c role line = came r (with_hand r [] [] w) c role line Queued
+
+pub goes_alone : (r : Rules) (w : Run) (c role : ℕ) (line : List ℕ) → FollowsNow r line (with_hand r [] [] w).proxy → may_go (true ∷ []) (accepted r w c role line).proxy ≡ true
+goes_alone r w c role line now = alone_goes w.proxy.is_up (w.proxy.is_counted || not (needs_number r line)) (r.is_query line) now.up now.ready
+
+pub accepted_holds : (r : Rules) (w : Run) (c role : ℕ) (line : List ℕ) → is_ended c w.ended ≡ false → r.allows role line ≡ true → Holds r (with_hand r [] [] w) → Holds r (accepted r w c role line)
+accepted_holds r w c role line going may h = came_queued r w [] [] c role line going may (omega arith) h
+
+by_view_holds : (r : Rules) (w : Run) → Holds r w → Holds r (by_view w)
+by_view_holds r w h = record {
+  numbered = h.numbered;
+  flying = h.flying;
+  waiting = h.waiting;
+  wire = h.wire;
+  quiet = h.quiet;
+  wired = h.wired;
+  single = h.single;
+  twice = h.twice;
+  within = h.within;
+  turn = h.turn;
+  over = h.over;
+  own = h.own;
+  denied = h.denied;
+  in_flight = h.in_flight;
+  queued = h.queued;
+  sent = h.sent;
+  once = h.once;
+  few = h.few;
+  flight = h.flight;
+  alike = h.alike;
+  fresh = h.fresh;
+  known = h.known;
+  again = h.again;
+}
+
+followed_holds : (r : Rules) (w : Run) (in_flight queued : List Request) (c role : ℕ) (line : List ℕ) → is_ended c w.ended ≡ false → r.allows role line ≡ true → FollowsNow r line (with_hand r in_flight queued w).proxy
+    → Holds r (with_hand r in_flight queued w) → Holds r (followed r (with_hand r in_flight queued w) c role line Queued)
+followed_holds r w (a ∷ more) queued c role line going may now h = (let none : false ≡ true = now.none_flies in absurd (cc none))
+followed_holds r w [] (a ∷ more) c role line going may now h = (let none : false ≡ true = now.none_waits in absurd (cc none))
+followed_holds r w [] [] c role line going may now h =
+    let v : Run = accepted r w c role line in
+    by_view_holds r (went r (true ∷ []) v) (went_holds r v [] (next_request w c role line ∷ []) (true ∷ []) (goes_alone r w c role line now) (accepted_holds r w c role line going may h))
+
+follows_holds : (r : Rules) (w : Run) (in_flight queued : List Request) (c role : ℕ) (line : List ℕ) → Holds r (with_hand r in_flight queued w) → Holds r (happens r (with_hand r in_flight queued w) (Follows c role line))
+follows_holds r w in_flight queued c role line h =
+    let v : Run = with_hand r in_flight queued w in
+    either (Holds r) (is_ended c w.ended) v (followed r v c role line (admission_after_view r c role line v.proxy)) (λ over. h)
+    (λ going. following_cases r c role line v.proxy (λ t. Holds r (followed r v c role line t))
+    (λ may follows. followed_holds r w in_flight queued c role line going may (follows_of r line v.proxy follows) h)
+    (λ may_not none. came_denied r w in_flight queued c role line going may_not none h)
+    h)
+
 -- ---- the server says something
 
 all_twice_rest : (a : Pending) (more : List Pending) → list_all is_twice (a ∷ more) ≡ true → list_all is_twice more ≡ true
@@ -525,11 +614,11 @@ said_to r w answer a more queued up oldest h =
     let wired : AllByRecursion (Contains w.sent) (s ∷ later) = subst (AllByRecursion (Contains w.sent)) out.2 h.wired in
     let allowed : IsAllowed r w.requests s = All-contains (IsAllowed r w.requests) w.sent s (All-from_recursion (IsAllowed r w.requests) w.sent h.sent) wired.0 in
     let early : a.place < n = (let less = allowed.before in let same = allowed.place in omega (arith, less, same)) in
-    let is : IsAnswerTo r w.requests w.sent (record { to = a.from; place = a.place; answer = Some answer }) (record { sent = s; answer = answer }) =
+    let is : IsAnswerTo r w.requests w.sent (record { to = a.from; place = a.place; answer = Some answer }) (record { sent = s; answer = answer; heard = length w.sent }) =
     record { ask = a; requested = h.in_flight.0.requested; to = refl; place = refl; sent_it = wired.0; same_place = refl; same_line = refl; after = early; answer = refl } in
     let v : Run = with_hand r (a ∷ more) queued w in
-    subst (λ l. Holds r (record v { proxy = after_first_answer r answer v.proxy; in_flight = more; delivered = delivered_too w.ended w.delivered a.from a.place answer; wire = rest l; answers = w.answers ++ answer_of l answer })) (sym out.2)
-    (either (λ delivered. Holds r (record v { proxy = after_first_answer r answer v.proxy; in_flight = more; delivered = delivered; wire = later; answers = w.answers ++ record { sent = s; answer = answer } ∷ [] }))
+    subst (λ l. Holds r (record v { proxy = after_first_answer r answer v.proxy; in_flight = more; delivered = delivered_too w.ended w.delivered a.from a.place answer; wire = rest l; answers = w.answers ++ answer_of (length w.sent) l answer })) (sym out.2)
+    (either (λ delivered. Holds r (record v { proxy = after_first_answer r answer v.proxy; in_flight = more; delivered = delivered; wire = later; answers = w.answers ++ record { sent = s; answer = answer; heard = length w.sent } ∷ [] }))
     (is_ended a.from w.ended) w.delivered (w.delivered ++ record { to = a.from; place = a.place; answer = Some answer } ∷ [])
     (λ gone. record {
       numbered = h.numbered;
@@ -543,7 +632,7 @@ said_to r w answer a more queued up oldest h =
       within = h.within;
       turn = λ d going. turn_rest a more w.delivered w.proxy.refused queued w.requests d (flipped d a.from (ended_apart d a.from w.ended going gone)) (h.turn d going);
       over = h.over;
-      own = are_more (IsAnswerTo r w.requests w.sent) (by_server w.delivered) w.answers (record { sent = s; answer = answer } ∷ []) h.own;
+      own = are_more (IsAnswerTo r w.requests w.sent) (by_server w.delivered) w.answers (record { sent = s; answer = answer; heard = length w.sent } ∷ []) h.own;
       denied = h.denied;
       in_flight = h.in_flight.1;
       queued = h.queued;
@@ -552,7 +641,7 @@ said_to r w answer a more queued up oldest h =
       few = few_rest (pending_of r a) (map (pending_of r) more) (map (pending_of r) queued) h.few;
       flight = (let long = h.flight in omega (arith, long));
       alike = alike_rest (pending_of r a) (map (pending_of r) more) h.alike;
-      fresh = fresh_heard r w.sent queued w.requests w.answers (record { sent = s; answer = answer } ∷ []) h.fresh;
+      fresh = fresh_heard r w.sent queued w.requests w.answers (record { sent = s; answer = answer; heard = length w.sent } ∷ []) h.fresh;
       known = known_serial r w.sent 1 0 (step (needs_number r a.line) w.proxy.number) more h.known.1;
       again = h.again;
     })
@@ -568,7 +657,7 @@ said_to r w answer a more queued up oldest h =
       within = h.within;
       turn = turn_told a more w.ended w.delivered w.proxy.refused queued w.requests answer oldest h.turn;
       over = over_told (record { to = a.from; place = a.place; answer = Some answer }) w.ended w.delivered w.requests there h.over;
-      own = own_told (IsAnswerTo r w.requests w.sent) w.delivered w.answers a.from a.place answer (record { sent = s; answer = answer }) h.own is;
+      own = own_told (IsAnswerTo r w.requests w.sent) w.delivered w.answers a.from a.place answer (record { sent = s; answer = answer; heard = length w.sent }) h.own is;
       denied = all_append (IsDeniedRightly r w.requests) w.delivered (record { to = a.from; place = a.place; answer = Some answer } ∷ []) h.denied (tt, tt);
       in_flight = h.in_flight.1;
       queued = h.queued;
@@ -577,7 +666,7 @@ said_to r w answer a more queued up oldest h =
       few = few_rest (pending_of r a) (map (pending_of r) more) (map (pending_of r) queued) h.few;
       flight = (let long = h.flight in omega (arith, long));
       alike = alike_rest (pending_of r a) (map (pending_of r) more) h.alike;
-      fresh = fresh_heard r w.sent queued w.requests w.answers (record { sent = s; answer = answer } ∷ []) h.fresh;
+      fresh = fresh_heard r w.sent queued w.requests w.answers (record { sent = s; answer = answer; heard = length w.sent } ∷ []) h.fresh;
       known = known_serial r w.sent 1 0 (step (needs_number r a.line) w.proxy.number) more h.known.1;
       again = h.again;
     }))
@@ -606,7 +695,7 @@ said_ended r w answer a more queued up h =
       within = within_without r a.from w.proxy.refused queued h.within;
       turn = turn_forgetting r a.from w.ended w.delivered w.proxy.refused more queued w.requests (λ d apart going. turn_rest a more w.delivered w.proxy.refused queued w.requests d apart (h.turn d going));
       over = λ d is. over_all w.ended w.delivered w.proxy.refused (a ∷ more) queued w.requests h.turn h.over d;
-      own = are_more (IsAnswerTo r w.requests w.sent) (by_server w.delivered) w.answers (answer_of w.wire answer) h.own;
+      own = are_more (IsAnswerTo r w.requests w.sent) (by_server w.delivered) w.answers (answer_of (length w.sent) w.wire answer) h.own;
       denied = h.denied;
       in_flight = h.in_flight.1;
       queued = all_filter (IsGood r w.requests) (λ (x : Request). not (x.from == a.from)) queued h.queued;
@@ -615,7 +704,7 @@ said_ended r w answer a more queued up h =
       few = few_forgetting a.from (map (pending_of r) more) (map (pending_of r) queued) (few_rest (pending_of r a) (map (pending_of r) more) (map (pending_of r) queued) h.few);
       flight = (let long = h.flight in omega (arith, long));
       alike = alike_rest (pending_of r a) (map (pending_of r) more) h.alike;
-      fresh = fresh_heard r w.sent (without a.from queued) w.requests w.answers (answer_of w.wire answer) (fresh_forgetting r a.from w.sent queued w.requests w.answers h.fresh);
+      fresh = fresh_heard r w.sent (without a.from queued) w.requests w.answers (answer_of (length w.sent) w.wire answer) (fresh_forgetting r a.from w.sent queued w.requests w.answers h.fresh);
       known = known_serial r w.sent 1 0 (step (needs_number r a.line) w.proxy.number) more h.known.1;
       again = h.again;
     }
@@ -632,7 +721,7 @@ said_retry r w answer a more queued up new own turned h =
     let wired : AllByRecursion (Contains w.sent) (s ∷ later) = subst (AllByRecursion (Contains w.sent)) out.2 h.wired in
     let v : Run = with_hand r (a ∷ more) queued w in
     let not_once : r.is_once a.line ≡ false = never (r.is_unnumbered a.line) (r.is_once a.line) own in
-    subst (λ l. Holds r (record v { proxy = record (after_first_answer r answer v.proxy) { waiting = put_back w.proxy.refused (pending_of r a ∷ []) (map (pending_of r) queued); refused = w.proxy.refused + 1 }; in_flight = more; queued = put_back w.proxy.refused (a ∷ []) queued; wire = rest l; answers = w.answers ++ answer_of l answer })) (sym out.2) (record {
+    subst (λ l. Holds r (record v { proxy = record (after_first_answer r answer v.proxy) { waiting = put_back w.proxy.refused (pending_of r a ∷ []) (map (pending_of r) queued); refused = w.proxy.refused + 1 }; in_flight = more; queued = put_back w.proxy.refused (a ∷ []) queued; wire = rest l; answers = w.answers ++ answer_of (length w.sent) l answer })) (sym out.2) (record {
       numbered = h.numbered;
       flying = refl;
       waiting = map_put (pending_of r) w.proxy.refused a queued;
@@ -644,7 +733,7 @@ said_retry r w answer a more queued up new own turned h =
       within = (let less = h.within in omega (arith, less, length-insert queued w.proxy.refused a h.within));
       turn = λ d going. ap (λ l. places_delivered d w.delivered ++ l) (hand_again d w.proxy.refused a more queued h.within) ∙ h.turn d going;
       over = h.over;
-      own = are_more (IsAnswerTo r w.requests w.sent) (by_server w.delivered) w.answers (record { sent = s; answer = answer } ∷ []) h.own;
+      own = are_more (IsAnswerTo r w.requests w.sent) (by_server w.delivered) w.answers (record { sent = s; answer = answer; heard = length w.sent } ∷ []) h.own;
       denied = h.denied;
       in_flight = h.in_flight.1;
       queued = all_put (IsGood r w.requests) w.proxy.refused a queued h.queued h.in_flight.0;
@@ -658,7 +747,7 @@ said_retry r w answer a more queued up new own turned h =
       alike = alike_rest (pending_of r a) (map (pending_of r) more) h.alike;
       fresh = λ p. (
           let before = h.fresh p in
-          let g : Answer = record { sent = s; answer = answer } in
+          let g : Answer = record { sent = s; answer = answer; heard = length w.sent } in
           let counts : refuses_number_at r p g ≡ (a.place == p) = ap (λ b. (a.place == p) && (not b && (needs_number r a.line && r.refuses_number answer))) new ∙ ap (λ b. (a.place == p) && (b && r.refuses_number answer)) own ∙ ap (λ b. (a.place == p) && b) turned ∙ and_true (a.place == p) in
           let one : cond {A = ℕ} (refuses_number_at r p g) 1 0 ≡ cond {A = ℕ} (a.place == p) 1 0 = ap (λ b. cond {A = ℕ} b 1 0) counts in
           omega (arith, before, one, count_push (refuses_number_at r p) w.answers g, count_put (is_at p) w.proxy.refused a queued));
@@ -698,16 +787,16 @@ said_unsolicited r w answer queued h = record {
 }
 
 outcome_cases : (r : Rules) (w : Run) (answer : List ℕ) (in_flight queued : List Request) → w.proxy.is_up ≡ true → Holds r (with_hand r in_flight queued w)
-    → Holds r (said r (with_hand r in_flight queued w) answer (outcome_of r answer w.proxy.is_resent (is_late (with_hand r in_flight queued w).proxy) (map (pending_of r) in_flight)))
+    → Holds r (said r (with_hand r in_flight queued w) answer (outcome_of r answer w.proxy.is_resent w.proxy.needs_view (is_late (with_hand r in_flight queued w).proxy) (map (pending_of r) in_flight)))
 outcome_cases r w answer [] queued up h = said_unsolicited r w answer queued h
 outcome_cases r w answer (a ∷ more) queued up h =
     let P : Outcome → Type 0 = λ g. Holds r (said r (with_hand r (a ∷ more) queued w) answer g) in
     let turned : Bool = needs_number r a.line && r.refuses_number answer in
     let unclear : Bool = w.proxy.is_resent && r.is_inconclusive answer in
     let late : Bool = is_late (with_hand r (a ∷ more) queued w).proxy a.from in
-    either P turned (cond w.proxy.is_resent (Ended a.from) (Retry a.from)) (cond (unclear || late) (Ended a.from) (To a.from))
-    (λ is. either P w.proxy.is_resent (Ended a.from) (Retry a.from) (λ again. said_ended r w answer a more queued up h)
-    (λ new. (let p = both_true (needs_number r a.line) (r.refuses_number answer) is in said_retry r w answer a more queued up new p.0 p.1 h)))
+    either P turned (cond (w.proxy.is_resent || w.proxy.needs_view) (Ended a.from) (Retry a.from)) (cond (unclear || late) (Ended a.from) (To a.from))
+    (λ is. either P (w.proxy.is_resent || w.proxy.needs_view) (Ended a.from) (Retry a.from) (λ again. said_ended r w answer a more queued up h)
+    (λ new. (let p = both_true (needs_number r a.line) (r.refuses_number answer) is in said_retry r w answer a more queued up (both_false w.proxy.is_resent w.proxy.needs_view new).0 p.0 p.1 h)))
     (λ is_not. either P (unclear || late) (Ended a.from) (To a.from) (λ ends. said_ended r w answer a more queued up h)
     (λ in_turn. said_to r w answer a more queued up (none_late r a.from w.proxy.refused queued (both_false unclear late in_turn).1) h))
 
@@ -716,7 +805,7 @@ answers_holds r w in_flight queued answer h =
     let v : Run = with_hand r in_flight queued w in
     either (Holds r) w.proxy.is_up (said r v answer (outcome r answer v.proxy)) v
     (λ up. (
-    let is : outcome r answer v.proxy ≡ outcome_of r answer w.proxy.is_resent (is_late (with_hand r in_flight queued w).proxy) (map (pending_of r) in_flight) = ap (λ b. cond b (outcome_of r answer w.proxy.is_resent (is_late (with_hand r in_flight queued w).proxy) (map (pending_of r) in_flight)) Unsolicited) up in
+    let is : outcome r answer v.proxy ≡ outcome_of r answer w.proxy.is_resent w.proxy.needs_view (is_late (with_hand r in_flight queued w).proxy) (map (pending_of r) in_flight) = ap (λ b. cond b (outcome_of r answer w.proxy.is_resent w.proxy.needs_view (is_late (with_hand r in_flight queued w).proxy) (map (pending_of r) in_flight)) Unsolicited) up in
     subst (λ g. Holds r (said r v answer g)) (sym is) (outcome_cases r w answer in_flight queued up h)))
     (λ down. h)
 
@@ -834,6 +923,13 @@ takes_holds r w in_flight queued c h =
 
 -- ---- there is a new one
 
+pub is_down : (f : Proxy) → may_connect f ≡ true → f.is_up ≡ false
+is_down f may = not_up f.is_up (both_true (not f.is_up) (not f.needs_view || is_none f.flight) may).0
+  where
+    not_up : (up : Bool) → not up ≡ true → up ≡ false
+    not_up true is = absurd (cc is)
+    not_up false is = refl
+
 none_once : (r : Rules) (p : ℕ) (xs : List Request) → list_all is_twice (map (pending_of r) xs) ≡ true → count_by (is_once_request r p) xs ≡ 0
 none_once r p [] twice = refl
 none_once r p (x ∷ xs) twice =
@@ -903,13 +999,14 @@ connected_holds r w in_flight queued down h =
 connects_holds : (r : Rules) (w : Run) (in_flight queued : List Request) → Holds r (with_hand r in_flight queued w) → Holds r (happens r (with_hand r in_flight queued w) Connects)
 connects_holds r w in_flight queued h =
     let v : Run = with_hand r in_flight queued w in
-    either (Holds r) w.proxy.is_up v (connected r v) (λ up. h) (λ down. connected_holds r w in_flight queued down h)
+    either (Holds r) (may_connect v.proxy) (connected r v) v (λ may. connected_holds r w in_flight queued (is_down v.proxy may) h) (λ may_not. h)
 
 -- ---- a whole life
 
 hand_happens : (r : Rules) (w : Run) (in_flight queued : List Request) (event : Event) → Holds r (with_hand r in_flight queued w) → Holds r (happens r (with_hand r in_flight queued w) event)
 hand_happens r w in_flight queued (Arrives c role line) h = arrives_holds r w in_flight queued c role line h
 hand_happens r w in_flight queued (Leaves c) h = leaves_holds r w in_flight queued c h
+hand_happens r w in_flight queued (Follows c role line) h = follows_holds r w in_flight queued c role line h
 hand_happens r w in_flight queued (Flies picks) h = flies_holds r w in_flight queued picks h
 hand_happens r w in_flight queued (Answers answer) h = answers_holds r w in_flight queued answer h
 hand_happens r w in_flight queued Breaks h = lost_cases r w in_flight queued h
@@ -951,8 +1048,9 @@ pub run_holds : (r : Rules) (w : Run) (events : List Event) → Holds r w → Ho
 run_holds r w [] h = h
 run_holds r w (event ∷ events) h = run_holds r (happens r w event) events (happens_holds r w event h)
 
-pub keeps_of : (r : Rules) (w : Run) → Holds r w → AreSerial 0 w.sent → HasOneNumber r w → IsFresh r w → IsInOrder r w → Keeps r w
-keeps_of r w h serial one_number fresh in_order = record {
+pub keeps_of : (r : Rules) (w : Run) → Holds r w → AreSerial 0 w.sent → HasOneNumber r w → IsFresh r w → IsInOrder r w → FollowViews r w → Keeps r w
+keeps_of r w h serial one_number fresh in_order follow_views = record {
+  follow_views = follow_views;
   in_order = in_order;
   serial = serial;
   one_number = one_number;

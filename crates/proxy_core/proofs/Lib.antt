@@ -15,3 +15,4 @@ pub mod Held
 pub mod Outcomes
 pub mod Server
 pub mod TakenBack
+pub mod Viewing

@@ -9,14 +9,14 @@ use Rattle.proxy_core.specs.declared.proxy.Outcome.TheVariants.{To, Ended, Retry
 use Rattle.proxy_core.specs.Rules.{Rules, next, needs_number}
 use Rattle.proxy_core.specs.Pending.{Pending, is_from, step}
 use Rattle.proxy_core.specs.declared.proxy.Outcome.{Outcome}
-use Rattle.proxy_core.specs.Machine.{Proxy, admission, after_first_answer, flown, is_alike, is_flight, is_in_turn, is_ready, left, may_go, outcome, outcome_of, picked, rest, begins_order, is_late, put_back, without_connection}
-use Rattle.proxy_core.specs.Run.{Request, Sent, Delivery, Answer, answer_of, delivered_too, Count, Run, Event, Arrives, Leaves, Flies, Answers, Breaks, TakesBack, Connects, Counts, broke, came, connected, happens, is_ended, new_run, next_request, run, said, took, went, without, written}
+use Rattle.proxy_core.specs.Machine.{Proxy, admission, after_first_answer, flown, is_alike, is_flight, is_in_turn, is_ready, left, may_go, outcome, outcome_of, picked, rest, begins_order, is_late, put_back, without_connection, admission_after_view, may_connect}
+use Rattle.proxy_core.specs.Run.{Request, Sent, Delivery, Answer, answer_of, delivered_too, Count, Run, Event, Arrives, Leaves, Flies, Answers, Breaks, Follows, TakesBack, Connects, Counts, broke, by_view, followed, came, connected, happens, is_ended, new_run, next_request, run, said, took, went, without, written}
 use Rattle.proxy_core.specs.Numbers.{AreSerial, HasOneNumber, IsFresh, IsNumberRefused, IsUnused}
 use Rattle.proxy_core.specs.Promises.{AreNumbered, IsAllowed, pending_of, sending, sendings}
 use Rattle.proxy_core.proofs.Hand.{refused_without}
-use Rattle.proxy_core.proofs.Lists.{all_append, all_filter, all_left, all_picked, all_put, all_weaker, both_true, count_filter, count_picked, count_push, count_put, count_rest, either, one_place, picked_pending_of, written_of}
+use Rattle.proxy_core.proofs.Lists.{all_append, all_filter, all_left, all_picked, all_put, all_weaker, both_false, both_true, count_filter, count_picked, count_push, count_put, count_rest, either, one_place, picked_pending_of, written_of}
 use Rattle.proxy_core.proofs.Sendings.{AreApart, all_at, all_in, all_of, compare, cons_cases, in_head, in_tail, is_at, is_of, number_more, same_number, same_place, serial_append, serial_from, serial_less, serial_sendings, some_at}
-use Rattle.proxy_core.proofs.Holding.{Holds, happens_holds, with_hand}
+use Rattle.proxy_core.proofs.Holding.{FollowsNow, Holds, accepted, accepted_holds, following_cases, follows_of, goes_alone, happens_holds, is_down, with_hand}
 
 -- ---- what is known of the requests in hand
 
@@ -327,7 +327,7 @@ takes_numbers r w in_flight queued c h =
 module _ (r : Rules) (w : Run) (answer : List ℕ) (a : Request) (more queued : List Request) (z : Sent) (later : List Sent)
     (h : Numbers r (with_hand r (a ∷ more) queued w)) (is_wire : w.wire ≡ z ∷ later) (of_a : z.place ≡ a.place) (own_z : z.is_unnumbered ≡ needs_number r a.line) (number_z : z.number ≡ next w.proxy.number) (sent_z : Contains w.sent z) where
   abbrev answered : Answer
-  answered = record { sent = z; answer = answer }
+  answered = record { sent = z; answer = answer; heard = length w.sent }
 
   in_answers : Contains (w.answers ++ answered ∷ []) answered
   in_answers = Contains-push w.answers answered
@@ -447,20 +447,20 @@ module _ (r : Rules) (w : Run) (answer : List ℕ) (a : Request) (more queued : 
 
   to_numbers : Numbers r (after (To a.from))
   to_numbers =
-      subst (λ l. Numbers r (record (with_hand r (a ∷ more) queued w) { proxy = after_first_answer r answer (with_hand r (a ∷ more) queued w).proxy; in_flight = more; delivered = delivered_too w.ended w.delivered a.from a.place answer; wire = rest l; answers = w.answers ++ answer_of l answer })) (sym is_wire)
+      subst (λ l. Numbers r (record (with_hand r (a ∷ more) queued w) { proxy = after_first_answer r answer (with_hand r (a ∷ more) queued w).proxy; in_flight = more; delivered = delivered_too w.ended w.delivered a.from a.place answer; wire = rest l; answers = w.answers ++ answer_of (length w.sent) l answer })) (sym is_wire)
       (dropped_numbers (map (pending_of r) queued) w.proxy.refused queued (delivered_too w.ended w.delivered a.from a.place answer) w.ended (hand_rest queued (λ p. omega arith)) (waits_heard queued h.waits))
 
   ended_numbers : Numbers r (after (Ended a.from))
   ended_numbers =
       let kept : List Request = without a.from queued in
-      subst (λ l. Numbers r (record (with_hand r (a ∷ more) queued w) { proxy = without_connection a.from (after_first_answer r answer (with_hand r (a ∷ more) queued w).proxy); in_flight = more; queued = kept; ended = a.from ∷ w.ended; wire = rest l; answers = w.answers ++ answer_of l answer })) (sym is_wire)
+      subst (λ l. Numbers r (record (with_hand r (a ∷ more) queued w) { proxy = without_connection a.from (after_first_answer r answer (with_hand r (a ∷ more) queued w).proxy); in_flight = more; queued = kept; ended = a.from ∷ w.ended; wire = rest l; answers = w.answers ++ answer_of (length w.sent) l answer })) (sym is_wire)
       (dropped_numbers (filter (λ x. not (is_from a.from x)) (map (pending_of r) queued)) (refused_without r a.from w.proxy.refused queued) kept w.delivered (a.from ∷ w.ended) (hand_rest kept (λ p. count_filter (is_at p) (λ (x : Request). not (x.from == a.from)) queued))
       (waits_heard kept (all_filter (WaitsAnew r w.sent w.answers) (λ (x : Request). not (x.from == a.from)) queued h.waits)))
 
   retry_numbers : w.proxy.is_resent ≡ false → r.refuses_number answer ≡ true → Numbers r (after (Retry a.from))
   retry_numbers new refuses =
       let anew : WaitsAnew r w.sent (w.answers ++ answered ∷ []) a = λ s in_it own at. only_first_refused s in_it own at in
-      subst (λ l. Numbers r (record (with_hand r (a ∷ more) queued w) { proxy = record (after_first_answer r answer (with_hand r (a ∷ more) queued w).proxy) { waiting = put_back w.proxy.refused (pending_of r a ∷ []) (map (pending_of r) queued); refused = w.proxy.refused + 1 }; in_flight = more; queued = put_back w.proxy.refused (a ∷ []) queued; wire = rest l; answers = w.answers ++ answer_of l answer })) (sym is_wire)
+      subst (λ l. Numbers r (record (with_hand r (a ∷ more) queued w) { proxy = record (after_first_answer r answer (with_hand r (a ∷ more) queued w).proxy) { waiting = put_back w.proxy.refused (pending_of r a ∷ []) (map (pending_of r) queued); refused = w.proxy.refused + 1 }; in_flight = more; queued = put_back w.proxy.refused (a ∷ []) queued; wire = rest l; answers = w.answers ++ answer_of (length w.sent) l answer })) (sym is_wire)
       (dropped_numbers (put_back w.proxy.refused (pending_of r a ∷ []) (map (pending_of r) queued)) (w.proxy.refused + 1) (put_back w.proxy.refused (a ∷ []) queued) w.delivered w.ended
       (λ p. (let all = h.hand p in omega (arith, all, sum_by-cons (λ y. cond {A = ℕ} (is_at p y) 1 0) a more, count_put (is_at p) w.proxy.refused a queued)))
       (all_put (WaitsAnew r w.sent (w.answers ++ answered ∷ [])) w.proxy.refused a queued (waits_heard queued h.waits) anew))
@@ -487,7 +487,7 @@ unsolicited_numbers r w answer queued h = record {
 }
 
 outcome_numbers : (r : Rules) (w : Run) (answer : List ℕ) (in_flight queued : List Request) → w.proxy.is_up ≡ true → Holds r (with_hand r in_flight queued w) → Numbers r (with_hand r in_flight queued w)
-    → Numbers r (said r (with_hand r in_flight queued w) answer (outcome_of r answer w.proxy.is_resent (is_late (with_hand r in_flight queued w).proxy) (map (pending_of r) in_flight)))
+    → Numbers r (said r (with_hand r in_flight queued w) answer (outcome_of r answer w.proxy.is_resent w.proxy.needs_view (is_late (with_hand r in_flight queued w).proxy) (map (pending_of r) in_flight)))
 outcome_numbers r w answer [] queued up held h = unsolicited_numbers r w answer queued h
 outcome_numbers r w answer (a ∷ more) queued up held h =
     let v : Run = with_hand r (a ∷ more) queued w in
@@ -500,9 +500,9 @@ outcome_numbers r w answer (a ∷ more) queued up held h =
     let refused : Bool = needs_number r a.line && r.refuses_number answer in
     let unclear : Bool = w.proxy.is_resent && r.is_inconclusive answer in
     let late : Bool = is_late v.proxy a.from in
-    either P refused (cond w.proxy.is_resent (Ended a.from) (Retry a.from)) (cond (unclear || late) (Ended a.from) (To a.from))
-    (λ is. either P w.proxy.is_resent (Ended a.from) (Retry a.from) (λ again. ended_numbers r w answer a more queued z later h is_wire refl refl refl sent_z)
-    (λ new. retry_numbers r w answer a more queued z later h is_wire refl refl refl sent_z new (both_true (needs_number r a.line) (r.refuses_number answer) is).1))
+    either P refused (cond (w.proxy.is_resent || w.proxy.needs_view) (Ended a.from) (Retry a.from)) (cond (unclear || late) (Ended a.from) (To a.from))
+    (λ is. either P (w.proxy.is_resent || w.proxy.needs_view) (Ended a.from) (Retry a.from) (λ again. ended_numbers r w answer a more queued z later h is_wire refl refl refl sent_z)
+    (λ new. retry_numbers r w answer a more queued z later h is_wire refl refl refl sent_z (both_false w.proxy.is_resent w.proxy.needs_view new).0 (both_true (needs_number r a.line) (r.refuses_number answer) is).1))
     (λ is_not. either P (unclear || late) (Ended a.from) (To a.from) (λ ends. ended_numbers r w answer a more queued z later h is_wire refl refl refl sent_z)
     (λ in_turn. to_numbers r w answer a more queued z later h is_wire refl refl refl sent_z))
 
@@ -511,7 +511,7 @@ answers_numbers r w in_flight queued answer held h =
     let v : Run = with_hand r in_flight queued w in
     either (Numbers r) w.proxy.is_up (said r v answer (outcome r answer v.proxy)) v
     (λ up. (
-    let is : outcome r answer v.proxy ≡ outcome_of r answer w.proxy.is_resent (is_late (with_hand r in_flight queued w).proxy) (map (pending_of r) in_flight) = ap (λ b. cond b (outcome_of r answer w.proxy.is_resent (is_late (with_hand r in_flight queued w).proxy) (map (pending_of r) in_flight)) Unsolicited) up in
+    let is : outcome r answer v.proxy ≡ outcome_of r answer w.proxy.is_resent w.proxy.needs_view (is_late (with_hand r in_flight queued w).proxy) (map (pending_of r) in_flight) = ap (λ b. cond b (outcome_of r answer w.proxy.is_resent w.proxy.needs_view (is_late (with_hand r in_flight queued w).proxy) (map (pending_of r) in_flight)) Unsolicited) up in
     subst (λ g. Numbers r (said r v answer g)) (sym is) (outcome_numbers r w answer in_flight queued up held h)))
     (λ down. h)
 
@@ -710,6 +710,43 @@ flies_numbers r w in_flight queued picks held h =
     let v : Run = with_hand r in_flight queued w in
     either (Numbers r) (may_go picks v.proxy) (went r picks v) v (λ may. went_numbers r w in_flight queued picks may held h) (λ may_not. h)
 
+-- ---- a line that needs a view is sent
+
+by_view_numbers : (r : Rules) (w : Run) → Numbers r w → Numbers r (by_view w)
+by_view_numbers r w h = record {
+  serial = h.serial;
+  heard = h.heard;
+  hand = h.hand;
+  one_number = λ s t two same. h.one_number s t (record { first = two.first; second = two.second; first_own = two.first_own; second_own = two.second_own; before = two.before }) same;
+  fresh = λ s t two same small. h.fresh s t (record { first = two.first; second = two.second; first_own = two.first_own; second_own = two.second_own; before = two.before }) same small;
+  counted = h.counted;
+  waits = h.waits;
+  has = h.has;
+  owns = h.owns;
+  latest = h.latest;
+  only = h.only;
+}
+
+pub accepted_numbers : (r : Rules) (w : Run) (c role : ℕ) (line : List ℕ) → Holds r (with_hand r [] [] w) → Numbers r (with_hand r [] [] w) → Numbers r (accepted r w c role line)
+accepted_numbers r w c role line held h = came_numbers r (with_hand r [] [] w) c role line held h
+
+followed_numbers : (r : Rules) (w : Run) (in_flight queued : List Request) (c role : ℕ) (line : List ℕ) → is_ended c w.ended ≡ false → r.allows role line ≡ true → FollowsNow r line (with_hand r in_flight queued w).proxy
+    → Holds r (with_hand r in_flight queued w) → Numbers r (with_hand r in_flight queued w) → Numbers r (followed r (with_hand r in_flight queued w) c role line Queued)
+followed_numbers r w (a ∷ more) queued c role line going may now held h = (let none : false ≡ true = now.none_flies in absurd (cc none))
+followed_numbers r w [] (a ∷ more) c role line going may now held h = (let none : false ≡ true = now.none_waits in absurd (cc none))
+followed_numbers r w [] [] c role line going may now held h =
+    let v : Run = accepted r w c role line in
+    by_view_numbers r (went r (true ∷ []) v) (went_numbers r v [] (next_request w c role line ∷ []) (true ∷ []) (goes_alone r w c role line now) (accepted_holds r w c role line going may held) (accepted_numbers r w c role line held h))
+
+follows_numbers : (r : Rules) (w : Run) (in_flight queued : List Request) (c role : ℕ) (line : List ℕ) → Holds r (with_hand r in_flight queued w) → Numbers r (with_hand r in_flight queued w) → Numbers r (happens r (with_hand r in_flight queued w) (Follows c role line))
+follows_numbers r w in_flight queued c role line held h =
+    let v : Run = with_hand r in_flight queued w in
+    either (Numbers r) (is_ended c w.ended) v (followed r v c role line (admission_after_view r c role line v.proxy)) (λ over. h)
+    (λ going. following_cases r c role line v.proxy (λ t. Numbers r (followed r v c role line t))
+    (λ may follows. followed_numbers r w in_flight queued c role line going may (follows_of r line v.proxy follows) held h)
+    (λ may_not none. denied_numbers r v c role line h)
+    h)
+
 -- ---- there is a new connection to the server
 
 connected_numbers : (r : Rules) (w : Run) (in_flight queued : List Request) → w.proxy.is_up ≡ false → Holds r (with_hand r in_flight queued w) → Numbers r (with_hand r in_flight queued w) → Numbers r (connected r (with_hand r in_flight queued w))
@@ -742,13 +779,14 @@ connected_numbers r w in_flight queued down held h =
 connects_numbers : (r : Rules) (w : Run) (in_flight queued : List Request) → Holds r (with_hand r in_flight queued w) → Numbers r (with_hand r in_flight queued w) → Numbers r (happens r (with_hand r in_flight queued w) Connects)
 connects_numbers r w in_flight queued held h =
     let v : Run = with_hand r in_flight queued w in
-    either (Numbers r) w.proxy.is_up v (connected r v) (λ up. h) (λ down. connected_numbers r w in_flight queued down held h)
+    either (Numbers r) (may_connect v.proxy) (connected r v) v (λ may. connected_numbers r w in_flight queued (is_down v.proxy may) held h) (λ may_not. h)
 
 -- ---- a whole run
 
 hand_numbers : (r : Rules) (w : Run) (in_flight queued : List Request) (event : Event) → Holds r (with_hand r in_flight queued w) → Numbers r (with_hand r in_flight queued w) → Numbers r (happens r (with_hand r in_flight queued w) event)
 hand_numbers r w in_flight queued (Arrives c role line) held h = arrives_numbers r (with_hand r in_flight queued w) c role line held h
 hand_numbers r w in_flight queued (Leaves c) held h = leaves_numbers r (with_hand r in_flight queued w) c h
+hand_numbers r w in_flight queued (Follows c role line) held h = follows_numbers r w in_flight queued c role line held h
 hand_numbers r w in_flight queued (Flies picks) held h = flies_numbers r w in_flight queued picks held h
 hand_numbers r w in_flight queued (Answers answer) held h = answers_numbers r w in_flight queued answer held h
 hand_numbers r w in_flight queued Breaks held h = breaks_numbers r w in_flight queued h

@@ -8,15 +8,15 @@ use Rattle.proxy_core.specs.declared.proxy.Outcome.{Outcome}
 use Rattle.proxy_core.specs.declared.proxy.Outcome.TheVariants.{To, Ended, Retry, Unsolicited}
 use Rattle.proxy_core.specs.Rules.{Rules, next, needs_number}
 use Rattle.proxy_core.specs.Pending.{Pending, step}
-use Rattle.proxy_core.specs.Machine.{Proxy, admission, flown, is_alike, is_flight, is_in_turn, is_ready, left, may_go, outcome, outcome_of, picked, rest, begins_order, is_late}
-use Rattle.proxy_core.specs.Run.{Request, Sent, Answer, Run, Event, Arrives, Leaves, Flies, Answers, Breaks, TakesBack, Connects, Counts, answer_of, broke, came, connected, happens, is_ended, new_run, next_request, run, said, took, went, without, written}
+use Rattle.proxy_core.specs.Machine.{Proxy, admission, flown, is_alike, is_flight, is_in_turn, is_ready, left, may_go, outcome, outcome_of, picked, rest, begins_order, is_late, admission_after_view, may_connect}
+use Rattle.proxy_core.specs.Run.{Request, Sent, Answer, Run, Event, Arrives, Leaves, Flies, Answers, Breaks, Follows, TakesBack, Connects, Counts, answer_of, broke, followed, came, connected, happens, is_ended, new_run, next_request, run, said, took, went, without, written}
 use Rattle.proxy_core.specs.Numbers.{IsInOrder, asks_again}
 use Rattle.proxy_core.specs.Promises.{hand, pending_of, place_if, places_of, sending, sendings}
 use Rattle.proxy_core.proofs.Hand.{hand_again, hand_first, hand_flies, hand_other, hand_own, hand_push, hand_waiting, none_late, refused_without}
 use Rattle.proxy_core.proofs.Lists.{both_false, both_true, either, picked_pending_of, written_of}
 use Rattle.proxy_core.proofs.Sendings.{all_at, all_of, cons_cases, is_of, serial_from, serial_less, serial_sendings}
-use Rattle.proxy_core.proofs.Holding.{Holds, IsGood, happens_holds, with_hand}
-use Rattle.proxy_core.proofs.Numbering.{Numbers, happens_numbers, none_sent}
+use Rattle.proxy_core.proofs.Holding.{FollowsNow, Holds, IsGood, accepted, accepted_holds, following_cases, follows_of, goes_alone, happens_holds, with_hand}
+use Rattle.proxy_core.proofs.Numbering.{Numbers, accepted_numbers, happens_numbers, none_sent}
 
 -- ---- rising places
 
@@ -278,6 +278,25 @@ flies_order r w in_flight queued picks held numbers h =
     let v : Run = with_hand r in_flight queued w in
     either (Order r) (may_go picks v.proxy) (went r picks v) v (λ may. went_order r w in_flight queued picks may held numbers h) (λ may_not. h)
 
+followed_order : (r : Rules) (w : Run) (in_flight queued : List Request) (c role : ℕ) (line : List ℕ) → is_ended c w.ended ≡ false → r.allows role line ≡ true → FollowsNow r line (with_hand r in_flight queued w).proxy
+    → Holds r (with_hand r in_flight queued w) → Numbers r (with_hand r in_flight queued w) → Order r (with_hand r in_flight queued w) → Order r (followed r (with_hand r in_flight queued w) c role line Queued)
+followed_order r w (a ∷ more) queued c role line going may now held numbers h = (let none : false ≡ true = now.none_flies in absurd (cc none))
+followed_order r w [] (a ∷ more) c role line going may now held numbers h = (let none : false ≡ true = now.none_waits in absurd (cc none))
+followed_order r w [] [] c role line going may now held numbers h =
+    let v : Run = accepted r w c role line in
+    let went_v : Order r (went r (true ∷ []) v) = went_order r v [] (next_request w c role line ∷ []) (true ∷ []) (goes_alone r w c role line now) (accepted_holds r w c role line going may held) (accepted_numbers r w c role line held numbers)
+    (came_order r (with_hand r [] [] w) c role line held numbers h) in
+    record { rising = went_v.rising; past = went_v.past; order = went_v.order; after = went_v.after }
+
+follows_order : (r : Rules) (w : Run) (in_flight queued : List Request) (c role : ℕ) (line : List ℕ) → Holds r (with_hand r in_flight queued w) → Numbers r (with_hand r in_flight queued w) → Order r (with_hand r in_flight queued w) → Order r (happens r (with_hand r in_flight queued w) (Follows c role line))
+follows_order r w in_flight queued c role line held numbers h =
+    let v : Run = with_hand r in_flight queued w in
+    either (Order r) (is_ended c w.ended) v (followed r v c role line (admission_after_view r c role line v.proxy)) (λ over. h)
+    (λ going. following_cases r c role line v.proxy (λ t. Order r (followed r v c role line t))
+    (λ may follows. followed_order r w in_flight queued c role line going may (follows_of r line v.proxy follows) held numbers h)
+    (λ may_not none. record { rising = h.rising; past = h.past; order = h.order; after = h.after })
+    h)
+
 connects_order : (r : Rules) (w : Run) (in_flight queued : List Request) → Numbers r (with_hand r in_flight queued w) → Order r (with_hand r in_flight queued w) → Order r (happens r (with_hand r in_flight queued w) Connects)
 connects_order r w in_flight queued numbers h =
     let v : Run = with_hand r in_flight queued w in
@@ -286,13 +305,14 @@ connects_order r w in_flight queued numbers h =
     let k : ℕ = w.proxy.number in
     let rising : (c : ℕ) → Rising (places_of c in_flight) = λ c. rising_flight c w.proxy.refused in_flight queued (h.rising c) in
     let past : (g : Answer) → Contains w.answers g → asks_again r g ≡ false → AllByRecursion (λ p. g.sent.place ≤ p) (places_of g.sent.from in_flight) = λ g in_g final. all_flight (λ p. g.sent.place ≤ p) g.sent.from w.proxy.refused in_flight queued (h.past g in_g final) in
-    either (Order r) w.proxy.is_up v (connected r v) (λ up. h)
-    (λ down. subst (λ l. Order r (record v { proxy = record (v.proxy) { is_up = true }; sent = w.sent ++ l; wire = l })) (sym (written_of r n false m k in_flight)) (record {
+    either (Order r) (may_connect v.proxy) (connected r v) v
+    (λ may. subst (λ l. Order r (record v { proxy = record (v.proxy) { is_up = true }; sent = w.sent ++ l; wire = l })) (sym (written_of r n false m k in_flight)) (record {
       rising = h.rising;
       past = h.past;
       order = all_order r v numbers h n false k in_flight rising past;
       after = all_after r v numbers h n false k in_flight rising past;
     }))
+    (λ may_not. h)
 
 -- ---- the server answers, or its connection breaks
 
@@ -321,7 +341,7 @@ younger a ps rising =
 module _ (r : Rules) (w : Run) (answer : List ℕ) (a : Request) (more queued : List Request) (z : Sent) (later : List Sent)
     (h : Order r (with_hand r (a ∷ more) queued w)) (is_wire : w.wire ≡ z ∷ later) (from_a : z.from ≡ a.from) (at_a : z.place ≡ a.place) where
   abbrev new_answer : Answer
-  new_answer = record { sent = z; answer = answer }
+  new_answer = record { sent = z; answer = answer; heard = length w.sent }
 
   answered_order : (v : Run) → v.sent ≡ w.sent → v.answers ≡ w.answers ++ new_answer ∷ [] → v.wire ≡ later → ((c : ℕ) → Rising (hand c v.proxy.refused v.in_flight v.queued))
       → ((g : Answer) → Contains w.answers g → asks_again r g ≡ false → IsPast v.proxy.refused v.in_flight v.queued g)
@@ -349,8 +369,8 @@ module _ (r : Rules) (w : Run) (answer : List ℕ) (a : Request) (more queued : 
   abbrev k : ℕ
   k = w.proxy.refused
 
-  answers_wire : w.answers ++ answer_of w.wire answer ≡ w.answers ++ new_answer ∷ []
-  answers_wire = ap (λ l. w.answers ++ answer_of l answer) is_wire
+  answers_wire : w.answers ++ answer_of (length w.sent) w.wire answer ≡ w.answers ++ new_answer ∷ []
+  answers_wire = ap (λ l. w.answers ++ answer_of (length w.sent) l answer) is_wire
 
   to_order : places_of a.from (take k queued) ≡ [] → Order r (said r now answer (To a.from))
   to_order oldest = answered_order (said r now answer (To a.from)) refl answers_wire (ap rest is_wire) (first_rising k a more queued h.rising) (λ g in_g final. first_all k a more queued (λ p. g.sent.place ≤ p) g.sent.from (h.past g in_g final))
@@ -371,7 +391,7 @@ module _ (r : Rules) (w : Run) (answer : List ℕ) (a : Request) (more queued : 
       (λ final. absurd (cc (asks, final)))
 
 outcome_order : (r : Rules) (w : Run) (answer : List ℕ) (in_flight queued : List Request) → w.proxy.is_up ≡ true → Holds r (with_hand r in_flight queued w) → Order r (with_hand r in_flight queued w)
-    → Order r (said r (with_hand r in_flight queued w) answer (outcome_of r answer w.proxy.is_resent (is_late (with_hand r in_flight queued w).proxy) (map (pending_of r) in_flight)))
+    → Order r (said r (with_hand r in_flight queued w) answer (outcome_of r answer w.proxy.is_resent w.proxy.needs_view (is_late (with_hand r in_flight queued w).proxy) (map (pending_of r) in_flight)))
 outcome_order r w answer [] queued up held h = record { rising = h.rising; past = h.past; order = h.order; after = tt }
 outcome_order r w answer (a ∷ more) queued up held h =
     let v : Run = with_hand r (a ∷ more) queued w in
@@ -382,9 +402,9 @@ outcome_order r w answer (a ∷ more) queued up held h =
     let refused : Bool = needs_number r a.line && r.refuses_number answer in
     let unclear : Bool = w.proxy.is_resent && r.is_inconclusive answer in
     let late : Bool = is_late v.proxy a.from in
-    either P refused (cond w.proxy.is_resent (Ended a.from) (Retry a.from)) (cond (unclear || late) (Ended a.from) (To a.from))
-    (λ is. either P w.proxy.is_resent (Ended a.from) (Retry a.from) (λ again. ended_order r w answer a more queued z later h out.2 refl refl)
-    (λ new. retry_order r w answer a more queued z later h out.2 refl refl held.within (ap (λ b. not b && refused) new ∙ is)))
+    either P refused (cond (w.proxy.is_resent || w.proxy.needs_view) (Ended a.from) (Retry a.from)) (cond (unclear || late) (Ended a.from) (To a.from))
+    (λ is. either P (w.proxy.is_resent || w.proxy.needs_view) (Ended a.from) (Retry a.from) (λ again. ended_order r w answer a more queued z later h out.2 refl refl)
+    (λ new. retry_order r w answer a more queued z later h out.2 refl refl held.within (ap (λ b. not b && refused) (both_false w.proxy.is_resent w.proxy.needs_view new).0 ∙ is)))
     (λ is_not. either P (unclear || late) (Ended a.from) (To a.from) (λ ends. ended_order r w answer a more queued z later h out.2 refl refl)
     (λ in_turn. to_order r w answer a more queued z later h out.2 refl refl (none_late r a.from w.proxy.refused queued (both_false unclear late in_turn).1)))
 
@@ -393,7 +413,7 @@ answers_order r w in_flight queued answer held h =
     let v : Run = with_hand r in_flight queued w in
     either (Order r) w.proxy.is_up (said r v answer (outcome r answer v.proxy)) v
     (λ up. (
-    let is : outcome r answer v.proxy ≡ outcome_of r answer w.proxy.is_resent (is_late v.proxy) (map (pending_of r) in_flight) = ap (λ b. cond b (outcome_of r answer w.proxy.is_resent (is_late v.proxy) (map (pending_of r) in_flight)) Unsolicited) up in
+    let is : outcome r answer v.proxy ≡ outcome_of r answer w.proxy.is_resent w.proxy.needs_view (is_late v.proxy) (map (pending_of r) in_flight) = ap (λ b. cond b (outcome_of r answer w.proxy.is_resent w.proxy.needs_view (is_late v.proxy) (map (pending_of r) in_flight)) Unsolicited) up in
     subst (λ g. Order r (said r v answer g)) (sym is) (outcome_order r w answer in_flight queued up held h)))
     (λ down. h)
 
@@ -434,6 +454,7 @@ takes_order r w in_flight queued c h =
 hand_order : (r : Rules) (w : Run) (in_flight queued : List Request) (event : Event) → Holds r (with_hand r in_flight queued w) → Numbers r (with_hand r in_flight queued w) → Order r (with_hand r in_flight queued w) → Order r (happens r (with_hand r in_flight queued w) event)
 hand_order r w in_flight queued (Arrives c role line) held numbers h = arrives_order r (with_hand r in_flight queued w) c role line held numbers h
 hand_order r w in_flight queued (Leaves c) held numbers h = leaves_order r w in_flight queued c h
+hand_order r w in_flight queued (Follows c role line) held numbers h = follows_order r w in_flight queued c role line held numbers h
 hand_order r w in_flight queued (Flies picks) held numbers h = flies_order r w in_flight queued picks held numbers h
 hand_order r w in_flight queued (Answers answer) held numbers h = answers_order r w in_flight queued answer held h
 hand_order r w in_flight queued Breaks held numbers h = breaks_order r w in_flight queued h

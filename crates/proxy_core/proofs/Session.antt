@@ -13,6 +13,7 @@ use Rattle.proxy_core.proofs.Sendings.{all_at, compare, in_head, in_tail, serial
 use Rattle.proxy_core.proofs.Holding as holding
 use Rattle.proxy_core.proofs.Ordering.{run_order, begins as order_begins}
 use Rattle.proxy_core.proofs.Numbering.{Numbers, begins, run_numbers}
+use Rattle.proxy_core.proofs.Viewing.{run_views, begins as view_begins}
 
 numbers_of : (r : Rules) (events : List Event) → Numbers r (run r new_run events)
 numbers_of r events = run_numbers r new_run events (holding.begins r) (begins r)
@@ -21,7 +22,7 @@ pub every_run : EveryRun
 every_run r events =
     let w : Run = run r new_run events in
     let h : Numbers r w = numbers_of r events in
-    holding.keeps_of r w (holding.run_holds r new_run events (holding.begins r)) h.serial h.one_number h.fresh (run_order r new_run events (holding.begins r) (begins r) (order_begins r)).order
+    holding.keeps_of r w (holding.run_holds r new_run events (holding.begins r)) h.serial h.one_number h.fresh (run_order r new_run events (holding.begins r) (begins r) (order_begins r)).order (run_views r new_run events (holding.begins r) (view_begins r)).follow
 
 -- none passes a test, or one does
 none_or_some : (test : Sent → Bool) (xs : List Sent) → (count_by test xs ≡ 0) ⊎ ((s : Sent) × Contains xs s × (test s ≡ true))

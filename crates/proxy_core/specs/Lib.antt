@@ -6,6 +6,7 @@ pub mod Machine
 pub mod Fair
 pub mod Run
 pub mod Numbers
+pub mod Views
 pub mod Promises
 pub mod Session
 pub mod WorkedRun

@@ -7,7 +7,7 @@ use Rattle.proxy_core.specs.declared.proxy.Admission.{Admission}
 use Rattle.proxy_core.specs.declared.proxy.Admission.TheVariants.{Queued, Denied, Deferred}
 use Rattle.proxy_core.specs.declared.proxy.Outcome.{Outcome}
 use Rattle.proxy_core.specs.declared.proxy.Outcome.TheVariants.{To, Ended, Retry, Unsolicited}
-use Rattle.proxy_core.specs.Rules.{Rules, next}
+use Rattle.proxy_core.specs.Rules.{Rules, needs_number, next}
 use Rattle.proxy_core.specs.Pending.{Pending, is_from, step}
 
 pub record Proxy : Type 0 where
@@ -20,9 +20,11 @@ pub record Proxy : Type 0 where
   pub last : ℕ  -- the last number of the proxy's client, as far as it is known
   pub is_counted : Bool  -- it is known: no sending with a higher number can have been carried out
   pub has_refusal : Bool  -- an order of the flight was refused on its merits, so the server refuses the numbers after it
+  pub needs_view : Bool  -- the flight is a line that needs a view: it is neither sent again nor given another number
+  pub view : Option (List ℕ)  -- the answer to the last line that was sent, if that is a query, and the connection has stood since
 
 abbrev pub new_proxy : Proxy
-new_proxy = record { flight = []; waiting = []; refused = 0; is_up = false; is_resent = false; number = 0; last = 0; is_counted = false; has_refusal = false }
+new_proxy = record { flight = []; waiting = []; refused = 0; is_up = false; is_resent = false; number = 0; last = 0; is_counted = false; has_refusal = false; needs_view = false; view = None }
 
 -- the number of lines of a connection without an answer
 abbrev pub held : ℕ → Proxy → ℕ
@@ -30,12 +32,15 @@ held c f = count_by (is_from c) f.flight + count_by (is_from c) f.waiting
 
 -- ---- a line arrives
 
--- the effect of a line: at most 64 lines of a connection are held, and a denial comes after the answers to all lines before
--- it
+-- a denial comes after the answers to all lines before it
+abbrev pub denial : ℕ → Proxy → Admission
+denial c f = if held c f == 0 then Denied else Deferred
+
+-- the effect of a line: at most 64 lines of a connection are held, and a line that needs a view does not wait for the server
 abbrev pub admission : Rules → ℕ → ℕ → List ℕ → Proxy → Admission
 admission r c role line f =
-    if r.allows role line then (if nat_lt (held c f) 64 then Queued else Deferred)
-    else (if held c f == 0 then Denied else Deferred)
+    if r.allows role line then (if not (r.needs_view line) && nat_lt (held c f) 64 then Queued else Deferred)
+    else denial c f
 
 abbrev pub after_admission : Admission → Pending → Proxy → Proxy
 after_admission Queued a f = record f { waiting = f.waiting ++ a ∷ [] }
@@ -179,7 +184,29 @@ abbrev pub picks_of : Bool → Bool → List Pending → List Bool
 picks_of counted together waiting = second_round counted together (led counted waiting).kind (led counted waiting).room [] [] (led counted waiting).picks waiting
 
 abbrev pub flown : List Bool → Proxy → Proxy
-flown picks f = record f { flight = picked picks f.waiting; waiting = left picks f.waiting; refused = 0; is_resent = false; number = f.last; has_refusal = false }
+flown picks f = record f { flight = picked picks f.waiting; waiting = left picks f.waiting; refused = 0; is_resent = false; number = f.last; has_refusal = false; needs_view = false; view = None }
+
+-- ---- a line that needs a view
+
+abbrev pub is_permitted : Rules → Option (List ℕ) → List ℕ → Bool
+is_permitted r None line = false
+is_permitted r (Some view) line = r.permits view line
+
+-- it may be sent: no line is without an answer, its number is known, and the view that was just heard permits it
+abbrev pub may_follow : Rules → List ℕ → Proxy → Bool
+may_follow r line f = f.is_up && (is_none f.flight && (is_none f.waiting && ((f.is_counted || not (needs_number r line)) && is_permitted r f.view line)))
+
+-- it is sent at once, or not taken
+abbrev pub admission_after_view : Rules → ℕ → ℕ → List ℕ → Proxy → Admission
+admission_after_view r c role line f =
+    if r.allows role line then (if may_follow r line f then Queued else Deferred)
+    else denial c f
+
+-- it is the only line of the next flight
+abbrev pub after_following : Admission → Pending → Proxy → Proxy
+after_following Queued a f = record (flown (true ∷ []) (after_admission Queued a f)) { needs_view = true }
+after_following Denied a f = f
+after_following Deferred a f = f
 
 -- ---- the last number was found
 
@@ -203,16 +230,17 @@ without_connection c f = record f { waiting = filter (λ a. not (is_from c a)) f
 abbrev pub is_late : Proxy → ℕ → Bool
 is_late f c = nat_lt 0 (refused_from c f)
 
-abbrev pub outcome_of : Rules → List ℕ → Bool → (ℕ → Bool) → List Pending → Outcome
-outcome_of r answer again is_late [] = Unsolicited
-outcome_of r answer again is_late (a ∷ more) =
-    if a.is_unnumbered && r.refuses_number answer then (if again then Ended a.from else Retry a.from)
+abbrev pub outcome_of : Rules → List ℕ → Bool → Bool → (ℕ → Bool) → List Pending → Outcome
+outcome_of r answer again needs_view is_late [] = Unsolicited
+outcome_of r answer again needs_view is_late (a ∷ more) =
+    if a.is_unnumbered && r.refuses_number answer then (if again || needs_view then Ended a.from else Retry a.from)
     else (if (again && r.is_inconclusive answer) || is_late a.from then Ended a.from else To a.from)
 
 -- who gets it. If it leaves open what became of a line that was sent twice, or would come before the answer to an older line, the
--- connection ends; if it refuses the number of a line that was sent once, the line waits for another number
+-- connection ends; if it refuses the number of a line that was sent once, the line waits for another number, but a line that needs a
+-- view is dropped
 abbrev pub outcome : Rules → List ℕ → Proxy → Outcome
-outcome r answer f = if f.is_up then outcome_of r answer f.is_resent (is_late f) f.flight else Unsolicited
+outcome r answer f = if f.is_up then outcome_of r answer f.is_resent f.needs_view (is_late f) f.flight else Unsolicited
 
 abbrev pub rest : {X : Type 0} → List X → List X
 rest [] = []
@@ -240,6 +268,14 @@ after_number r answer f = record f {
   has_refusal = f.has_refusal || r.is_refusal answer;
 }
 
+abbrev pub begins_query : List Pending → Bool
+begins_query [] = false
+begins_query (a ∷ more) = a.is_query
+
+-- the answer to the last line of a flight, if that is a query
+abbrev pub view_after : List ℕ → List Pending → Option (List ℕ)
+view_after answer flight = if begins_query flight && length flight == 1 then Some answer else None
+
 -- the first line of the flight has its answer
 abbrev pub after_first_answer : Rules → List ℕ → Proxy → Proxy
 after_first_answer r answer f = record f {
@@ -248,6 +284,7 @@ after_first_answer r answer f = record f {
   last = if begins_own f.flight && r.uses_number answer then max f.last (next f.number) else f.last;
   is_counted = if begins_own f.flight then is_counted_after r answer f else f.is_counted;
   has_refusal = f.has_refusal || (begins_own f.flight && r.is_refusal answer);
+  view = view_after answer f.flight;
 }
 
 -- lines that wait again come after those that already do, and before all others
@@ -259,7 +296,7 @@ after_outcome r answer (To c) f = after_first_answer r answer f
 after_outcome r answer (Ended c) f = without_connection c (after_first_answer r answer f)
 after_outcome r answer (Retry c) f = record (after_first_answer r answer f) { waiting = put_back f.refused (firsts f.flight) f.waiting; refused = f.refused + 1 }
 -- nothing was in flight: the loop leaves the connection
-after_outcome r answer Unsolicited f = record f { is_up = false }
+after_outcome r answer Unsolicited f = record f { is_up = false; view = None }
 
 -- ---- the connection to the server breaks
 
@@ -272,8 +309,8 @@ abbrev pub lost : Proxy → Option ℕ
 lost f = lost_of f.flight
 
 abbrev pub after_broken : Option ℕ → Proxy → Proxy
-after_broken None f = record f { is_up = false; is_resent = true }
-after_broken (Some c) f = without_connection c (record f { flight = rest f.flight; is_up = false; is_resent = true })
+after_broken None f = record f { is_up = false; is_resent = true; view = None }
+after_broken (Some c) f = without_connection c (record f { flight = rest f.flight; is_up = false; is_resent = true; view = None })
 
 -- ---- an order is taken back, while the connection to the server is down
 
@@ -294,3 +331,12 @@ sender_of (a ∷ more) = a.from
 abbrev pub after_taken : Option ℕ → Proxy → Proxy
 after_taken None f = f
 after_taken (Some number) f = without_connection (sender_of f.flight) (record f { flight = rest f.flight; number = number; is_counted = false })
+
+-- ---- a new connection to the server stands
+
+-- a line that needs a view is not sent again: the loop takes it back first
+abbrev pub may_connect : Proxy → Bool
+may_connect f = not f.is_up && (not f.needs_view || is_none f.flight)
+
+abbrev pub after_connection : Proxy → Proxy
+after_connection f = record f { is_up = f.is_up || may_connect f }

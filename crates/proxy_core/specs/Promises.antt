@@ -5,6 +5,7 @@ use Rattle.proxy_core.specs.Rules.{Rules, as_sent, next, needs_number}
 use Rattle.proxy_core.specs.Pending.{Pending, new_pending, step, text_of}
 use Rattle.proxy_core.specs.Machine.{held, is_alike}
 use Rattle.proxy_core.specs.Numbers.{AreSerial, HasOneNumber, IsFresh, IsInOrder, asks_again}
+use Rattle.proxy_core.specs.Views.{FollowViews}
 use Rattle.proxy_core.specs.Run.{Request, Sent, Delivery, Answer, Run, Event, new_run, is_ended, run}
 
 -- ---- the lines of one connection
@@ -160,6 +161,8 @@ pub record Keeps (r : Rules) (w : Run) : Type 0 where
   -- and no two requests have one number, unless for each line sent for the first one it is known that it did not use the
   -- number
   pub fresh : IsFresh r w
+  -- a line that needs a view is sent only if the answer to the line sent just before permits it, and was heard by then
+  pub follow_views : FollowViews r w
   -- no connection takes all the room
   pub few : (c : ℕ) → held c w.proxy ≤ 64
   pub flight : length w.proxy.flight ≤ 256

@@ -11,6 +11,8 @@ pub record Rules : Type 0 where
   pub uses_number : List ℕ → Bool  -- the answer says that the number is used now
   pub is_refusal : List ℕ → Bool  -- the answer refuses the order on its merits, so its number was the next one and is not used
   pub is_inconclusive : List ℕ → Bool  -- the answer leaves open what became of a line that was sent twice
+  pub needs_view : List ℕ → Bool  -- the line may be sent only right after a view that permits it, as a reset that names an epoch
+  pub permits : List ℕ → List ℕ → Bool  -- this view permits this line
 
 -- a line to which the proxy adds its own number; one that must not be sent twice has none
 abbrev pub needs_number : Rules → List ℕ → Bool

@@ -6,7 +6,7 @@ use Rattle.proxy_core.specs.declared.proxy.Outcome.{Outcome}
 use Rattle.proxy_core.specs.declared.proxy.Outcome.TheVariants.{To, Ended, Retry, Unsolicited}
 use Rattle.proxy_core.specs.Rules.{Rules, as_sent, next, needs_number}
 use Rattle.proxy_core.specs.Pending.{Pending, new_pending, step}
-use Rattle.proxy_core.specs.Machine.{Proxy, new_proxy, admission, after_admission, is_among, may_go, flown, picked, left, rest, firsts, put_back, counted, without_connection, outcome, after_outcome, lost, after_broken, taken_back, after_taken, sender_of}
+use Rattle.proxy_core.specs.Machine.{Proxy, new_proxy, admission, after_admission, is_among, may_go, flown, picked, left, rest, firsts, put_back, counted, without_connection, outcome, after_outcome, lost, after_broken, taken_back, after_taken, sender_of, admission_after_view, may_connect}
 
 -- a line that was accepted from a connection
 pub record Request : Type 0 where
@@ -38,6 +38,7 @@ pub record Delivery : Type 0 where
 pub record Answer : Type 0 where
   pub sent : Sent
   pub answer : List ℕ
+  pub heard : ℕ  -- the number of lines that had been written when it was heard
 
 -- a last number that the loop found
 pub record Count : Type 0 where
@@ -60,10 +61,11 @@ pub data Event : Type 0 where
   Arrives : (c role : ℕ) → (line : List ℕ) → Event  -- a line arrives from a connection in this role
   Leaves : (c : ℕ) → Event  -- a connection ends
   Flies : (picks : List Bool) → Event  -- these waiting lines become the flight, if they may
+  Follows : (c role : ℕ) → (line : List ℕ) → Event  -- a line that needs a view arrives from a connection in this role, and is sent if it may follow the view that was just heard
   Answers : (answer : List ℕ) → Event  -- the server answers
   Breaks : Event  -- the connection to the server breaks
   TakesBack : (c : ℕ) → Event  -- the loop takes the first order of the flight back, if it is of this connection, and that to the server is down
-  Connects : Event  -- a new one stands
+  Connects : Event  -- a new one stands, unless a line that needs a view is to be taken back first
   Counts : (last : ℕ) → Event  -- the loop found the last number of the proxy's client
 
 abbrev pub new_run : Run
@@ -115,6 +117,15 @@ went r picks w = record w {
   wire = w.wire ++ written r (length w.requests) true (length w.sent) w.proxy.last (picked picks w.queued) (picked picks w.proxy.waiting);
 }
 
+abbrev pub by_view : Run → Run
+by_view w = record w { proxy = record (w.proxy) { needs_view = true } }
+
+-- a line that needs a view is accepted and written at once
+abbrev pub followed : Rules → Run → ℕ → ℕ → List ℕ → Admission → Run
+followed r w c role line Queued = by_view (went r (true ∷ []) (came r w c role line Queued))
+followed r w c role line Denied = came r w c role line Denied
+followed r w c role line Deferred = w
+
 abbrev pub connected : Rules → Run → Run
 connected r w = record w {
   proxy = record (w.proxy) { is_up = true };
@@ -124,9 +135,9 @@ connected r w = record w {
 
 -- ---- the server answers
 
-abbrev pub answer_of : List Sent → List ℕ → List Answer
-answer_of [] answer = []
-answer_of (s ∷ more) answer = record { sent = s; answer = answer } ∷ []
+abbrev pub answer_of : ℕ → List Sent → List ℕ → List Answer
+answer_of heard [] answer = []
+answer_of heard (s ∷ more) answer = record { sent = s; answer = answer; heard = heard } ∷ []
 
 -- an ended connection receives nothing
 abbrev pub delivered_too : List ℕ → List Delivery → ℕ → ℕ → List ℕ → List Delivery
@@ -138,7 +149,7 @@ said r w answer (To c) = record w {
   in_flight = rest w.in_flight;
   delivered = delivered_too w.ended w.delivered c (first_place w.in_flight) answer;
   wire = rest w.wire;
-  answers = w.answers ++ answer_of w.wire answer;
+  answers = w.answers ++ answer_of (length w.sent) w.wire answer;
 }
 said r w answer (Ended c) = record w {
   proxy = after_outcome r answer (Ended c) w.proxy;
@@ -146,14 +157,14 @@ said r w answer (Ended c) = record w {
   queued = without c w.queued;
   ended = c ∷ w.ended;
   wire = rest w.wire;
-  answers = w.answers ++ answer_of w.wire answer;
+  answers = w.answers ++ answer_of (length w.sent) w.wire answer;
 }
 said r w answer (Retry c) = record w {
   proxy = after_outcome r answer (Retry c) w.proxy;
   in_flight = rest w.in_flight;
   queued = put_back w.proxy.refused (firsts w.in_flight) w.queued;
   wire = rest w.wire;
-  answers = w.answers ++ answer_of w.wire answer;
+  answers = w.answers ++ answer_of (length w.sent) w.wire answer;
 }
 said r w answer Unsolicited = record w { proxy = after_outcome r answer Unsolicited w.proxy; wire = [] }
 
@@ -174,11 +185,12 @@ took w (Some number) = record w { proxy = after_taken (Some number) w.proxy; in_
 abbrev pub happens : Rules → Run → Event → Run
 happens r w (Arrives c role line) = if is_ended c w.ended then w else came r w c role line (admission r c role line w.proxy)
 happens r w (Leaves c) = record w { proxy = without_connection c w.proxy; queued = without c w.queued; ended = c ∷ w.ended }
+happens r w (Follows c role line) = if is_ended c w.ended then w else followed r w c role line (admission_after_view r c role line w.proxy)
 happens r w (Flies picks) = if may_go picks w.proxy then went r picks w else w
 happens r w (Answers answer) = if w.proxy.is_up then said r w answer (outcome r answer w.proxy) else w
 happens r w Breaks = broke w (lost w.proxy)
 happens r w (TakesBack c) = took w (taken_back c w.proxy)
-happens r w Connects = if w.proxy.is_up then w else connected r w
+happens r w Connects = if may_connect w.proxy then connected r w else w
 happens r w (Counts last) = record w { proxy = counted last w.proxy; counts = w.counts ++ record { last = last; sent = length w.sent } ∷ [] }
 
 abbrev pub run : Rules → Run → List Event → Run

@@ -1,29 +1,32 @@
 -- Runs with known results. In the first run, the server refuses the first one of two orders without a number on its merits, so that
 -- it refuses the number of the second; that one is sent again with the number that is free, its connection breaks, and it is sent
 -- again.
-use Rattle.std.specs.Prelude.{◌≡◌, ℕ, ◌==◌, not, Bool, true, false, List, [], ◌∷◌, Some, map}
+use Rattle.std.specs.Prelude.{◌≡◌, ℕ, ◌==◌, ◌||◌, not, Bool, true, false, List, [], ◌∷◌, Some, map}
 use Rattle.proxy_core.specs.Rules.{Rules}
 use Rattle.proxy_core.specs.Pending.{Pending}
 use Rattle.proxy_core.specs.Machine.{picks_of}
 use Rattle.proxy_core.specs.Session.{CountsAreRight, Session}
-use Rattle.proxy_core.specs.Run.{Request, Delivery, Sent, Event, Arrives, Flies, Answers, Breaks, Connects, Counts, Run, new_run, run}
+use Rattle.proxy_core.specs.Run.{Request, Delivery, Sent, Event, Arrives, Flies, Follows, TakesBack, Answers, Breaks, Connects, Counts, Run, new_run, run}
 
 abbrev pub begins_with : ℕ → List ℕ → Bool
 begins_with n [] = false
 begins_with n (x ∷ xs) = x == n
 
--- line 1 is an order without a number, and every other line a query; answer 0 is a reply, 1 refuses a number, 2 an order
+-- lines 1 and 3 are orders without a number, and every other line is a query; answer 0 is a reply, 1 refuses a number, 2 an order. Line
+-- 3 needs a view, and the views that begin with 7 permit it
 abbrev pub worked_rules : Rules
 worked_rules = record {
   allows = λ role line. true;
   is_once = λ line. false;
-  is_query = λ line. not (begins_with 1 line);
-  is_unnumbered = begins_with 1;
+  is_query = λ line. not (begins_with 1 line || begins_with 3 line);
+  is_unnumbered = λ line. begins_with 1 line || begins_with 3 line;
   spelled = λ number line. number ∷ line;
   refuses_number = begins_with 1;
   uses_number = begins_with 0;
   is_refusal = begins_with 2;
   is_inconclusive = λ answer. false;
+  needs_view = begins_with 3;
+  permits = λ view line. begins_with 7 view;
 }
 
 -- connections 5 and 6, and the last number 9
@@ -79,6 +82,30 @@ pub record WorkedTurn : Type 0 where
   pub overtaken : overtaken_run.delivered ≡ delivery 5 0 (0 ∷ []) ∷ delivery 5 1 (2 ∷ []) ∷ delivery 6 3 (0 ∷ []) ∷ []
   pub ended : overtaken_run.ended ≡ 5 ∷ []
   pub dropped : overtaken_run.queued ≡ []
+
+-- connection 6 asks for a view, and connection 5 for what needs one
+abbrev pub viewed : List ℕ → Run
+viewed answer = run worked_rules new_run (Connects ∷ Counts 9 ∷ Arrives 6 0 (4 ∷ []) ∷ Flies (true ∷ []) ∷ Answers answer ∷ [])
+
+abbrev pub follows : Event
+follows = Follows 5 0 (3 ∷ [])
+
+abbrev pub sent_after : List ℕ → List Event → List ℕ
+sent_after answer events = map (λ (s : Sent). s.place) (run worked_rules (viewed answer) events).sent
+
+pub record WorkedView : Type 0 where
+  pub permitted : sent_after (7 ∷ []) (follows ∷ []) ≡ 0 ∷ 1 ∷ []
+  pub not_permitted : sent_after (8 ∷ []) (follows ∷ []) ≡ 0 ∷ []
+  -- it does not wait as other lines do
+  pub not_queued : sent_after (7 ∷ []) (Arrives 5 0 (3 ∷ []) ∷ Flies (true ∷ []) ∷ []) ≡ 0 ∷ []
+  -- an order was sent after the view, or the connection broke
+  pub overtaken : sent_after (7 ∷ []) (Arrives 6 0 (1 ∷ []) ∷ Flies (true ∷ []) ∷ Answers (0 ∷ []) ∷ follows ∷ []) ≡ 0 ∷ 1 ∷ []
+  pub broken : sent_after (7 ∷ []) (Breaks ∷ Connects ∷ follows ∷ []) ≡ 0 ∷ []
+  -- it is not sent again: the loop takes it back
+  pub once : sent_after (7 ∷ []) (follows ∷ Breaks ∷ Connects ∷ []) ≡ 0 ∷ 1 ∷ []
+  pub taken_back : sent_after (7 ∷ []) (follows ∷ Breaks ∷ TakesBack 5 ∷ Connects ∷ []) ≡ 0 ∷ 1 ∷ []
+  -- nor is it given another number
+  pub refused : sent_after (7 ∷ []) (follows ∷ Answers (1 ∷ []) ∷ Flies (true ∷ []) ∷ []) ≡ 0 ∷ 1 ∷ []
 
 -- the server carried out the third sending, and nothing else
 abbrev pub third_sending : Sent

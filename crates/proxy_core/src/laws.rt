@@ -5,12 +5,13 @@ ghost use Rattle.proxy_core.specs.Promises.{EveryRun};
 ghost use Rattle.proxy_core.specs.Server.{SessionRule};
 ghost use Rattle.proxy_core.specs.Session.{AtMostOnce, OwnReplies};
 ghost use Rattle.proxy_core.specs.TakenBack.{TakenBackInTime, TakenBackNumber};
-ghost use Rattle.proxy_core.specs.WorkedRun.{WorkedRun, WorkedSession, WorkedTurn};
+ghost use Rattle.proxy_core.specs.WorkedRun.{WorkedRun, WorkedSession, WorkedTurn, WorkedView};
 
 /// Whatever lines arrive, whichever connections leave, whenever the server's connection breaks and
 /// whatever the server answers: each answer that a connection receives is the server's to that very
 /// request, in order; nothing reaches the server that its sender may not send; a line that must not be
-/// sent twice is sent once; and no connection takes all the room.
+/// sent twice is sent once; a line that needs a view is sent only right after one that permits it; and no
+/// connection takes all the room.
 pub fn every_run()
     ensures { EveryRun }
 {}
@@ -64,6 +65,12 @@ pub fn worked_session()
 /// turn.
 pub fn worked_turn()
     ensures { WorkedTurn }
+{}
+
+/// Runs in which a line that needs a view is sent after one that permits it, and is not sent after another one, after
+/// another line or a break, or again.
+pub fn worked_view()
+    ensures { WorkedView }
 {}
 
 /// A server that judges the sendings of the proxy's client by its session rule, one connection after the

@@ -17,6 +17,8 @@ pub struct Judgement {
     pub is_query: bool,
     /// It is an order without a client and a number.
     pub is_unnumbered: bool,
+    /// It may be sent only right after a view that permits it, as a reset that names an epoch.
+    pub needs_view: bool,
 }
 
 /// How lines and answers are read, and who may send what. Contracts see it as `Rules`.
@@ -48,4 +50,8 @@ pub trait Policy {
     /// Returns whether the answer to a line that was sent twice leaves open what became of it.
     fn is_inconclusive(&self, answer: &[u8]) -> bool
         ensures { result ≡ (rules self.now).is_inconclusive answer.now };
+
+    /// Returns whether this view permits a line that needs one. Errors: out of memory.
+    fn permits(&self, alloc: Global, view: &[u8], line: &[u8]) -> Result<bool, AllocError>
+        ensures { IfOk result (λ permits. permits ≡ (rules self.now).permits view.now line.now) };
 }

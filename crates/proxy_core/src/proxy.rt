@@ -1,11 +1,11 @@
 //! The state machine.
 
-ghost use Rattle.std.specs.Prelude.{◌≡◌, ◌≤◌, ◌<◌, ◌↔◌, [], ◌∷◌, true, IfOk, OnErr, IsTrue, IsSome, length, filter, count_by, take, ◌&&◌, ◌||◌, not};
+ghost use Rattle.std.specs.Prelude.{◌≡◌, ◌≤◌, ◌<◌, ◌↔◌, [], ◌∷◌, true, IfOk, OnErr, IsTrue, IsSome, length, filter, count_by, take, option_map, ◌&&◌, ◌||◌, not};
 ghost use Rattle.proxy_core.specs.Rules.{Rules, as_sent, needs_number};
 ghost use Rattle.proxy_core.specs.Pending.{is_from};
 ghost use Rattle.std.specs.Option.{option_copied};
 ghost use Rattle.std.specs.VecDeque.{deque_capacity, deque_len};
-ghost use Rattle.proxy_core.specs.Machine.{begins_order, is_denied, is_none, lost_of, picked, picks_of, put_back};
+ghost use Rattle.proxy_core.specs.Machine.{begins_order, is_denied, is_none, lost_of, picked, picks_of, put_back, begins_query, view_after};
 ghost use Rattle.proxy_core.specs.NextOrder.{next_number, next_order};
 
 use crate::choice::{choose, take_out};
@@ -25,11 +25,11 @@ pub const MOST_FLIGHT_LINES: usize = 256;
 /// What becomes of a line that arrives.
 #[derive(Clone, Copy, Debug, PartialEq, Eq)]
 pub enum Admission {
-    /// It waits for the server.
+    /// It waits for the server, or is the next flight.
     Queued,
     /// Its sender may not send it. The loop answers so at once.
     Denied,
-    /// It was not taken. The loop offers it again after the next answer to its connection.
+    /// It was not taken. The loop offers it again after the next answer to its connection, or after another view.
     Deferred,
 }
 
@@ -60,10 +60,12 @@ pub struct Proxy {
     last: u64,
     is_counted: bool,
     has_refusal: bool,
+    needs_view: bool,
+    view: Option<Vec<u8>>,
 }
 
 impl Model for Proxy {
-    ghost use Rattle.std.specs.Prelude.{◌≤◌, length};
+    ghost use Rattle.std.specs.Prelude.{◌≤◌, length, option_map};
     ghost use Rattle.proxy_core.specs.Held.{AreHeld};
     ghost use Rattle.proxy_core.specs.Machine.{Proxy};
 
@@ -71,12 +73,12 @@ impl Model for Proxy {
 
     ghost invariant = { λ f. AreHeld f.held f.flight.items f.waiting.items × (f.refused ≤ length f.waiting.items) };
 
-    ghost view = { λ f. record { flight = f.flight.items; waiting = f.waiting.items; refused = f.refused; is_up = f.is_up; is_resent = f.is_resent; number = f.number; last = f.last; is_counted = f.is_counted; has_refusal = f.has_refusal } };
+    ghost view = { λ f. record { flight = f.flight.items; waiting = f.waiting.items; refused = f.refused; is_up = f.is_up; is_resent = f.is_resent; number = f.number; last = f.last; is_counted = f.is_counted; has_refusal = f.has_refusal; needs_view = f.needs_view; view = option_map (λ v. v.items) f.view } };
 }
 
 impl Proxy {
     ghost use Rattle.proxy_core.specs.Pending.{is_from, new_pending, text_of};
-    ghost use Rattle.proxy_core.specs.Machine.{after_broken, after_number, after_outcome, after_admission, after_taken, counted, without_connection, outcome, flown, has_denied, held, is_late, lost, may_go, new_proxy, picks_of, admission, taken_back};
+    ghost use Rattle.proxy_core.specs.Machine.{after_broken, after_connection, after_following, after_number, after_outcome, after_admission, after_taken, counted, without_connection, outcome, flown, has_denied, held, is_late, lost, may_go, new_proxy, picks_of, admission, admission_after_view, denial, may_connect, may_follow, taken_back};
 
     /// Returns a proxy without lines and without a connection to the server.
     pub fn new(alloc: Global) -> Self
@@ -93,6 +95,8 @@ impl Proxy {
             last: 0,
             is_counted: false,
             has_refusal: false,
+            needs_view: false,
+            view: None,
         }
     }
 
@@ -103,7 +107,8 @@ impl Proxy {
         held_by(&self.held, connection) < most
     }
 
-    /// Takes a line that arrived from a connection in this role. Errors: out of memory; nothing changes.
+    /// Takes a line that arrived from a connection in this role. A line that needs a view is deferred:
+    /// `start_after_view` takes it. Errors: out of memory; nothing changes.
     pub fn admit<P: Policy>(
         &mut self,
         alloc: Global,
@@ -119,13 +124,9 @@ impl Proxy {
     {
         let judgement = policy.judge(alloc, role, line)?;
         if !judgement.is_allowed {
-            return Ok(if self.holds_fewer(connection, 1) {
-                Admission::Denied
-            } else {
-                Admission::Deferred
-            });
+            return Ok(self.denial(connection));
         }
-        if !self.holds_fewer(connection, MOST_HELD) {
+        if judgement.needs_view || !self.holds_fewer(connection, MOST_HELD) {
             return Ok(Admission::Deferred);
         }
         let copy = Vec::from_slice(alloc, line)?;
@@ -142,6 +143,18 @@ impl Proxy {
         hold(&mut self.held, connection, count + 1)?;
         self.waiting.push_back_reserved(pending);
         Ok(Admission::Queued)
+    }
+
+    /// Returns what becomes of a line that its sender may not send: its denial comes after the answers to all
+    /// lines before it.
+    fn denial(&self, connection: u64) -> Admission
+        ensures { result ≡ denial connection self.now }
+    {
+        if self.holds_fewer(connection, 1) {
+            Admission::Denied
+        } else {
+            Admission::Deferred
+        }
     }
 
     /// Returns whether a waiting line of a connection in this role is one that the policy does not allow. After a
@@ -192,7 +205,79 @@ impl Proxy {
         self.is_resent = false;
         self.has_refusal = false;
         self.number = self.last;
+        self.needs_view = false;
+        self.view = None;
         Ok(count)
+    }
+
+    /// Takes a line that needs a view, from a connection in this role. The line is the next flight, and no
+    /// other line is in it, if no line is without an answer, the last number is known, and the view that was
+    /// just heard permits the line. The view is the answer to the last line that was sent, over the same
+    /// connection to the server. Otherwise the line is deferred, until after another view. Errors: out of
+    /// memory; nothing changes.
+    pub fn start_after_view<P: Policy>(
+        &mut self,
+        alloc: Global,
+        policy: &P,
+        connection: u64,
+        role: u32,
+        line: &[u8],
+    ) -> Result<Admission, AllocError>
+        ensures told { IfOk result (λ t. t ≡ admission_after_view (P.rules policy.now) connection role line.now self.old) }
+        ensures taken { IfOk result (λ t. self.new ≡ after_following t
+            (new_pending connection line.now ((P.rules policy.now).is_once line.now) ((P.rules policy.now).is_query line.now) (needs_number (P.rules policy.now) line.now)) self.old) }
+        ensures err { OnErr result (self.new ≡ self.old) }
+    {
+        let judged = policy.judge(alloc, role, line)?;
+        if !judged.is_allowed {
+            return Ok(self.denial(connection));
+        }
+        let is_unnumbered = judged.is_unnumbered && !judged.is_once;
+        if !self.may_follow(alloc, policy, is_unnumbered, line)? {
+            return Ok(Admission::Deferred);
+        }
+        let copy = Vec::from_slice(alloc, line)?;
+        let pending = Pending::new(
+            connection,
+            copy,
+            judged.is_once,
+            judged.is_query,
+            is_unnumbered,
+        );
+        self.flight.reserve(1)?;
+        let count = held_by(&self.held, connection);
+        hold(&mut self.held, connection, count + 1)?;
+        self.flight.push_back_reserved(pending);
+        self.refused = 0;
+        self.is_resent = false;
+        self.has_refusal = false;
+        self.number = self.last;
+        self.needs_view = true;
+        self.view = None;
+        Ok(Admission::Queued)
+    }
+
+    /// Returns whether a line that needs a view may be sent. Errors: out of memory.
+    fn may_follow<P: Policy>(
+        &self,
+        alloc: Global,
+        policy: &P,
+        is_unnumbered: bool,
+        line: &[u8],
+    ) -> Result<bool, AllocError>
+        requires { is_unnumbered ≡ needs_number (P.rules policy.now) line.now }
+        ensures { IfOk result (λ may. may ≡ may_follow (P.rules policy.now) line.now self.now) }
+    {
+        if !self.is_up || !is_none(&self.flight) || !is_none(&self.waiting) {
+            return Ok(false);
+        }
+        if !self.is_counted && is_unnumbered {
+            return Ok(false);
+        }
+        match &self.view {
+            Some(view) => policy.permits(alloc, view.as_slice(), line),
+            None => Ok(false),
+        }
     }
 
     /// Returns the bytes of the flight as they are written to the server. Errors: out of memory.
@@ -213,19 +298,28 @@ impl Proxy {
         Ok(text)
     }
 
-    /// Takes an answer line of the server, and returns whose it is. Errors: out of memory; nothing
-    /// changes, and the loop leaves the server's connection.
-    pub fn answer<P: Policy>(&mut self, policy: &P, answer: &[u8]) -> Result<Outcome, AllocError>
+    /// Takes an answer line of the server, and returns whose it is. The answer to a query that is the last
+    /// line sent is kept: it is a view that a line may need. Errors: out of memory; nothing changes, and the
+    /// loop leaves the server's connection.
+    pub fn answer<P: Policy>(
+        &mut self,
+        alloc: Global,
+        policy: &P,
+        answer: &[u8],
+    ) -> Result<Outcome, AllocError>
         ensures told { IfOk result (λ g. g ≡ outcome (P.rules policy.now) answer.now self.old) }
         ensures after { IfOk result (λ g. self.new ≡ after_outcome (P.rules policy.now) answer.now g self.old) }
         ensures err { OnErr result (self.new ≡ self.old) }
     {
         self.waiting.reserve(1)?;
+        let view = view_after(alloc, &self.flight, answer)?;
         let outcome = self.outcome(policy, answer);
         if outcome == Outcome::Unsolicited {
             self.is_up = false;
+            self.view = None;
             return Ok(outcome);
         }
+        self.view = view;
         // An answer that was asked for is to the first line of the flight, so there is one.
         let Some(first) = self.flight.pop_front() else {
             return Ok(outcome);
@@ -258,7 +352,7 @@ impl Proxy {
         };
         let connection = first.from();
         if refuses_number(policy, answer, first) {
-            return if self.is_resent {
+            return if self.is_resent || self.needs_view {
                 Outcome::Ended(connection)
             } else {
                 Outcome::Retry(connection)
@@ -335,6 +429,7 @@ impl Proxy {
     {
         self.is_up = false;
         self.is_resent = true;
+        self.view = None;
         if !begins_once(&self.flight) {
             return None;
         }
@@ -367,14 +462,15 @@ impl Proxy {
     }
 
     /// Notes that the connection to the server stands. Returns true if it did not before: then the loop
-    /// writes the flight.
+    /// writes the flight. If the flight is a line that needs a view, nothing changes: the loop takes it back
+    /// first.
     pub fn server_connected(&mut self) -> bool
-        ensures was { result ≡ not self.old.is_up }
-        ensures up { self.new ≡ record self.old { is_up = true } }
+        ensures told { result ≡ may_connect self.old }
+        ensures up { self.new ≡ after_connection self.old }
     {
-        let was_down = !self.is_up;
-        self.is_up = true;
-        was_down
+        let may = !self.is_up && (!self.needs_view || is_none(&self.flight));
+        self.is_up = self.is_up || may;
+        may
     }
 
     /// Returns whether a connection has the answers to all its lines.
@@ -406,6 +502,17 @@ impl Proxy {
         }
     }
 
+    /// Returns the view that was just heard: the answer to the last line that was sent, if that is a query and the
+    /// connection to the server has stood since.
+    pub fn view(&self) -> Option<&[u8]>
+        ensures { option_copied result ≡ self.now.view }
+    {
+        match &self.view {
+            Some(view) => Some(view.as_slice()),
+            None => None,
+        }
+    }
+
     /// Returns whether the last number of the proxy's client is known. While it is not, unnumbered orders
     /// wait.
     pub fn is_counted(&self) -> bool
@@ -426,6 +533,30 @@ impl Proxy {
         ensures { IsTrue result ↔ ((self.now.flight ≡ []) × (self.now.waiting ≡ [])) }
     {
         self.flight.is_empty() && self.waiting.is_empty()
+    }
+}
+
+/// Returns the answer to the last line of a flight, if that is a query. Errors: out of memory.
+fn view_after(
+    alloc: Global,
+    flight: &VecDeque<Pending>,
+    answer: &[u8],
+) -> Result<Option<Vec<u8>>, AllocError>
+    ensures { IfOk result (λ view. option_map (λ v. v.items) view ≡ view_after answer.now flight.now.items) }
+{
+    if flight.len() != 1 || !begins_query(flight) {
+        return Ok(None);
+    }
+    Ok(Some(Vec::from_slice(alloc, answer)?))
+}
+
+/// Returns whether the first line is a query.
+fn begins_query(flight: &VecDeque<Pending>) -> bool
+    ensures { result ≡ begins_query flight.now.items }
+{
+    match flight.front() {
+        Some(first) => first.is_query(),
+        None => false,
     }
 }
 

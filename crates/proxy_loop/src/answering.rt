@@ -70,7 +70,7 @@ impl<G: Gateway> EventLoop<G> {
         }
         let kind = self.keep_order()?;
         let own_number = self.core.next_number();
-        let Ok(outcome) = self.core.answer(&self.gateway, answer) else {
+        let Ok(outcome) = self.core.answer(self.alloc, &self.gateway, answer) else {
             return Ok(false);
         };
         match outcome {
@@ -78,18 +78,14 @@ impl<G: Gateway> EventLoop<G> {
                 self.resets.note_answer(number);
                 self.give(number, kind, answer)?;
             }
-            Outcome::Ended(number) => self.end_unclear(number, kind, own_number, answer)?,
-            Outcome::Retry(number) => {
+            Outcome::Ended(number) => {
                 self.resets.note_answer(number);
-                self.keep_waiting(number)?;
+                self.end_unclear(number, kind, own_number, answer)?;
             }
+            Outcome::Retry(number) => self.keep_waiting(number)?,
             Outcome::Unsolicited => return Ok(false),
         }
         self.in_flight = self.in_flight.saturating_sub(1);
-        if self.views.is_fresh {
-            self.views.is_fresh = false;
-            self.judge_resets()?;
-        }
         self.addresses.answered();
         self.is_answering = Some(true);
         Ok(true)
@@ -128,29 +124,19 @@ impl<G: Gateway> EventLoop<G> {
         }
     }
 
-    /// The line of a connection waits again, for another number: not if the connection has ended. A reset that names an
-    /// epoch is judged again.
+    /// The line of a connection waits again, for another number: not if the connection has ended.
     fn keep_waiting(&mut self, number: u64) -> Result<(), AllocError> {
-        let place = place_of(number);
-        match self.connections.get(place) {
-            Some(connection) if connection.number == number => {
-                if connection.reset.is_some() {
-                    return self.judge_again(place);
-                }
-            }
-            _ => {
-                if number != self.own.number {
-                    self.core.forget(number);
-                    self.forget_departed(number);
-                }
-            }
+        if !self.is_at(place_of(number), number) && number != self.own.number {
+            self.core.forget(number);
+            self.forget_departed(number);
         }
         Ok(())
     }
 
     /// Ends the connection of a number, since the answer leaves open what became of its line, and records the answer: not
     /// if the line is an order with a number of the proxy, and the only one of the connection. Then the last number shows
-    /// whether it was carried out. Errors: out of memory.
+    /// whether it was carried out. A reset that names an epoch is judged again: the answer refused its number. Errors: out
+    /// of memory.
     fn end_unclear(
         &mut self,
         number: u64,
@@ -165,6 +151,9 @@ impl<G: Gateway> EventLoop<G> {
         let place = place_of(number);
         match self.connections.get(place) {
             Some(connection) if connection.number == number => {
+                if connection.reset.is_some() {
+                    return self.judge_again(place);
+                }
                 if let Some(own_number) = own_number {
                     if self.gateway.is_inconclusive(answer) && connection.asked.len() == 1 {
                         return self.keep_unclear(place, own_number);

@@ -1,6 +1,7 @@
 //! Resets that name an epoch: each goes to the server alone, right after a view by which it may go, over the connection
-//! that the view came over. If that connection is lost before the answer, the reset is not sent again: the last number
-//! of the proxy's client shows whether it was carried out, and if not, it is judged by another view.
+//! that the view came over. The core sends none in any other way. If that connection is lost before the answer, the reset
+//! is not sent again: the last number of the proxy's client shows whether it was carried out, and if not, it is judged by
+//! another view.
 
 ghost use Rattle.std.specs.Prelude.{◌≡◌, [], false, None, Some};
 ghost use Rattle.std.specs.Duration.{as_nanos};
@@ -119,13 +120,17 @@ impl<G: Gateway> EventLoop<G> {
         Ok(())
     }
 
-    /// Judges the resets that wait by the view that was just heard: nothing was sent since it was asked for, if all that
-    /// was sent has its answer. The first one that may go goes alone.
+    /// Judges the resets that wait by the view that was just heard, if no line is without an answer. The first one that
+    /// may go is sent alone. Called before anything else is sent.
     pub(crate) fn judge_resets(&mut self) -> Result<(), AllocError> {
-        if !self.resets.is_holding
+        let is_fresh = self.views.is_fresh;
+        self.views.is_fresh = false;
+        if !is_fresh
+            || !self.resets.is_holding
             || self.resets.is_judged
             || !self.core.is_idle()
             || !self.core.is_counted()
+            || self.core.view().is_none()
         {
             return Ok(());
         }
@@ -149,7 +154,10 @@ impl<G: Gateway> EventLoop<G> {
         let (Some((node, epoch)), Some(role)) = (connection.reset, connection.role) else {
             return Ok(false);
         };
-        let view = self.views.line.as_slice();
+        let Some(view) = self.core.view() else {
+            self.resets.waiting.push_back(place)?;
+            return Ok(true);
+        };
         match self.gateway.judge_reset(self.alloc, view, node, epoch)? {
             Verdict::Answer(answer) => {
                 let (gateway, answer) = (&mut self.gateway, answer.as_slice());
@@ -169,10 +177,13 @@ impl<G: Gateway> EventLoop<G> {
                 let number = connection.number;
                 let admission = self
                     .core
-                    .admit(self.alloc, &self.gateway, number, role, line)?;
+                    .start_after_view(self.alloc, &self.gateway, number, role, line)?;
                 match admission {
                     // It stays the next line until its answer comes: it may have to be judged again.
-                    Admission::Queued => self.resets.on_its_way = Some(number),
+                    Admission::Queued => {
+                        self.resets.on_its_way = Some(number);
+                        self.begin_flight(1)?;
+                    }
                     Admission::Denied => {
                         let gateway = &mut self.gateway;
                         let (kind, answer) = (ExchangeKind::Denied, NOT_ALLOWED);

@@ -61,6 +61,7 @@ impl<G: Gateway> EventLoop<G> {
     }
 
     fn drive_server<R: Net>(&mut self, rt: &R, registry: &Registry) -> io::Result<()> {
+        self.judge_resets()?;
         self.prepare_resets()?;
         self.ask_for_itself()?;
         let is_idle = self.core.is_idle();
@@ -81,20 +82,22 @@ impl<G: Gateway> EventLoop<G> {
         if !server.is_connected || self.in_flight > 0 {
             return Ok(());
         }
-        // A reset that a view lets go is sent over the connection of that view: nobody comes in between.
-        if server.is_used
-            && self.resets.on_its_way.is_none()
-            && now.saturating_sub(server.since) > Duration::from_millis(MOST_USE)
-        {
+        if server.is_used && now.saturating_sub(server.since) > Duration::from_millis(MOST_USE) {
             self.let_go()?;
             return self.connect(rt, registry);
         }
-        self.in_flight = self.core.start_flight(self.alloc)?;
-        if self.in_flight > 0 {
-            self.counts.flights = self.counts.flights.saturating_add(1);
-            self.write_flight()?;
+        let lines = self.core.start_flight(self.alloc)?;
+        if lines > 0 {
+            self.begin_flight(lines)?;
         }
         Ok(())
+    }
+
+    /// Sends the next flight, which has so many lines.
+    pub(crate) fn begin_flight(&mut self, lines: usize) -> Result<(), AllocError> {
+        self.in_flight = lines;
+        self.counts.flights = self.counts.flights.saturating_add(1);
+        self.write_flight()
     }
 
     fn connect<R: Net>(&mut self, rt: &R, registry: &Registry) -> io::Result<()> {

@@ -3,7 +3,8 @@
 ghost use Rattle.std.specs.Prelude.{◌≡◌, ◌++◌, [], ℕ, List, length, take, IfOk, IfSome, MatchOption, OnErr, Some};
 ghost use Rattle.std.specs.Duration.{as_nanos};
 ghost use Rattle.proxy_access.specs.Access.{KeepsItsRole, access_principals, access_rules, may_order_if, principal_of};
-ghost use Rattle.resetd_proxy.specs.Judging.{Gives, judged_from};
+ghost use Rattle.proxy_access.specs.Resets.{judged_from};
+ghost use Rattle.resetd_proxy.specs.Judging.{Gives};
 ghost use Rattle.resetd_proxy.specs.Recording.{RecordsBegin, RecordsEnd, RecordsFor, name_of};
 
 use crate::judging::judge_reset;
@@ -149,6 +150,10 @@ impl Policy for FileGateway {
 
     fn is_inconclusive(&self, answer: &[u8]) -> bool {
         self.access.is_inconclusive(answer)
+    }
+
+    fn permits(&self, alloc: Global, view: &[u8], line: &[u8]) -> Result<bool, AllocError> {
+        self.access.permits(alloc, view, line)
     }
 }
 

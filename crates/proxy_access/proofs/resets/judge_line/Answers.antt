@@ -1,8 +1,8 @@
 use Rattle.std.proofs.Common.{◌≡◌, ℕ, Bool, true, false, List, cond, refl, subst, IfOk}
 use Rattle.std.proofs.lemmas.Str.{is_utf8-from_IsUtf8, IsUtf8-from_is_utf8}
 use Rattle.std.specs.Str.{is_utf8}
-use Rattle.resetd_proxy.specs.Judging.{judged_in}
-use Rattle.resetd_proxy.proofs.judging.judge_line.Goals as goal
+use Rattle.proxy_access.specs.Resets.{judged_in}
+use Rattle.proxy_access.proofs.resets.judge_line.Goals as goal
 
 second : {A : Type 0} (b : Bool) (x y : A) → (b ≡ true → ⊥) → y ≡ cond b x y
 second true x y h = absurd (h refl)
