@@ -24,7 +24,7 @@ SECONDS = float(os.environ.get("TORTURE", "20"))
 SEED = int(os.environ.get("SEED", "0")) or random.randrange(1, 1 << 30)
 NODES = 16
 CLIENTS = 6  # of them order with a client's number
-SILENT = "2"  # seconds after which the proxy leaves a server, which on a busy machine too answers something within them
+SILENT = "5"  # seconds after which the proxy leaves a server, which on a busy machine too answers something within them
 
 
 class Leaving(Fake):

@@ -11,6 +11,11 @@ resets have been carried out, and a client knows what the answer at each place o
 
 A reset without an answer may have been carried out. Those of an ended connection are decided as soon as an order and a view of a later
 connection have been answered: what has waited longest is in the next flight.
+
+The speed of the machine does not matter. A client waits while any client gets answers, and counts those answers: if more than MOST_BETWEEN
+of them come before the answer to its line, the proxy starves the line. If nobody gets an answer for DEADLINE seconds, the proxy hangs.
+Kills of the server and connections that only pass stop after some in a row until a reset is answered (`Pace`), so a slow proxy gets no more
+of them for each answer than a quick one.
 """
 
 from __future__ import annotations
@@ -26,7 +31,7 @@ from collections.abc import Callable
 from typing import Any
 
 from audit_tail import AuditTail
-from case import OWN, Client, Proxy
+from case import DEADLINE, OWN, Client, Proxy
 
 Judge = Callable[[dict[str, Any]], None]  # of an answer: raises Wrong
 UNKNOWN_NODE = 64
@@ -34,7 +39,9 @@ BURSTS = (1, 1, 3, 30, 90)  # lines that are sent before the first answer is rea
 FAR = 1 << 32  # no node comes to this epoch
 BAD_EPOCH = {"name": "BadEpoch", "refused": 15}
 LINGER_NONE = struct.pack("ii", 1, 0)
-MOST_HURTS = 4  # in a row, without an answered reset between them
+MOST_HURTS = 4  # of the server in a row, without an answered reset between them
+MOST_PASSES = 20  # connections that only pass, in a row in the same way
+MOST_BETWEEN = 50_000  # answers to all clients while a line waits
 
 
 class Wrong(Exception):
@@ -58,7 +65,8 @@ class Orderer(threading.Thread):
         self.next: int | None = None  # the epoch that the node has at the next line, if that is certain
         self.step = 0  # of the last answer
         self.answered = 0  # resets that were answered as carried out
-        self.connections = self.lines = self.lost = 0
+        self.most_between = 0  # answers to all clients while a line waited
+        self.connections = self.lines = self.lost = self.judged = 0
         self.faults: list[str] = []
         self.trail = deque[str](maxlen=24)  # the last lines and answers with their connections, for a fault
 
@@ -106,19 +114,35 @@ class Orderer(threading.Thread):
         try:
             connection.send(*(line for line, _ in lines))
             for line, judge in places:
-                self.judge(line, connection.line(), judge)
+                self.judge(line, self.await_answer(connection, line), judge)
                 place += 1
         except TimeoutError:
-            raise Wrong(f"no answer came to {lines[place][0]!r}") from None
+            raise Wrong(f"these were not read: {[line for line, _ in lines]}") from None
         finally:
             self.lose([line for line, _ in lines[place:]])
         if is_left and self.choice.random() < 0.5:
             connection.socket.setsockopt(socket.SOL_SOCKET, socket.SO_LINGER, LINGER_NONE)
 
+    def await_answer(self, connection: Client, line: bytes) -> bytes:
+        """The answer to a line, for which the client waits while others are answered."""
+        before = latest = self.torture.judged()
+        answer: bytes | None = None
+        while answer is None:
+            with contextlib.suppress(TimeoutError):
+                answer = connection.line()
+            if answer is None and self.torture.judged() == latest:
+                raise Wrong(f"nobody got an answer for {DEADLINE:g} s, while {line!r} waited")
+            latest = self.torture.judged()
+            if latest - before > MOST_BETWEEN:
+                raise Wrong(f"{latest - before} answers came to others, while {line!r} waited")
+        self.most_between = max(self.most_between, latest - before)
+        return answer
+
     def judge(self, line: bytes, answer: bytes, judge: Judge) -> None:
         self.trail.append(f"{self.connections}: {line!r} {answer!r}")
         if not answer:
             raise Ended
+        self.judged += 1
         try:
             judge(json.loads(answer))
         except (ValueError, KeyError, TypeError) as fault:
@@ -242,11 +266,12 @@ class Watcher(threading.Thread):
 
     def run(self) -> None:
         while not self.torture.is_over.is_set():
-            with self.torture.proxy.connect() as connection, contextlib.suppress(ConnectionError, TimeoutError):
+            with self.torture.proxy.connect() as connection, contextlib.suppress(ConnectionError):
                 connection.socket.settimeout(1)
                 connection.send({"op": "watch"})
                 while not self.torture.is_over.is_set():
-                    self.take(connection.reply())
+                    with contextlib.suppress(TimeoutError):
+                        self.take(connection.reply())
 
     def take(self, view: dict[str, Any]) -> None:
         if view["settled"] < self.settled:
@@ -265,20 +290,39 @@ class Passer(threading.Thread):
 
     def run(self) -> None:
         kept: list[Client] = []
-        while not self.torture.is_over.is_set():
+        pace = Pace(self.torture, MOST_PASSES)
+        while not self.torture.is_over.wait(self.choice.random() / 50):
+            if not pace.goes_on():
+                continue
             kept.append(self.torture.proxy.connect())
             with contextlib.suppress(OSError):
                 kept[-1].send(self.choice.choice((b"", b"{", b'{"op":"show"}', b'{"op":"show"}\n' * 100, b"x" * 10_000, b"\n\n")))
             if len(kept) > self.choice.randrange(1, 30):
                 kept.pop(self.choice.randrange(len(kept))).close()
-            self.torture.is_over.wait(self.choice.random() / 50)
         for each in kept:
             each.close()
 
 
+class Pace:
+    """Limits how often something is done in a row without an answered reset between: on a busy machine an answer may take longer than the
+    pauses."""
+
+    def __init__(self, torture: Torture, most: int) -> None:
+        self._torture, self._most = torture, most
+        self._answered = self._in_a_row = 0
+
+    def goes_on(self) -> bool:
+        """Whether it may be done once more, which is then counted."""
+        if (answered := self._torture.answered()) > self._answered:
+            self._answered, self._in_a_row = answered, 0
+        if self._in_a_row == self._most:
+            return False
+        self._in_a_row += 1
+        return True
+
+
 class Torture:
-    """Orderers, a watcher and others at a proxy, until the time is over. `hurt` does something to the server, again and again, but
-    only a few times without an answer between: on a busy machine one may take longer than the pause."""
+    """Orderers, a watcher and others at a proxy, until the time is over. `hurt` does something to the server, again and again."""
 
     def __init__(self, proxy: Proxy, seed: int, nodes: int, clients: int, audit: AuditTail | None = None) -> None:
         self.proxy, self.seed, self.audit = proxy, seed, audit
@@ -298,19 +342,16 @@ class Torture:
             return is_new
 
     def run(self, seconds: float, hurt: Callable[[random.Random], None]) -> None:
-        choice, answered, in_a_row = random.Random(self.seed), 0, 0
+        choice, pace = random.Random(self.seed), Pace(self, MOST_HURTS)
         for each in self.all:
             each.start()
         timer = threading.Timer(seconds, self.is_over.set)
         timer.start()
         try:
             while not self.is_over.wait(choice.random() / 4):
-                if self.answered() > answered:
-                    answered, in_a_row = self.answered(), 0
-                if in_a_row < MOST_HURTS:
+                if pace.goes_on():
                     hurt(choice)
                     self.hurts += 1
-                    in_a_row += 1
         finally:
             timer.cancel()
             self.is_over.set()
@@ -328,8 +369,13 @@ class Torture:
         """How many resets were answered as carried out."""
         return sum(orderer.answered for orderer in self.orderers)
 
+    def judged(self) -> int:
+        """How many answers came to the orderers."""
+        return sum(orderer.judged for orderer in self.orderers)
+
     def said(self) -> str:
         lost = sum(each.lost for each in self.orderers)
         connections, lines = sum(each.connections for each in self.orderers), sum(each.lines for each in self.orderers)
         return (f"{lines} lines over {connections} connections; {self.answered()} resets were answered, {lost} lost their "
-                f"connections, {self.resets()} were carried out, each once; {self.watcher.views} views were pushed")
+                f"connections, {self.resets()} were carried out, each once; {self.watcher.views} views were pushed; "
+                f"no line waited for more than {max(each.most_between for each in self.orderers)} answers to others")

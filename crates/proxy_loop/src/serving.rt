@@ -11,7 +11,7 @@ use std::fs::{File, Files};
 use std::io;
 use std::net::Net;
 use std::sync::Wait;
-use std::time::{Clock, SystemTime};
+use std::time::{Clock, Duration, SystemTime};
 
 const MOST_EVENTS: usize = 1024;
 
@@ -32,10 +32,11 @@ pub fn serve<R: Net + Files<File = File> + AllocGlobal + Clock + Wait + Print + 
     event_loop.register(poll.registry())?;
     for _ in rt.forever() {
         poll.poll(&mut events, event_loop.timeout())?;
-        event_loop.at = Moment {
-            now: rt.monotonic()?,
-            time: SystemTime::now(rt)?,
-        };
+        event_loop.at = moment(rt)?;
+        if events.is_empty() {
+            // A signal ended the wait, perhaps a late one: what is ready by now counts.
+            poll.poll(&mut events, Some(Duration::ZERO))?;
+        }
         for event in events.iter() {
             event_loop.note(Ready::of(event))?;
         }
@@ -48,18 +49,20 @@ pub fn serve<R: Net + Files<File = File> + AllocGlobal + Clock + Wait + Print + 
 }
 
 impl<G: Gateway> EventLoop<G> {
-    /// Does what the events made possible.
-    fn turn<R: Net + Files<File = File> + AllocGlobal + Print + Eprint>(
+    /// Does what the events made possible, and then ends what is silent or late by the time of the events, however long
+    /// the turn takes. The time of a flight that it sends at last begins after all that.
+    fn turn<R: Net + Files<File = File> + AllocGlobal + Clock + Print + Eprint>(
         &mut self,
         rt: &R,
         registry: &Registry,
     ) -> io::Result<()> {
-        self.tick()?;
         self.hear()?;
         self.drive(rt, registry)?;
         self.accept_all(registry)?;
         self.step_all(rt)?;
+        self.tick()?;
         write(rt, &mut self.gateway);
+        self.at = moment(rt)?;
         self.drive(rt, registry)
     }
 
@@ -76,4 +79,12 @@ impl<G: Gateway> EventLoop<G> {
         self.reported = self.is_answering;
         Ok(())
     }
+}
+
+/// Returns the moment that it is.
+fn moment<R: Clock>(rt: &R) -> io::Result<Moment> {
+    Ok(Moment {
+        now: rt.monotonic()?,
+        time: SystemTime::now(rt)?,
+    })
 }
