@@ -1,1 +1,4 @@
 mod Joined
+mod Numbers
+mod Rows
+mod Separators

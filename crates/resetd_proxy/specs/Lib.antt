@@ -1,3 +1,4 @@
+pub mod Arguments
 pub mod Judging
 pub mod Recording
 pub mod Totals

@@ -1,14 +1,17 @@
 //! The program's arguments.
 
-use crate::values::{copied, names_in, path_of, servers_in};
+ghost use Rattle.std.specs.Prelude.{◌≡◌, codes, drop, false, map, option_map, string_bytes, IfOk};
+ghost use Rattle.clap.specs.Words.{app_of, found_of, new_app, rows_of, rule_of, subcommand_rows_of, with_rule};
+ghost use Rattle.resetd_proxy.specs.Arguments.{Requested, asked_in, asked_of, asked_of_name, option_rule, repeated_rule, resetd_proxy, serve_in, serve_of, serve_options, settings_in, settings_of, sockets_in, sockets_of, task_of, with_options};
+
+use crate::values::{
+    ArgumentsFault, all_given, copied, count_or, given, named_in, passed_in, path_of, seconds_or,
+    servers_in,
+};
+use clap::error::ErrorKind;
 use clap::{Arg, ArgAction, ArgMatches, Command};
 use proxy_loop::Settings;
-use proxy_policy::is_socket_name;
 use std::alloc::{AllocError, Global};
-use std::time::Duration;
-
-/// The most connections of a principal, if the arguments don't say.
-const MOST_CONNECTIONS: usize = 1000;
 
 /// The task that the arguments ask for.
 #[derive(Drop)]
@@ -44,34 +47,56 @@ pub struct SocketArguments {
     pub passed: Option<Vec<String>>,
 }
 
-/// Returns the task that the arguments ask for; None if they are wrong, or memory is out.
-pub fn read_arguments(alloc: Global, words: &[String]) -> Option<Task> {
-    let program = program(alloc).ok()?;
-    let matches = program.try_get_matches_from(words).ok()?;
-    let (name, found) = matches.subcommand()?;
-    if name == "check" {
-        return Some(Task::Check(copied(alloc, found.get_str("file")?).ok()?));
+/// Returns the task that the arguments ask for; the first of them is the program's name. Errors: the arguments are
+/// wrong, or memory is out.
+pub fn read_arguments(alloc: Global, words: &[String]) -> Result<Task, ArgumentsFault>
+    ensures { Requested asked_of (task_of (map string_bytes words.now)) result }
+{
+    let program = program(alloc)?;
+    match program.try_get_matches_from(words) {
+        Ok(matches) => task_in(alloc, &matches),
+        Err(error) => match error.kind() {
+            ErrorKind::OutOfMemory => Err(ArgumentsFault::OutOfMemory),
+            _ => Err(ArgumentsFault::Usage),
+        },
     }
-    Some(Task::Serve(serve_arguments(alloc, found)?))
 }
 
-fn serve_arguments(alloc: Global, found: &ArgMatches<'_>) -> Option<Arguments> {
-    let settings = Settings {
-        answer_timeout: seconds(found, "patience", 30)?,
-        stuck: seconds(found, "stuck", 10)?,
-        server_silent: seconds(found, "server-silent", 5)?,
-        connections: match found.get_str("connections") {
-            Some(text) => text.parse().ok()?,
-            None => MOST_CONNECTIONS,
-        },
-    };
-    let servers = servers_in(alloc, found.get_strs("server")?)?;
+/// Returns the task that `clap` found.
+fn task_in(alloc: Global, matches: &ArgMatches<'_>) -> Result<Task, ArgumentsFault>
+    ensures { Requested asked_of (asked_in (subcommand_rows_of matches.now)) result }
+{
+    match matches.subcommand() {
+        Some((name, found)) => task_named(alloc, name, found),
+        None => Err(ArgumentsFault::Usage),
+    }
+}
+
+/// Returns the task of the named command.
+fn task_named(alloc: Global, name: &str, found: &ArgMatches<'_>) -> Result<Task, ArgumentsFault>
+    ensures { Requested asked_of (asked_of_name name.now (rows_of (found_of found.now))) result }
+{
+    if name == "check" {
+        let file = given(found, "file").ok_or(ArgumentsFault::Usage)?;
+        return Ok(Task::Check(copied(alloc, file)?));
+    }
+    Ok(Task::Serve(serve_arguments(alloc, found)?))
+}
+
+/// Returns the arguments of `serve`.
+fn serve_arguments(alloc: Global, found: &ArgMatches<'_>) -> Result<Arguments, ArgumentsFault>
+    ensures { Requested serve_of (serve_in (rows_of (found_of found.now))) result }
+{
+    let settings = settings_in(found).ok_or(ArgumentsFault::Usage)?;
+    let texts = all_given(found, "server").ok_or(ArgumentsFault::Usage)?;
+    let servers = servers_in(alloc, texts)?;
     let sockets = socket_arguments(alloc, found)?;
-    let policy = copied(alloc, found.get_str("policy")?).ok()?;
-    let signals = path_of(alloc, found, "signals").ok()?;
-    let audit = path_of(alloc, found, "audit").ok()?;
-    let metrics = path_of(alloc, found, "metrics").ok()?;
-    Some(Arguments {
+    let policy = given(found, "policy").ok_or(ArgumentsFault::Usage)?;
+    let policy = copied(alloc, policy)?;
+    let signals = path_of(alloc, found, "signals")?;
+    let audit = path_of(alloc, found, "audit")?;
+    let metrics = path_of(alloc, found, "metrics")?;
+    Ok(Arguments {
         servers,
         sockets,
         settings,
@@ -82,72 +107,104 @@ fn serve_arguments(alloc: Global, found: &ArgMatches<'_>) -> Option<Arguments> {
     })
 }
 
-fn socket_arguments(alloc: Global, found: &ArgMatches<'_>) -> Option<SocketArguments> {
-    let mut named = Vec::new(alloc);
-    for text in found.get_strs("listen").unwrap_or(&[]) {
-        let (name, path) = text.split_once("=")?;
-        if !is_socket_name(name.as_bytes()) {
-            return None;
-        }
-        named
-            .push((copied(alloc, name).ok()?, copied(alloc, path).ok()?))
-            .ok()?;
-    }
-    let passed = match found.get_str("listen-fds") {
-        Some(text) => Some(names_in(alloc, text)?),
-        None => None,
-    };
-    let certificates = path_of(alloc, found, "certificates").ok()?;
-    Some(SocketArguments {
+/// Returns the timeouts and the limit of connections; None if one of them is wrong.
+fn settings_in(found: &ArgMatches<'_>) -> Option<Settings>
+    ensures { option_map settings_of result ≡ settings_in (rows_of (found_of found.now)) }
+{
+    let answer_timeout = seconds_or(30, given(found, "patience"))?;
+    let stuck = seconds_or(10, given(found, "stuck"))?;
+    let server_silent = seconds_or(5, given(found, "server-silent"))?;
+    let connections = count_or(1000, given(found, "connections"))?;
+    Some(Settings {
+        answer_timeout,
+        stuck,
+        server_silent,
+        connections,
+    })
+}
+
+/// Returns the sockets that `serve` listens on.
+fn socket_arguments(
+    alloc: Global,
+    found: &ArgMatches<'_>,
+) -> Result<SocketArguments, ArgumentsFault>
+    ensures { Requested sockets_of (sockets_in (rows_of (found_of found.now))) result }
+{
+    let texts = all_given(found, "listen").unwrap_or(&[]);
+    let named = named_in(alloc, texts)?;
+    let passed = passed_in(alloc, given(found, "listen-fds"))?;
+    let certificates = path_of(alloc, found, "certificates")?;
+    Ok(SocketArguments {
         named,
         certificates,
         passed,
     })
 }
 
-fn program<'a>(alloc: Global) -> Result<Command<'a>, AllocError> {
-    let serve = Command::new(alloc, "serve")
-        .arg(
-            option(alloc, "server")
-                .action(ArgAction::Append)
-                .required(true),
-        )?
-        .arg(option(alloc, "listen").action(ArgAction::Append))?
-        .arg(option(alloc, "listen-fds"))?
-        .arg(option(alloc, "policy").required(true))?
-        .arg(option(alloc, "certificates"))?
-        .arg(option(alloc, "signals"))?
-        .arg(option(alloc, "audit"))?
-        .arg(option(alloc, "metrics"))?
-        .arg(option(alloc, "patience"))?
-        .arg(option(alloc, "stuck"))?
-        .arg(option(alloc, "server-silent"))?
-        .arg(option(alloc, "connections"))?;
+/// Returns the grammar of the arguments.
+fn program<'a>(alloc: Global) -> Result<Command<'a>, AllocError>
+    ensures { IfOk result (λ program. app_of program ≡ resetd_proxy) }
+{
     let file = Arg::new(alloc, "file")
         .required(true)
         .action(ArgAction::Set);
     let check = Command::new(alloc, "check").arg(file)?;
-    Command::new(alloc, "resetd-proxy")
+    let serve = serve_command(alloc)?;
+    let with_serve = Command::new(alloc, "resetd-proxy")
         .subcommand_required(true)
-        .subcommand(serve)?
-        .subcommand(check)
+        .subcommand(serve)?;
+    with_serve.subcommand(check)
 }
 
-fn option<'a>(alloc: Global, name: &'a str) -> Arg<'a> {
+fn serve_command<'a>(alloc: Global) -> Result<Command<'a>, AllocError>
+    ensures { IfOk result (λ serve. app_of serve ≡ with_options (new_app (codes "serve")) serve_options) }
+{
+    let server = repeated(alloc, "server").required(true);
+    let with_server = Command::new(alloc, "serve").arg(server)?;
+    let with_listen = with_server.arg(repeated(alloc, "listen"))?;
+    let with_passed = with_option(with_listen, alloc, "listen-fds")?;
+    let policy = option(alloc, "policy").required(true);
+    let with_policy = with_passed.arg(policy)?;
+    with_optional(with_policy, alloc)
+}
+
+/// Adds the options from `--certificates` on.
+fn with_optional<'a>(command: Command<'a>, alloc: Global) -> Result<Command<'a>, AllocError>
+    ensures { IfOk result (λ more. app_of more ≡ with_options (app_of command.entry) (drop 4 serve_options)) }
+{
+    let with_certificates = with_option(command, alloc, "certificates")?;
+    let with_signals = with_option(with_certificates, alloc, "signals")?;
+    let with_audit = with_option(with_signals, alloc, "audit")?;
+    let with_metrics = with_option(with_audit, alloc, "metrics")?;
+    let with_patience = with_option(with_metrics, alloc, "patience")?;
+    let with_stuck = with_option(with_patience, alloc, "stuck")?;
+    let with_silent = with_option(with_stuck, alloc, "server-silent")?;
+    with_option(with_silent, alloc, "connections")
+}
+
+/// Adds an option to a command.
+fn with_option<'a>(
+    command: Command<'a>,
+    alloc: Global,
+    name: &'a str,
+) -> Result<Command<'a>, AllocError>
+    ensures { IfOk result (λ more. app_of more ≡ with_rule (app_of command.entry) (option_rule name.now)) }
+{
+    command.arg(option(alloc, name))
+}
+
+/// Returns an option that has a value.
+fn option(alloc: Global, name: &str) -> Arg<'_>
+    ensures rule { rule_of result ≡ option_rule name.now }
+    ensures local { result.global ≡ false }
+{
     Arg::new(alloc, name).long(name).action(ArgAction::Set)
 }
 
-fn seconds(found: &ArgMatches<'_>, name: &str, usual: u64) -> Option<Duration> {
-    match found.get_str(name) {
-        Some(text) => {
-            let seconds: f64 = text.parse().ok()?;
-            let duration = Duration::try_from_secs_f64(seconds).ok()?;
-            if duration.is_zero() {
-                None
-            } else {
-                Some(duration)
-            }
-        }
-        None => Some(Duration::from_secs(usual)),
-    }
+/// Returns an option that may be repeated.
+fn repeated(alloc: Global, name: &str) -> Arg<'_>
+    ensures rule { rule_of result ≡ repeated_rule name.now }
+    ensures local { result.global ≡ false }
+{
+    Arg::new(alloc, name).long(name).action(ArgAction::Append)
 }

@@ -26,6 +26,7 @@ use std::process::ExitCode;
 use std::sync::Wait;
 use std::time::{Clock, SystemTime};
 use std::{env, fs, io, process};
+use values::ArgumentsFault;
 
 const USAGE: &str =
     "usage: resetd-proxy serve --server HOST:PORT .. --policy FILE [--listen NAME=PATH] ..\n                          [--listen-fds NAME,NAME..] [--certificates PATH] [--signals FILE] [--audit FILE]\n                          [--metrics FILE] [--patience SECONDS] [--stuck SECONDS] [--server-silent SECONDS]\n                          [--connections N]\n       resetd-proxy check FILE";
@@ -39,9 +40,10 @@ fn main(rt: HostRuntime) -> ExitCode {
         return ExitCode::from(1);
     };
     let done = match read_arguments(rt.alloc(), words.as_slice()) {
-        Some(Task::Serve(arguments)) => run(&rt, process::id(rt.process()), arguments),
-        Some(Task::Check(path)) => check(&rt, path.as_str()),
-        None => {
+        Ok(Task::Serve(arguments)) => run(&rt, process::id(rt.process()), arguments),
+        Ok(Task::Check(path)) => check(&rt, path.as_str()),
+        Err(ArgumentsFault::OutOfMemory) => Err(ErrorKind::OutOfMemory.into()),
+        Err(ArgumentsFault::Usage) => {
             let _ = eprintln!(&rt; "{USAGE}");
             return ExitCode::from(2);
         }
