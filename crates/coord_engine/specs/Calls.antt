@@ -27,8 +27,9 @@ pub record LedgerAndNotes (D : Type 0) : Type 0 where
   pub ledger : LedgerState D
   pub notes : List Note
 
--- The answer to a submitted step. An accepted step is added to the trail, and its note to the caller's share;
--- a repeat gets the kept reply. `OutOfMemory` may replace any answer. A refusal changes nothing.
+-- The answer to a submitted step. An accepted step is appended to the trail, and the step's note to the
+-- caller's share. A repeat gets the kept reply. `OutOfMemory` may replace any answer. A refusal changes
+-- nothing.
 abbrev pub AnswersStep : {D : Type 0} → Step → Result Verdict Refusal → LedgerAndNotes D → Result Claim Refusal → LedgerAndNotes D → Type 0
 AnswersStep s (Ok (Fresh kind)) before (Ok claim) after = (claim ≡ claimed s (reply (front_world before.ledger.log) s)) × (after ≡ record { ledger = with_accepted before.ledger s; notes = before.notes ++ note_of claim ∷ [] })
 AnswersStep s (Ok (Repeat kept)) before (Ok claim) after = (claim ≡ claimed s kept) × (after ≡ before)

@@ -24,8 +24,8 @@ AnswersBegin b (Err fault) = AtSomeMoment b (λ g. keeps_store g.ledger ≡ fals
 abbrev pub ComesBack : {D : Type 0} → FlightState D → GuardedState D → Type 0
 ComesBack {D} flight g = (before : GuardedState D) × IsOut before.ledger flight × (g ≡ with_ledger before (taken_back before.ledger (length flight.steps) flight.mark flight.disk))
 
--- The flight `left`, after an attempt to commit it, is now `now`, with this mark. Meanwhile its device has
--- failed this many times.
+-- The flight `left` became `now` by an attempt to commit it. Its steps and its world are the same, and it has
+-- this mark. Meanwhile its device has failed this many times.
 pub record IsTried {D : Type 0} (failures : D → ℕ) (left now : FlightState D) (mark : Mark) (failed : ℕ) : Type 0 where
   pub same_steps : now.steps ≡ left.steps
   pub same_world : now.world ≡ left.world

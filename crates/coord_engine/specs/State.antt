@@ -16,7 +16,8 @@ pub record GuardedState (D : Type 0) : Type 0 where
   pub in_hand : ℕ  -- a hint: the number of packets that callers may still turn into steps
   pub awaited : ℕ  -- a hint: the number of steps that the next flight waits for; while a flight is out, the number of orders in it
 
--- the maximum number of shares. The count has one more part, which the value under the lock keeps.
+-- the maximum number of shares. The count of accepted steps has one part for each share and one more part,
+-- which the value under the lock keeps.
 abbrev pub most_shares : ℕ
 most_shares = 65535
 

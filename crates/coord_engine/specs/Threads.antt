@@ -27,8 +27,8 @@ pub record AtSomeMoment {D : Type 0} (b : Basis D) (P : GuardedState D → Type 
   pub held : CanHold b state
   pub so : P state
 
--- P holds in some possible state of the value under the lock. The token has read the settled steps of this
--- state, after the steps of earlier instances in this history.
+-- P holds in some possible state of the value under the lock. The token has read the steps of earlier
+-- instances in this history and then the settled steps of this state.
 abbrev pub AtMomentRead : {D : Type 0} → Basis D → TableId → List Step → Beginning → (GuardedState D → Type 0) → Type 0
 AtMomentRead {D} b history earlier read P = AtSomeMoment {D = D} b (λ g. P g × HasReadSettled history earlier (settled_steps g.ledger.log) read)
 

@@ -13,7 +13,7 @@ use Rattle.coord_engine.specs.Threads.{AtSomeMoment, Submits}
 use Rattle.coord_engine.specs.Waiting.{with_packet}
 use Rattle.coord_engine.specs.declared.hand.Hand.{Hand}
 
--- This is the note of a packet's step.
+-- This is the note of a step that a packet became.
 abbrev pub IsOfPacket : Note → Type 0
 IsOfPacket n = (p : Packet) × (n.what ≡ step_of p)
 
@@ -34,7 +34,7 @@ abbrev pub waits_after : Result Claim Refusal → Bool
 waits_after (Ok claim) = false
 waits_after (Err refusal) = has_to_wait refusal
 
--- the next number, at most the greatest u64
+-- the next number, or the greatest u64 if n is that number
 abbrev pub one_more : ℕ → ℕ
 one_more n = min (n + 1) (2 ^ 64 - 1)
 

@@ -24,7 +24,8 @@ use std::alloc::Global;
 use std::marker::Model;
 use std::sync::ledger::{Blank, Book, Share as Part};
 
-/// The maximum number of shares of an engine. The count has one more part, which stays with the engine.
+/// The maximum number of shares of an engine. The count of accepted steps has one part for each
+/// share and one more part, which stays with the engine.
 const MOST_SHARES: u32 = 65_535;
 
 /// The value under the lock. Contracts see `GuardedState` (`specs/State.antt`).

@@ -21,8 +21,8 @@ pub struct Known {
     pub returned: LinkedList<Step>,
 }
 
-/// The rule of all tokens: the prefix of each is a prefix of one history, and the first token has read
-/// the whole history.
+/// The rule for all tokens: the prefixes that a token knows are prefixes of one history, and the
+/// first token has read the whole history.
 pub struct OneHistory;
 
 impl TableRule<(), Known, ()> for OneHistory {

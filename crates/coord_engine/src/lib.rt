@@ -1,9 +1,9 @@
 //! An engine: one ledger that many threads share, with one history.
 //!
 //! An [`Engine`] is a lock around a [`Guarded`], with conditions on which callers and flushers
-//! wait. For each call, a method of `Guarded`, a module without handles, has the contract that
-//! states the effect; the engine takes the lock and calls that method. A flight is committed by the
-//! caller of `flush_once`, outside the lock.
+//! wait. A call of the engine takes the lock and calls a method of `Guarded`, which is in a module
+//! without handles. The contract of that method states the effect of the call. A flight is
+//! committed by the caller of `flush_once`, outside the lock.
 //!
 //! A caller holds a [`Share`] with the notes of its accepted steps. `Engine::close` collects all
 //! shares. It takes the engine apart only if the notes are exactly the steps accepted since the

@@ -74,7 +74,7 @@ fn take<D: Disk, L: Origin>(
     hand.count(guarded.put_down());
 }
 
-/// Submits packets in order, and tries the waiting ones after each.
+/// Submits packets in order, and tries the waiting packets after each one.
 fn take_each<D: Disk, L: Origin>(
     guarded: &mut Guarded<D, L>,
     packets: &[Packet],
@@ -106,8 +106,8 @@ fn take_together<D: Disk, L: Origin, R: Wait>(
     lock.unlock();
 }
 
-/// Submits packets that arrived together and tries the waiting ones again, under one lock, and wakes
-/// the flusher once.
+/// Submits packets that arrived together and tries the waiting packets again, under one lock, and
+/// wakes the flusher once.
 pub(crate) fn take_and_try<D: Disk, L: Origin, R: Wait>(
     rt: &R,
     engine: &Engine<D, L>,

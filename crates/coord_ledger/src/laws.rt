@@ -119,7 +119,8 @@ pub fn rebased_goes_on()
     ensures { RebasedGoesOn }
 {}
 
-/// After a crash a ledger behaves like one that was just created over a store with the kept world.
+/// After a crash a ledger behaves like a ledger that was just created over a store with the kept
+/// world.
 pub fn crash_reopens()
     ensures { CrashReopens }
 {}

@@ -175,8 +175,8 @@ impl<D: Disk> Ledger<D> {
         self.front.count()
     }
 
-    /// Tests whether the ledger has stopped. A ledger stops when a flight returns whose device failed.
-    /// From then on it accepts and flushes nothing.
+    /// Tests whether the ledger has stopped. A ledger stops when a torn flight returns, a flight whose
+    /// device failed. From then on it accepts and flushes nothing.
     pub fn stopped(&self) -> bool
         ensures { result ≡ is_some self.now.log.doubt }
     {

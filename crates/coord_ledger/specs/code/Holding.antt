@@ -25,7 +25,7 @@ abbrev pub listed : List (Vec Output Global) → List (List Output)
 listed [] = []
 listed (v ∷ vs) = v.items ∷ listed vs
 
--- the releases of steps with these outputs, numbered from here on
+-- the releases of steps with these outputs, if the steps are numbered from n on
 abbrev pub released_from : ℕ → List (List Output) → List Release
 released_from n [] = []
 released_from n (given ∷ others) = map (release_of n) given ++ released_from (n + 1) others

@@ -21,12 +21,12 @@ RebasedIsConsistent = (log : Log) (n : ℕ) → IsConsistentLog log → n ≤ lo
 abbrev pub RebasedAnswersAlike : Type 0
 RebasedAnswersAlike = (s : Machine) (n : ℕ) (e : Event) → IsConsistent s → n ≤ s.log.settled → answers (rebased_machine s n) e ≡ answers s e
 
--- Moving the base and an event, other than a crash, can be exchanged: the machine with the moved base is still
--- the other machine with its base moved.
+-- Moving the base commutes with each event except a crash: after the event, the machine with the moved base is
+-- the other machine after the event, with its base moved.
 abbrev pub RebasedGoesOn : Type 0
 RebasedGoesOn = (s : Machine) (n : ℕ) (e : Event) (a : Answer) → IsConsistent s → n ≤ s.log.settled → is_crash e ≡ false → IsOneOf a (answers s e) → after (rebased_machine s n) e a ≡ rebased_machine (after s e a) n
 
 -- After a crash that keeps n steps, the machine with its base moved past them is a new machine over the world
--- after these steps, with the releases and replies of the old one.
+-- after these steps, with the releases and replies of the old machine.
 abbrev pub CrashReopens : Type 0
 CrashReopens = (s : Machine) (n : ℕ) → rebased_machine (crashed s n) n ≡ record (adopted (world_after s.log n)) { released = s.released; replied = s.replied }

@@ -17,8 +17,8 @@ pub record GivesOneOf (log : Log) (counts bytes : List ℕ) : Type 0 where
 abbrev pub ImagesGiveOneOf : Bool → Present → Log → List ℕ → Type 0
 ImagesGiveOneOf keeps_model present log counts = keeps_model ≡ true → (image : List ℕ) → IsImage present image → GivesOneOf log counts image
 
--- The flight left this ledger and is still out: its first number, its steps and its world are the ledger's
--- next ones.
+-- The flight left this ledger and is still out. It begins with the ledger's first unsettled step, has the
+-- ledger's next steps, and has the settled world.
 pub record IsOut {D : Type 0} (l : LedgerState D) (f : FlightState D) : Type 0 where
   pub size : l.out ≡ Some (length f.steps)
   pub first : f.first ≡ settled_count l.log + 1

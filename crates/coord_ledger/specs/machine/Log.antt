@@ -8,7 +8,7 @@ pub record Log : Type 0 where
   pub base : World
   pub trail : List Step  -- the accepted steps since the base
   pub settled : ℕ  -- the number of settled steps
-  pub doubt : Option ℕ  -- after a stop: the next this many unsettled steps are either all on disk or all missing
+  pub doubt : Option ℕ  -- after a stop: the number of steps in doubt, which follow the settled steps; either all of them are on disk, or none is
 
 -- the kinds of the replies to these steps
 abbrev pub kinds_of : World → List Step → List Kind

@@ -10,7 +10,7 @@ use Rattle.coord_world.specs.declared.verdicts.Verdict.TheVariants.{Fresh, Repea
 use Rattle.coord_world.specs.protocol.Acceptance.{accepts}
 use Rattle.coord_ledger.specs.machine.Log.{Log, front_world, has_stopped, pending, settled_world}
 
--- whether no more steps may become pending
+-- whether the log is full: no more steps may become pending
 abbrev pub is_full : Log → Bool
 is_full log = nat_le MAX_PENDING (length (pending log))
 

@@ -8,9 +8,9 @@
 -- `CrashPrefix` for all images of a disk between two events, and `EachMoment` for each moment of a run,
 -- including moments inside an event. `EachMoment` states the effect of the run on its disk event by event.
 -- Each event starts from the disk that the previous event left. At each moment, a commit leaves only images of
--- the world before it or the world after it. A crash takes one of the disk's images, and the opening after it
--- leaves only images of the one taken. No other event touches the disk. So at every moment inside every event
--- of every run, whatever the disk may hold survives.
+-- the world before it or the world after it. A crash takes one of the disk's images, and the opening after the
+-- crash leaves only images of the image taken. No other event touches the disk. So at every moment inside
+-- every event of every run, whatever the disk may hold survives.
 --
 -- `Completed` has the promises above and the other promises for a run: its answers are the event machine's,
 -- its releases and collected replies belong to kept steps, and the remaining ledger agrees with the machine.

@@ -1,4 +1,4 @@
-//! Migration: a store of version 1 becomes one of version 2.
+//! Migration: a store of version 1 becomes a store of version 2.
 
 ghost use Rattle.std.specs.Prelude.{◌≡◌, ◌≢◌, ◌⊎◌, ◌↔◌, true, false, OnOk, IfErr, IsErrOf};
 ghost use Rattle.coord_disk.specs.Model.Moments.{Runs};
