@@ -11,17 +11,17 @@ use Rattle.coord_member.specs.Fence.{Fence, Resource, accepts, behind, behind_al
 use Rattle.coord_look.specs.Shown.{IsShownTo}
 use Rattle.coord_following.specs.Histories.{IsHistory, Turn, life_at, world_at}
 
--- the tag of a party that was fixed when this many steps were settled
+-- gives the tag of a party that was fixed when this many steps were settled
 abbrev pub Tags : Type 0
 Tags = List Entry → ℕ → List ℕ
 
--- equal tags belong to equal parties; if the party is a single node, which shares its run with no other start, also to
--- equal numbers of settled steps
+-- Equal tags belong to equal parties. A start whose party is a single node shares its run with no other start, so there equal
+-- tags also belong to equal numbers of settled steps
 abbrev pub NamesRuns : Tags → Type 0
 NamesRuns tag = (p q : List Entry) (m n : ℕ) → tag p m ≡ tag q n → (p ≡ q) × (is_alone p ≡ true → m ≡ n)
 
--- A start of node i fixes its party at a look that sees the world after this many turns, if every node of the party is
--- in no reset and has confirmed its epoch. Its fence has the step count of that world
+-- A start of node i fixes its party at a look that sees the world after `turn` turns. In that world, every node of the party is
+-- in no reset and has confirmed its epoch. The start's fence has the step count of that world
 pub record Fixes (w : World) (turns : List Turn) (tag : Tags) (i : ℕ) (f : Fence) : Type 0 where
   pub turn : ℕ
   pub row : Row
@@ -31,14 +31,13 @@ pub record Fixes (w : World) (turns : List Turn) (tag : Tags) (i : ℕ) (f : Fen
   pub count_is : f.count ≡ (world_at w turn turns).count
   pub tag_is : f.tag ≡ tag party f.count
 
--- the party of the newer start has node i in a later life, or in the same life at a greater epoch
+-- the newer start's party has node i in a later life than the older start's look saw, or in the same life at a greater epoch
 pub record IsOlder (w : World) (turns : List Turn) (tag : Tags) (i j : ℕ) (f g : Fence) (older : Fixes w turns tag i f) (newer : Fixes w turns tag j g) : Type 0 where
   pub epoch : ℕ
   pub there : IsOneOf (Node i epoch) newer.party
   pub later : (life_at older.turn turns i < life_at newer.turn turns i) ⊎ ((life_at older.turn turns i ≡ life_at newer.turn turns i) × (older.row.epoch < epoch))
 
--- the fence of the newer start has the greater count, whichever member's look fixed either party, even if looks were
--- late
+-- the fence of the newer start has the greater count, whichever members' looks fixed the two parties, even if looks were late
 abbrev pub NewerHasMore : Type 0
 NewerHasMore =
     (w : World) (turns : List Turn) (tag : Tags) (i j : ℕ) (f g : Fence) (older : Fixes w turns tag i f) (newer : Fixes w turns tag j g) →

@@ -15,7 +15,7 @@ abbrev pub turned : World → Turn → World
 turned w (Takes s) = next w s
 turned w Raises = raised w
 
--- a turn of a world: a step that the world accepts, or the migration of version 1, if no node is in a reset
+-- a turn of a world: a step that the world accepts, or the migration of a world of version 1 in which no node is in a reset
 abbrev pub IsTurn : World → Turn → Type 0
 IsTurn w (Takes s) = IsFresh w w s × StepInRange s
 IsTurn w Raises = (w.version ≡ 1) × AllReady w
@@ -37,7 +37,7 @@ abbrev pub adds : ℕ → Turn → ℕ
 adds u (Takes (Order c n (Add v g))) = if v == u then 1 else 0
 adds u t = 0
 
--- the life of node u after the first k turns: how often it was added
+-- the life of node u after the first k turns: the number of times that it was added
 abbrev pub life_at : ℕ → List Turn → ℕ → ℕ
 life_at zero turns u = 0
 life_at (suc k) [] u = 0

@@ -14,24 +14,23 @@ use Rattle.coord_ledger.specs.machine.Log.{settled_world}
 use Rattle.coord_ledger.specs.machine.Machine.{Machine, adopted}
 use Rattle.coord_ledger.specs.machine.Runs.{Answered}
 
--- the ledger after its first t events, to which it gave these answers
+-- the ledger after the first t events, if it gave these answers to them
 abbrev pub machine_at : Machine → ℕ → List Event → List Answer → Machine
 machine_at s zero events given = s
 machine_at s (suc t) [] given = s
 machine_at s (suc t) (e ∷ events) [] = s
 machine_at s (suc t) (e ∷ events) (a ∷ given) = machine_at (after s e a) t events given
 
--- each look sees the settled world of some moment that is not earlier than the moment of the same member's previous
--- look
+-- each look sees the settled world of some moment, at or after the moment that the same member's previous look saw
 abbrev pub AreShownBy : Machine → List Event → List Answer → (ℕ → ℕ) → List member.Event → Type 0
 AreShownBy s events given last [] = Unit {0}
 AreShownBy s events given last (member.Look i row now ∷ looks) =
     (t : ℕ) × ((last i ≤ t) × (IsShownTo (settled_world (machine_at s t events given).log) i row now × AreShownBy s events given (λ j. if j == i then t else last j) looks))
 AreShownBy s events given last (_ ∷ looks) = AreShownBy s events given last looks
 
--- No runs are mixed by members that see a ledger's settled worlds, begin with empty files and follow the rule, even if
--- they lose their files at any moment. The ledger was just created with a sound world; it may receive any events, give
--- any possible answers and crash at any moment.
+-- Members that see a ledger's settled worlds, begin with empty files and follow the rule mix no runs, even if they lose their
+-- files at any moment. The ledger was just created with a sound world; it may receive any events, give any possible answers and
+-- crash at any moment.
 abbrev pub NoMixOverALedger : Type 0
 NoMixOverALedger = (w : World) (events : List Event) (given : List Answer) (looks : List member.Event) → IsSound w → AllByRecursion EventInRange events → Answered (adopted w) events given →
     AreShownBy (adopted w) events given (λ i. 0) looks → IsUnmixed (member.run member.new_world looks)

@@ -77,7 +77,7 @@ IsCommand (Drop a b) = IsIn MAX_NODES a × IsIn MAX_NODES b
 IsCommand (Reset u) = IsIn MAX_NODES u
 IsCommand (Confirm u e) = IsIn MAX_NODES u × IsWord e
 
--- The server parses the line of each order, without its line feed, as that order of that client with that
+-- The server parses the line that a client prints for an order, without its line feed, as that order, with that client and
 -- number.
 abbrev pub OrderIsRead : Type 0
 OrderIsRead =

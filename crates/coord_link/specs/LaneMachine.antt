@@ -7,8 +7,8 @@ use Rattle.coord_types.specs.declared.messages.Msg.{Msg}
 use Rattle.coord_types.specs.declared.refusals.Refusal.{Refusal}
 use Rattle.coord_types.specs.declared.refusals.Refusal.TheVariants.{Old, Early, Differs}
 
--- `base` messages are receipted, the queue holds the messages from number base + 1 on, and the other end has taken
--- `got` messages
+-- A lane. Its first `base` messages are receipted, the queue holds the messages from number base + 1 on, and the other end has
+-- taken the first `got` messages
 pub record Lane : Type 0 where
   pub inc : ℕ
   pub base : ℕ
@@ -34,7 +34,7 @@ cleared l = record l { base = l.base + 1; queue = behind_front l.queue }
 abbrev pub is_front_taken : Lane → Bool
 is_front_taken l = l.got == l.base + 1
 
--- the messages in transit: the queue, without its front if the other end has taken that
+-- the messages in transit: the queue, without its front if the other end has taken the front
 abbrev pub transit : Lane → List Msg
 transit l = if is_front_taken l then behind_front l.queue else l.queue
 
@@ -55,8 +55,8 @@ abbrev pub refused_or : {V : Type 0} → V → Tests → Result V Refusal
 refused_or v [] = Ok v
 refused_or v (t ∷ ts) = if t.0 then Err t.1 else refused_or v ts
 
--- why a data packet with this number is refused. Old: its message was already taken; Early: its message is not the next
--- one, or the message before it has no receipt; Differs: its message is not the front
+-- why a data packet with this number is refused. Old: its message was already taken; Early: its message is not the next one, or
+-- the message before it has no receipt; Differs: its message differs from the front
 abbrev pub against_take : Lane → ℕ → Msg → Tests
 against_take l number m =
     (nat_le number l.got, Old) ∷ (nat_lt (l.got + 1) number || not (l.got == l.base) || is_nil l.queue, Early)

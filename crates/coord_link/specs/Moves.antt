@@ -4,7 +4,7 @@ use Rattle.coord_types.specs.declared.messages.Msg.{Msg}
 use Rattle.coord_types.specs.declared.refusals.Refusal.{Refusal}
 use Rattle.coord_link.specs.LaneMachine.{Lane, new_lane, sent, took, cleared, judged_take, judged_clear}
 
--- the sender appends a message; a data packet with this number and message arrives; a receipt with this number arrives
+-- a move: the sender appends a message, a data packet with this number and message arrives, or a receipt with this number arrives
 pub data Move : Type 0 where
   Send : Msg → Move
   Take : ℕ → Msg → Move
@@ -57,7 +57,7 @@ abbrev pub answers : Lane → List Move → List (Result (Unit {0}) Refusal)
 answers l [] = []
 answers l (move ∷ moves) = answer l move ∷ answers (moved l move) moves
 
--- the taken messages are the first `got` of the sent messages, in order, and the queue holds those after the first `base`
+-- the taken messages are the first `got` sent messages, in order, and the queue holds the sent messages after the first `base`
 pub record InOrder (all taken : List Msg) (l : Lane) : Type 0 where
   pub taken_are_first : taken ≡ take l.got all
   pub waiting_are_rest : l.queue ≡ drop l.base all

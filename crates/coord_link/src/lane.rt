@@ -151,7 +151,7 @@ impl Lane {
         }
     }
 
-    /// Returns what `current` will return once the front is cleared.
+    /// Returns the number and the message of the next front: what `current` will return once the front is cleared.
     pub fn next(&self) -> Option<(u64, Msg)>
         requires front { 0 < length self.now.queue }
         requires room { self.now.base < 2 ^ 64 - 2 }
@@ -164,9 +164,9 @@ impl Lane {
         }
     }
 
-    /// Judges whether the message with this number can be taken now. The refusal is Old if the
-    /// message was already taken, Early if it is not the next one or the one before it has no
-    /// receipt, and Differs if it differs from the front.
+    /// Returns whether the message with this number can be taken now. Errors: Old if the message was already taken;
+    /// Early if it is not the next message, or the message before it has no receipt; Differs if it differs from the
+    /// front.
     pub fn judge_take(&self, number: u64, msg: Msg) -> Result<(), Refusal>
         ensures { result ≡ judged_take self.now number msg }
     {
@@ -190,8 +190,8 @@ impl Lane {
         self.got += 1;
     }
 
-    /// Judges whether a receipt with this number clears the front. The refusal is Old if its
-    /// message was already cleared, and Early if that message was not taken or is not the front.
+    /// Returns whether a receipt with this number clears the front. Errors: Old if the receipt's message was already
+    /// cleared; Early if that message was not taken or is not the front.
     pub fn judge_clear(&self, number: u64) -> Result<(), Refusal>
         ensures { result ≡ judged_clear self.now number }
     {
@@ -215,16 +215,14 @@ impl Lane {
         self.len -= 1;
     }
 
-    /// Tests whether the other end has taken the front, that is, one message more than is
-    /// receipted.
+    /// Tests whether the other end has taken the front, and so one message more than is receipted.
     pub fn is_front_taken(&self) -> bool
         ensures { result ≡ is_front_taken self.now }
     {
         self.got > self.base && self.got - self.base == 1
     }
 
-    /// Returns the messages in transit: the queue, without its front if the other end has taken
-    /// that.
+    /// Returns the messages in transit: the queue, without its front if the other end has taken the front.
     pub fn transit(&self) -> &[Msg]
         ensures { result.now ≡ transit self.now }
     {

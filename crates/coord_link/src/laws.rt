@@ -3,9 +3,8 @@
 ghost use Rattle.coord_link.specs.Moves.{LaneLaw};
 ghost use Rattle.coord_link.specs.WorkedRun.{ResetLane};
 
-/// The lane law. Whatever is sent, taken and cleared on a new lane, with any numbers: the taken
-/// messages are the first `got` sent ones, in order, and the queue holds the sent messages after
-/// the first `base`.
+/// The lane law. Whatever is sent, taken and cleared on a new lane, with any numbers, the taken messages are the first
+/// `got` sent messages, in order, and the queue holds the sent messages after the first `base`.
 pub fn lane_law()
     ensures { LaneLaw }
 {}

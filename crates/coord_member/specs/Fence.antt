@@ -1,4 +1,4 @@
--- The fence of a start, and the gate of a resource that starts of several runs use.
+-- The fences of starts, and the gate of a resource that starts of several runs use.
 --
 -- A start may be paused at any moment, and its requests may arrive late. So each request to a resource carries the
 -- fence of its start, and the gate of the resource remembers which fences it has accepted.
@@ -13,12 +13,12 @@ use Rattle.coord_member.specs.declared.fence.Gate.{Gate}
 abbrev pub new_gate : Gate
 new_gate = record { floor = 0; count = 0 }
 
--- whether the gate accepts a count. For the run that was accepted last (`is_own`), the count must be greater than the
--- counts of all other runs; for another run, greater than all accepted counts
+-- whether the gate accepts a fence with this count. For the run that was accepted last (`is_own`), the count must be greater than
+-- the counts of all other runs. For another run, it must be greater than all accepted counts
 abbrev pub admits : Gate → Bool → ℕ → Bool
 admits gate is_own count = nat_lt gate.count count || (is_own && nat_lt gate.floor count)
 
--- the gate after it accepts a count
+-- the gate after it accepts a fence with this count
 abbrev pub passed : Gate → Bool → ℕ → Gate
 passed gate is_own count = record { floor = if is_own then gate.floor else gate.count; count = if nat_lt gate.count count then count else gate.count }
 
@@ -55,11 +55,11 @@ behind_all r (f ∷ fences) = behind_all (behind r f) fences
 
 -- ---- laws that hold for all fences, in any order, late or repeated
 
--- fences of other runs that are accepted after an accepted fence have greater counts
+-- after a fence is accepted, fences of other runs are accepted only with greater counts
 abbrev pub LaterIsGreater : Type 0
 LaterIsGreater = (r : Resource) (g f : Fence) (between : List Fence) → accepts r g ≡ true → accepts (behind_all (behind r g) between) f ≡ true → (f.tag ≡ g.tag) ⊎ (g.count < f.count)
 
--- a start that was accepted before a start of another run is never accepted after it
+-- a start is never accepted again once a start of another run is accepted after it
 abbrev pub NoStartReturns : Type 0
 NoStartReturns =
     (r : Resource) (f g : Fence) (between later : List Fence) → (f.tag ≡ g.tag → ⊥) → accepts r f ≡ true → accepts (behind_all (behind r f) between) g ≡ true →
@@ -69,6 +69,6 @@ NoStartReturns =
 abbrev pub IsNoNewer : Fence → Fence → Type 0
 IsNoNewer f g = (g.tag ≡ f.tag) ⊎ (g.count < f.count)
 
--- a fence that is newer than the fences of all other runs is accepted whenever it arrives
+-- a fence with a positive count that is greater than the counts of all other runs is accepted whenever it arrives
 abbrev pub NewestIsAccepted : Type 0
 NewestIsAccepted = (f : Fence) (fences : List Fence) → 0 < f.count → AllByRecursion (IsNoNewer f) fences → accepts (behind_all new_resource fences) f ≡ true

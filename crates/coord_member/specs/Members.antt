@@ -6,7 +6,7 @@ use Rattle.coord_member.specs.declared.rule.Due.{Due}
 use Rattle.coord_member.specs.declared.rule.Due.TheVariants.{Begin}
 use Rattle.coord_member.specs.Rule.{Kept, new_kept, due, kept_after, tag_for, begun_with, without_work, same_party}
 
--- the work of a member from one begin to the next; each start has a different serial number
+-- the work of a member from one begin to the next; each start has its own serial number
 pub record Start : Type 0 where
   pub node : ℕ
   pub epoch : ℕ
@@ -41,7 +41,7 @@ idle kept = record { kept = kept; tag = None; loading = None; work = None; causa
 abbrev pub new_world : MemberWorld
 new_world = record { member = λ i. idle new_kept; messages = []; talked = []; serial = 0 }
 
--- an event at member i; a lost message is one that is never heard
+-- an event at member i; a lost message is a message that is never heard
 pub data Event : Type 0 where
   Look : (i : ℕ) → Row → List Entry → Event  -- the member reads a view: its node's row and its party
   Load : (i : ℕ) → Event  -- the member has loaded the common start for the epoch that it begins
@@ -85,7 +85,7 @@ abbrev pub message_of : Option (List Entry) → List Start → List Message
 message_of None causal_past = []
 message_of (Some tag) causal_past = record { tag = tag; causal_past = causal_past } ∷ []
 
--- whether a member accepts a message: it must talk, and the message must have its own tag
+-- whether a member accepts a message: the member must talk, and the message must have the member's tag
 abbrev pub is_of_run : Option (List Entry) → List Entry → Bool
 is_of_run None tag = false
 is_of_run (Some own) tag = same_party own tag

@@ -6,8 +6,8 @@ use Rattle.coord_member.specs.declared.rule.Due.{Due}
 use Rattle.coord_member.specs.declared.rule.Due.TheVariants.{Talk, Reset}
 use Rattle.coord_member.specs.Rule.{Kept, due, due_when_refused, kept_after, same_party, tag_for}
 
--- the due action after a message was rejected and the member looked again; `own` is its tag, `tag` the tag of the
--- message, and `shown` what the message's sender saw
+-- the due action of a member that rejected a message and looked again; `own` is the member's tag, `tag` the message's tag, and
+-- `shown` the party that the message's sender saw
 abbrev pub due_at_refusal : Kept → Row → List Entry → List Entry → List Entry → List Entry → Due
 due_at_refusal kept row now own tag shown = due_when_refused (due kept row now) (same_party own tag) (same_party now shown)
 

@@ -48,11 +48,11 @@ abbrev pub is_at : ℕ → Option ℕ → Bool
 is_at epoch None = false
 is_at epoch (Some e) = e == epoch
 
--- the present work is of the shown epoch, and that epoch is confirmed
+-- whether the present work belongs to the shown epoch, and that epoch is confirmed
 abbrev pub is_begun : Option ℕ → Row → Bool
 is_begun begun row = (row.epoch == row.confirmed) && is_at row.epoch begun
 
--- A start that has talked may continue if no node or link was added to its party. A start that has not may talk if no
+-- A start that has talked may continue if no node or link was added to its party. A start that has not talked may talk if no
 -- earlier start talked with exactly this party
 abbrev pub admits : Option (List Entry) → Bool → List Entry → Bool
 admits None was now = not was
@@ -88,7 +88,7 @@ kept_for kept now Reset = kept
 abbrev pub kept_after : Kept → Row → List Entry → Kept
 kept_after kept row now = kept_for kept now (due kept row now)
 
--- the change of the stored values before this action
+-- the change that is stored before this action
 abbrev pub change_of : Due → Bool → List Entry → Change
 change_of Begin has_party now = Drops
 change_of Talk has_party now = if has_party then Keeps else (if is_alone now then NotesAlone else NotesFirst)
@@ -111,12 +111,13 @@ without_work kept = record kept { begun = None }
 
 -- ---- the tag
 
--- the name of a start's run: the party with which it first talked; a start that was alone then has none
+-- the party that names a start's run: the party with which the start first talked; None if the start has not talked, or was alone
+-- then
 abbrev pub run_of : Option (List Entry) → Option (List Entry)
 run_of None = None
 run_of (Some party) = if is_alone party then None else Some party
 
--- the name of the run in which the member may talk, if talking is due
+-- the party that names the run in which the member may talk, if talking is due
 abbrev pub tag_for : Kept → Due → Option (List Entry)
 tag_for kept Talk = run_of kept.party
 tag_for kept Wait = None

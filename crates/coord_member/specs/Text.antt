@@ -11,7 +11,7 @@ entry_line (Link a b incarnation) = decimal a ++ (codes " " ++ (decimal b ++ (co
 abbrev pub party_text : List Entry → List ℕ
 party_text = flat_map entry_line
 
--- the numbers fit into a u64
+-- the numbers of an entry fit into a u64
 abbrev pub IsWritten : Entry → Type 0
 IsWritten (Node n e) = (n < 2 ^ 64) × (e < 2 ^ 64)
 IsWritten (Link a b incarnation) = (a < 2 ^ 64) × (b < 2 ^ 64) × (incarnation < 2 ^ 64)

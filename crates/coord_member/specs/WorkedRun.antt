@@ -1,6 +1,6 @@
--- Two worked runs. In the first, two members talk; the second member loses its files, and its node is removed and added
--- again, so it begins its epoch 1 twice. In the second, a store is restored, so a member sees a party again that it
--- already talked with.
+-- Two worked runs. In the first, two members talk. Then the second member loses its files, and its node is removed and added
+-- again, so it begins its epoch 1 twice. In the second, a store is restored, so a member sees a party that it has already talked
+-- with.
 use Rattle.std.specs.Prelude.{◌≡◌, ℕ, ◌==◌, ◌&&◌, List, [], ◌∷◌, ◌++◌, Some, None, true, false, if◌then◌else◌}
 use Rattle.coord_member.specs.declared.view.Entry.{Entry}
 use Rattle.coord_member.specs.declared.view.Entry.TheVariants.{Node, Link}
@@ -35,7 +35,7 @@ worked =
     -- the old message is rejected, and the new one is heard
     ∷ Look 1 (talks 2) behind ∷ Look 2 (talks 1) behind ∷ Send 2 ∷ Hear 1 1 ∷ Hear 1 0 ∷ []
 
--- a store is restored: member 1 sees a party again that it already talked with
+-- a store is restored: member 1 sees a party that it has already talked with
 abbrev pub talked_once : List Event
 talked_once = Look 1 (begins 1) before ∷ Load 1 ∷ Look 1 (talks 1) before ∷ []
 
@@ -48,7 +48,7 @@ pub record WorkedRun : Type 0 where
       ((run new_world worked).member 1).causal_past
       ≡ record { node = 2; epoch = 1; serial = 2 } ∷ record { node = 1; epoch = 2; serial = 3 } ∷ []
   pub tag : ((run new_world worked).member 1).tag ≡ Some behind
-  -- the member talks in the run of that party once, and later in the run of another party
+  -- the member talks once in the run of the first party, and later in the run of another party
   pub once : ((run new_world talked_once).member 1).tag ≡ Some before
   pub refused : ((run new_world put_back).member 1).tag ≡ None
   pub asks : due ((run new_world put_back).member 1).kept (talks 1) before ≡ Reset

@@ -45,9 +45,9 @@ impl Judged {
     ghost use Rattle.coord_member.specs.Rule.{tag_for};
     ghost use Rattle.std.specs.Option.{option_map};
 
-    /// Returns the party whose digest is the tag of each message: the one with which the start
-    /// first talked, which may differ from the one shown now. Returns None if the member may not
-    /// talk, or was alone when it first talked; it then sends and accepts no messages.
+    /// Returns the party whose digest is the tag of each message. This is the party with which the start first talked,
+    /// which may differ from the party shown now. Returns None if the member may not talk, or was alone when its start
+    /// first talked; it then sends and accepts no messages.
     pub fn tag(&self) -> Option<&[Entry]>
         ensures { option_map (λ party. party.now) result ≡ tag_for self.now.kept self.now.due }
     {
@@ -81,8 +81,7 @@ impl Kept {
         self.party.is_some()
     }
 
-    /// Returns the party that names the run of the present start, if it has talked with another
-    /// node.
+    /// Returns the party that names the run of the present start, or None if the start has talked with no other node.
     fn run(&self) -> Option<&[Entry]>
         ensures { option_map (λ party. party.now) result ≡ run_of self.now.party }
     {
@@ -145,7 +144,7 @@ impl Kept {
         }
     }
 
-    /// Returns the state once the common start for this epoch is loaded and on disk, after a begin.
+    /// Returns the state after a begin, once the common start for this epoch is loaded and on disk.
     pub fn begun(self, epoch: u64) -> Self
         requires { (self.begun ≡ None) × (self.party ≡ None) }
         ensures { result ≡ begun_with self epoch }
@@ -180,9 +179,9 @@ fn was_before(now: &[Entry], history: &[Vec<Entry>]) -> bool
     was
 }
 
-/// Applies the rule to a view. The returned state must be on disk before the member acts. A party
-/// must be in the history on disk before it is recorded as the start's own, and a begin must leave
-/// no work and no party on disk.
+/// Applies the rule to a view. The returned state must be on disk before the member acts. A party must be in the
+/// history on disk before it is recorded as the start's own, and a begin must leave no work and no party on disk.
+/// Errors: out of memory.
 #[tactic(auto, using(crate::proofs::Changed::changed_is))]
 pub fn judge(alloc: Global, kept: Kept, row: Row, now: Vec<Entry>) -> Result<Judged, AllocError>
     ensures due { IfOk result (λ judged. judged.due ≡ due kept row now.items) }

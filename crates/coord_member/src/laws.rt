@@ -18,21 +18,20 @@ pub fn no_mix()
     ensures { NoMix }
 {}
 
-/// The same law for members that may lose all their files at any moment, provided that the views
-/// they see are a store's history: a confirmed epoch does not fall while its node exists, and no
-/// removed link returns.
+/// The same holds for members that may lose all their files at any moment, provided that the views that they see are a
+/// store's history: a confirmed epoch does not fall while its node exists, and no removed link returns.
 pub fn no_mix_where_files_are_lost()
     ensures { NoMixHonest }
 {}
 
-/// Both laws at once: members that keep their files may see any views, while others lose their
-/// files.
+/// Both laws at once: some members keep their files and may see any views, while others may lose their files and see a
+/// store's history.
 pub fn no_mix_where_some_files_are_lost()
     ensures { NoMixFair }
 {}
 
-/// Parties in a member's history that none of its starts talked with turn the due action into
-/// waiting or a reset, or do not change it.
+/// If a member's history has more parties than its starts talked with, the due action does not change, or becomes
+/// waiting or a reset.
 #[tactic(auto, using(crate::proofs::Cautious::more_only_forbids))]
 pub fn more_only_forbids()
     ensures { MoreOnlyForbids }
@@ -46,8 +45,8 @@ pub fn no_mix_with_more_parties()
     ensures { NoMixWithMore }
 {}
 
-/// A member that reads back what `specs/OnDisk.antt` requires continues like a member that has
-/// crashed, or that has lost its work, and whose history has more parties.
+/// A member that reads back what `specs/OnDisk.antt` requires continues like a member that has crashed or lost its
+/// work, and whose history has more parties.
 #[tactic(auto, using(crate::proofs::OnDisk::left_is_enough))]
 pub fn what_is_left_is_enough()
     ensures { LeftIsEnough }
@@ -59,14 +58,14 @@ pub fn later_fences_are_greater()
     ensures { LaterIsGreater }
 {}
 
-/// A start that a resource accepted before a start of another run is never accepted after it,
-/// whatever fences are presented, in any order, late or repeated.
+/// If a resource accepts a start, and then a start of another run, it never accepts the first start again, whatever
+/// fences are presented, in any order, late or repeated.
 #[tactic(auto, using(crate::proofs::Fences::no_start_returns))]
 pub fn no_start_returns()
     ensures { NoStartReturns }
 {}
 
-/// A fence that is newer than the fences of all other runs is accepted whenever it arrives.
+/// A fence with a positive count that is greater than the counts of all other runs is accepted whenever it arrives.
 #[tactic(auto, using(crate::proofs::Fences::newest_is_accepted))]
 pub fn newest_fence_is_accepted()
     ensures { NewestIsAccepted }
@@ -84,9 +83,9 @@ pub fn party_text_injective()
     ensures { PartyTextInjective }
 {}
 
-/// Worked runs: a member that has lost its files begins an epoch a second time, after its node was
-/// removed and added again, and only its second start is heard; a store is restored, and a member
-/// sees a party again that it already talked with.
+/// Worked runs. A member that has lost its files begins an epoch a second time, after its node was removed and added
+/// again, and only its second start is heard. A store is restored, and a member sees a party that it has already talked
+/// with.
 pub fn worked_run()
     ensures { WorkedRun }
 {}

@@ -1,4 +1,4 @@
-//! Parties: the nodes and links that are connected, as a list in an order that all members share.
+//! Parties: connected nodes and links, as a list in an order that all members share.
 
 ghost use Rattle.std.specs.Prelude.{◌≡◌};
 ghost use Rattle.std.specs.List.{list_any};

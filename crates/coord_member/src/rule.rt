@@ -21,7 +21,7 @@ pub enum Due {
     Reset,
 }
 
-/// The change of the stored values before the due action.
+/// The change of the stored values that is made before the due action.
 #[derive(Clone, Copy, PartialEq, Eq, Debug)]
 pub enum Change {
     /// The stored values do not change.
@@ -36,16 +36,15 @@ pub enum Change {
     NotesFirst,
 }
 
-/// Tests whether the present work, if there is any, is of the shown epoch, and that epoch is
-/// confirmed.
+/// Tests whether the member has work of the shown epoch, and that epoch is confirmed.
 fn is_begun(begun: Option<u64>, row: Row) -> bool
     ensures { result ≡ is_begun begun row }
 {
     row.epoch == row.confirmed && begun == Some(row.epoch)
 }
 
-/// Tests whether the start may talk: if it has talked, no entry was added to its party; if not, no
-/// earlier start talked with exactly this party.
+/// Tests whether the start may talk. If it has talked, no entry was added to its party; if it has not, no earlier start
+/// talked with exactly this party.
 fn admits(party: Option<&[Entry]>, was: bool, now: &[Entry]) -> bool
     ensures { result ≡ admits (option_map (λ p. p.now) party.entry) was now.now }
 {
@@ -94,9 +93,9 @@ pub fn change_of(due: Due, has_party: bool, now: &[Entry]) -> Change
     }
 }
 
-/// Returns the due action after a member rejected a message because of its tag and looked again. If
-/// it may still talk, with another tag than the sender's, and the sender saw exactly what the
-/// member sees, no look by either can reconcile them, and the member asks for a reset.
+/// Returns the due action of a member that rejected a message because of its tag and looked again. Suppose that the
+/// member may still talk, its tag differs from the sender's, and the sender saw exactly what the member sees. Then no
+/// look by either can reconcile them, and the member asks for a reset.
 pub fn on_refused(due: Due, is_same_tag: bool, is_same_view: bool) -> Due
     ensures { result ≡ due_when_refused due is_same_tag is_same_view }
 {

@@ -16,9 +16,8 @@ pub fn print_entry(text: &mut String, entry: Entry) -> Result<(), AllocError>
     }
 }
 
-/// Returns the text of a party: the lines of its entries, in the party's order. Its digest is the
-/// tag of the members that talk in that run; docs/SERVICES.md requires that the lines are in the
-/// order of their bytes.
+/// Returns the text of a party: the lines of its entries, in the party's order. The digest of the text is the tag of
+/// the members that talk in that run; docs/SERVICES.md requires that the lines are in the order of their bytes.
 pub fn party_text(alloc: Global, party: &[Entry]) -> Result<String, AllocError>
     ensures { IfOk result (λ text. string_bytes text ≡ party_text party.now) }
 {

@@ -1,7 +1,7 @@
 //! The parts of a view that a member reads.
 
-/// An entry of a party: a node at its epoch, or a link with its incarnation, the number of the step
-/// that made it. A link has its lesser end first.
+/// An entry of a party: a node with its epoch, or a link with its incarnation, which is the number of the step that
+/// made the link. A link has its lesser end first.
 #[derive(Clone, Copy, PartialEq, Eq, Debug)]
 pub enum Entry {
     Node { node: u64, epoch: u64 },

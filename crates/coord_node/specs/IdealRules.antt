@@ -18,7 +18,7 @@ added d y = if set.contains d.to y then d.message ∷ [] else []
 abbrev pub set_state : Ideal → ℕ → NodeState → Ideal
 set_state w u r = record w { state = λ x. if x == u then r else w.state x }
 
--- node u makes a transition: its state changes, and its messages join those in transit
+-- node u makes a transition: its state changes, and its messages join the messages in transit
 abbrev pub ideal_applied : Ideal → ℕ → Transition → Ideal
 ideal_applied w u d = record w {
   state = λ x. if x == u then d.state else w.state x;

@@ -30,11 +30,11 @@ without_parent s (Some p) = set.remove s p
 abbrev pub sends_of : Transition → List (ℕ × Msg)
 sends_of d = map (λ x. (x, d.message)) (set.items d.to)
 
--- the distance to store: 0 in version 1
+-- the distance to store, which is 0 in version 1
 abbrev pub kept : ℕ → ℕ → ℕ
 kept version distance = if version == 1 then 0 else distance
 
--- the distance that the node's Aborts carry: one more than its own; 0 in version 1
+-- the distance that the node's Aborts carry: one more than the node's own; 0 in version 1
 abbrev pub carries : ℕ → NodeState → ℕ
 carries version r = kept version (r.distance + 1)
 
@@ -51,15 +51,15 @@ finish r = record {
   finished = true;
 }
 
--- a Ready node enters a reset with this distance and parent: it passes the wave on to `others` and awaits their
+-- a Ready node enters a reset with this distance and parent: it passes the wave on to the nodes `others`, and awaits their
 -- acknowledgements
 abbrev pub wave_on : ℕ → NodeState → Option ℕ → NodeSet → ℕ → Transition
 wave_on version r parent others distance =
     let s : NodeState = record r { mode = Abort; parent = parent; pend = others; distance = distance } in
     record { state = s; message = msg.Abort (carries version s); to = others; finished = false }
 
--- A Ready node enters a reset with this distance and has no node to pass the wave on to: it acknowledges to v at once.
--- The rule clears `pend`; in a legal world `pend` was already empty
+-- A Ready node enters a reset with this distance, and has no node to pass the wave on to, so it sends its acknowledgement to v at
+-- once. The rule clears `pend`; in a legal world `pend` was already empty
 abbrev pub wave_back : NodeState → ℕ → ℕ → Transition
 wave_back r v distance = record {
   state = record r { mode = Converge; parent = Some v; pend = set.empty; distance = distance };
@@ -68,7 +68,7 @@ wave_back r v distance = record {
   finished = false;
 }
 
--- the state does not change, and v is sent an Ack
+-- the node sends an Ack to v, and its state does not change
 abbrev pub answer : NodeState → ℕ → Transition
 answer r v = record { state = r; message = msg.Ack; to = only v; finished = false }
 
@@ -93,8 +93,8 @@ on_abort_in Converge version r v distance = answer r v
 abbrev pub on_abort : ℕ → NodeState → ℕ → ℕ → Transition
 on_abort version r v distance = on_abort_in r.mode version r v distance
 
--- The last awaited acknowledgement has arrived. The initiator, which has no parent, finishes; any other node
--- acknowledges to its parent
+-- The last awaited acknowledgement has arrived. The initiator, which has no parent, finishes; any other node sends its
+-- acknowledgement to its parent
 abbrev pub acknowledged : NodeState → Option ℕ → Transition
 acknowledged r None = finish r
 acknowledged r (Some p) = answer (record r { mode = Converge }) p
@@ -135,8 +135,8 @@ without (Some p) v = if p == v then None else Some p
 abbrev pub with_neighbour : NodeState → ℕ → NodeState
 with_neighbour r v = record r { neighbours = set.insert r.neighbours v }
 
--- The transition on the loss of the link to v. The arguments are the state without v, whether v's acknowledgement was
--- awaited, and whether v was the parent
+-- The transition on the loss of the link to v. The arguments are the state without v, whether v's acknowledgement was awaited,
+-- and whether v was the node's parent
 abbrev pub lost_in : Mode → NodeState → Bool → Bool → Transition
 lost_in Ready s awaited child = idle s
 lost_in Abort s awaited child = if awaited && is_empty s.pend then acknowledged s s.parent else idle s

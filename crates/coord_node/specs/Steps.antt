@@ -1,5 +1,5 @@
--- The nodes that act on a step, and the kind of its reply, as functions of the states of all nodes; the transitions
--- also depend on the version of their world.
+-- The nodes that act on a step, and the kind of its reply, as functions of the states of all nodes. The transitions also depend
+-- on the version of the world.
 use Rattle.std.specs.Prelude.{ℕ, List, [], ◌∷◌, if◌then◌else◌}
 use Rattle.coord_types.specs.NodeState.{NodeState}
 use Rattle.coord_types.specs.declared.messages.Mode.{Mode}
@@ -12,7 +12,7 @@ use Rattle.coord_types.specs.declared.steps.Kind.{Kind}
 use Rattle.coord_types.specs.declared.steps.Kind.TheVariants.{Done, Started, Finished, Joined, Taken, Cleared}
 use Rattle.coord_node.specs.Rules.{Transition, transition, request, lost, is_empty}
 
--- the transitions of a command, in order; a Drop has one for each end, first a, then b
+-- the transitions of a command, in order; a Drop has one for each end, first for a, then for b
 abbrev pub transitions_ordered : ℕ → (ℕ → NodeState) → Command → List (ℕ × Transition)
 transitions_ordered version states (Add u g) = []
 transitions_ordered version states (Remove u) = []

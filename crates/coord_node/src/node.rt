@@ -173,7 +173,8 @@ impl Node {
         self.distance
     }
 
-    /// Handles a request to reset this node, in a world of this version.
+    /// Handles a request to reset this node, in a world of this version. Errors: out of memory; the node is then
+    /// unchanged.
     #[tactic(auto, using(coord_types::proofs::Sets::listed))]
     pub fn request(&mut self, alloc: Global, version: Version) -> Result<Effects, AllocError>
         requires { self.old.epoch < 2 ^ 64 - 1 }
@@ -192,8 +193,8 @@ impl Node {
         self.wave_on(alloc, version, None, others, 0)
     }
 
-    /// Handles an Abort from a neighbour. A Ready node takes the distance that it carries, or 0 in
-    /// version 1.
+    /// Handles an Abort from a neighbour. A Ready node stores the distance that the Abort carries, or 0 in version 1.
+    /// Errors: out of memory; the node is then unchanged.
     #[tactic(auto, using(coord_types::proofs::Sets::listed))]
     pub fn on_abort(
         &mut self,
@@ -226,7 +227,7 @@ impl Node {
         Ok(effects)
     }
 
-    /// Handles an Ack from a neighbour.
+    /// Handles an Ack from a neighbour. Errors: out of memory; the node is then unchanged.
     #[tactic(auto, using(coord_types::proofs::Sets::listed))]
     pub fn on_ack(&mut self, alloc: Global, from: NodeId) -> Result<Effects, AllocError>
         requires { self.old.epoch < 2 ^ 64 - 1 }
@@ -249,7 +250,7 @@ impl Node {
         Ok(effects)
     }
 
-    /// Handles a Ready from a neighbour.
+    /// Handles a Ready from a neighbour. Errors: out of memory; the node is then unchanged.
     #[tactic(auto, using(coord_types::proofs::Sets::listed))]
     pub fn on_ready(&mut self, alloc: Global, from: NodeId) -> Result<Effects, AllocError>
         requires { self.old.epoch < 2 ^ 64 - 1 }
@@ -265,7 +266,7 @@ impl Node {
         }
     }
 
-    /// Handles the loss of the link to a neighbour.
+    /// Handles the loss of the link to a neighbour. Errors: out of memory; the node is then unchanged.
     pub fn lost(&mut self, alloc: Global, other: NodeId) -> Result<Effects, AllocError>
         requires { self.old.epoch < 2 ^ 64 - 1 }
         ensures state { OnOk result (self.new ≡ (lost self.old other).state) }
@@ -401,8 +402,8 @@ impl Node {
         }
     }
 
-    /// Continues after the link to a neighbour was dropped. `awaited` says whether its
-    /// acknowledgement was awaited, and `child` whether it was the parent.
+    /// Continues after the link to a neighbour was dropped. `awaited` says whether the neighbour's acknowledgement was
+    /// awaited, and `child` whether the neighbour was the parent.
     #[tactic(auto, using(coord_types::proofs::Sets::listed))]
     fn go_on(&mut self, alloc: Global, awaited: bool, child: bool) -> Result<Effects, AllocError>
         requires { self.old.epoch < 2 ^ 64 - 1 }

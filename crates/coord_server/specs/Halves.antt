@@ -1,4 +1,4 @@
--- The laws about posting an order and replying to it.
+-- Laws about the two halves of answering an order: posting it, and replying to it.
 use Rattle.std.proofs.Common.{◌≡◌, ℕ, List, length, max, Result, Ok, Err, inl, inr, refl, sym, ap, ◌∙◌, subst}
 use Rattle.coord_types.specs.declared.refusals.Refusal.{Refusal}
 use Rattle.coord_types.specs.declared.steps.Reply.{Reply}
@@ -19,7 +19,7 @@ both b s (Ok claim) (Err refusal) before after read now put returned = inr (clai
 both b s (Err why) (Ok reply) before after read now put returned = absurd returned
 both {D} b s (Err why) (Err refusal) before after read now put returned = inl (subst (λ r. AtSomeMoment b (Submits {D = D} s (Err r) before after)) (sym returned.0) put, returned.1)
 
--- An order that was posted and replied to was answered.
+-- An order that is posted and then replied to is answered as `DeskAnswers` says.
 pub desk_answered : {D P : Type 0} (b : Basis D) (d e f : DeskState P) (r : Request) (posted : Result Claim Refusal) (reply : Result Reply Refusal) → DeskPosts b d r posted e → DeskReplies b e posted reply f → DeskAnswers b d r (order_answer reply) f
 desk_answered {D} b d e f (request.Order client number command) posted reply put returned =
     let s = step.Order client number command in (
@@ -33,7 +33,7 @@ desk_answered b d e f request.Show posted reply put returned = absurd put
 desk_answered b d e f request.Resend posted reply put returned = absurd put
 desk_answered b d e f request.Close posted reply put returned = absurd put
 
--- A reply does not change if another order is posted before it.
+-- If another order is posted before a reply, the reply could as well have come first.
 pub desk_apart : {D P : Type 0} (b : Basis D) (d e f : DeskState P) (r : Request) (p q : Result Claim Refusal) (reply : Result Reply Refusal) → DeskPosts b d r q e → DeskReplies b e p reply f → (m : DeskState P) × DeskReplies b d p reply m × DeskPosts b m r q f
 desk_apart {D} b d e f (request.Order client number command) p q reply put returned = (
   record { notes = d.notes; seen = f.seen; read = f.read; port = d.port },
@@ -44,6 +44,6 @@ desk_apart b d e f request.Show p q reply put returned = absurd put
 desk_apart b d e f request.Resend p q reply put returned = absurd put
 desk_apart b d e f request.Close p q reply put returned = absurd put
 
--- A desk that waits for a reply notes nothing, and does not keep fewer steps.
+-- A desk that waits for a reply notes nothing, so afterwards it keeps no fewer steps.
 pub desk_loses_none : {D P : Type 0} (b : Basis D) (d e : DeskState P) (posted : Result Claim Refusal) (reply : Result Reply Refusal) (kept : ℕ) → DeskReplies b d posted reply e → DeskKeeps b d kept → DeskKeeps b e kept
 desk_loses_none b d e posted reply kept returned is = (is.0, is.1, subst (λ notes. kept ≡ max is.0 (length notes)) (sym returned.1) is.2)

@@ -1,5 +1,5 @@
--- The answers of an instance follow from its history: each from the first n settled steps, for some n that
--- never falls.
+-- The answers of an instance follow from its history: each answer follows from the first n settled steps, for some n that never
+-- decreases.
 use Rattle.std.specs.List.{AllByRecursion}
 use Rattle.std.specs.Prelude.{◌≡◌, ◌⊎◌, ℕ, List, [], ◌∷◌, ◌++◌, Result, Ok, Some, map, slice_get, take}
 use Rattle.coord_types.specs.declared.steps.Reply.{Reply}
@@ -22,20 +22,20 @@ use Rattle.coord_admin.specs.declared.request.Request.TheVariants as request
 use Rattle.coord_server.specs.EngineDesk.{DeskState}
 use Rattle.coord_server.specs.Ending.{IsClosed, ServedWhileOpen}
 
--- an answer to a line, with the steps of its instance from which it follows
+-- an answer to a line, and the steps of the instance from which the answer follows
 pub record Returned : Type 0 where
   pub line : Line
   pub answer : Answer
   pub after : List Step
 
--- The reply belongs to the order's own step: the order is among these steps and got this reply there, or the
--- world before them kept the reply for that order.
+-- The reply is the order's own: the order is among these steps and got this reply there, or the world before them kept this reply
+-- for the order.
 abbrev pub IsOwnReply : World → List Step → Step → Reply → Type 0
 IsOwnReply base steps s r =
     ((place : ℕ) × (slice_get steps place ≡ Some s) × (reply (fold base (take place steps)) s ≡ r))
     ⊎ IsKeptBy base (record { step = r.step; what = s; kind = r.kind })
 
--- Only an order gets a reply, and the reply belongs to its own step.
+-- Only an order gets a reply, and the reply is the order's own.
 abbrev pub RepliesTo : World → List Step → Reply → Result Request LineFault → Type 0
 RepliesTo base steps r (Ok (request.Order client number command)) = IsOwnReply base steps (step.Order client number command) r
 RepliesTo base steps r asked = ⊥
@@ -45,7 +45,7 @@ abbrev pub ShowsAfter : World → List Step → Shown → Result Request LineFau
 ShowsAfter base steps view (Ok request.Show) = (accepted : ℕ) × (view ≡ shown accepted (fold base steps))
 ShowsAfter base steps view asked = ⊥
 
--- The answer to this request follows from these steps over this world.
+-- The answer to this request follows from these steps over the world `base`.
 abbrev pub BearOut : World → List Step → Result Request LineFault → Answer → Type 0
 BearOut base steps asked (answer.Replied r) = RepliesTo base steps r asked
 BearOut base steps asked (answer.Shown view) = ShowsAfter base steps view asked
@@ -57,8 +57,8 @@ BearOut base steps asked (answer.Faulted f) = Unit {0}
 abbrev pub IsBorneOut : World → Returned → Type 0
 IsBorneOut base t = BearOut base t.after (asked_by t.line) t.answer
 
--- The steps of each answer extend those of the previous answer. Those of the first answer extend `first`, and
--- `last` extends those of the last answer.
+-- The steps of each answer extend the steps of the previous answer. The steps of the first answer extend `first`, and `last`
+-- extends the steps of the last answer.
 abbrev pub GoOn : List Step → List Returned → List Step → Type 0
 GoOn first [] last = StartsWith last first
 GoOn first (t ∷ returned) last = StartsWith t.after first × GoOn t.after returned last
@@ -76,13 +76,13 @@ pub record WritesInOrder (base : World) (first : List Step) (talk : Talk) (last 
   pub broken : ((torn ≡ []) × (part ≡ [])) ⊎ ((t : Returned) × (torn ≡ t ∷ []) × IsFirstPart part (reply_line t.answer))
   pub text_is : talk.bytes_written ≡ reply_lines (map (λ t. t.answer) returned) ++ part
 
--- The same for these connections, one after another.
+-- The outputs of these connections, one after another, are in order in the same sense.
 abbrev pub AllInOrder : World → List Step → List Connection → List Step → Type 0
 AllInOrder base first [] last = StartsWith last first
 AllInOrder base first (c ∷ cs) last = (now : List Step) × WritesInOrder base first c.talk now × AllInOrder base now cs last
 
--- Everything that the desk of an instance replied or showed over its connections follows, in this way, from
--- the settled steps that the desk has read, whether or not a line closed the desk.
+-- Everything that an instance's desk replied or showed over its connections is in order in this sense, and follows from the
+-- settled steps that the desk has read. This holds whether or not a caller closed the desk.
 abbrev pub AnsweredInOrder : Type 0 → Type 0 → {V : Type 0} → (V → List Talk → V → Type 0) → Type 0
 AnsweredInOrder D P {V} talked =
     (b : Basis D) (most : ℕ) (port : P) (v w : V) (desk : DeskState P)

@@ -1,4 +1,4 @@
--- What a crash may have left on the disk at each moment while a store is served.
+-- What a crash at any moment may leave on the disk while a store is served.
 use Rattle.std.specs.Prelude.{◌≡◌, ℕ, true, List, [], ◌++◌}
 use Rattle.atomic_table.specs.Seated.{TableId}
 use Rattle.coord_disk.specs.Model.DiskModel.{DiskModel}
@@ -14,21 +14,20 @@ use Rattle.coord_server.specs.Ending.{IsInstance}
 use Rattle.coord_server.specs.Instances.{HaveRested, InstanceRun, all_steps}
 use Rattle.coord_server.specs.declared.instance.Instance.{Instance}
 
--- Whatever a crash at any moment between the two states of the store may leave gives the world after a prefix
--- of these steps. The disk keeps the model if it did before.
+-- A crash at any moment between the two states of the store leaves bytes that give the world after a prefix of these steps. The
+-- disk keeps the model if it did before.
 pub record KeepsAlong {D : Type 0} (m : DiskModel D) (first : Kept D) (steps : List Step) (now : Kept D) : Type 0 where
   pub same_model : m.keeps_model now.disk ≡ m.keeps_model first.disk
   pub moments : m.keeps_model first.disk ≡ true → LeavesOnly m first.disk now.disk (IsAfterSome first.world steps)
 
--- The settled steps of an instance are written in the history, after the earlier steps.
+-- The settled steps of an instance are written in the history, after the steps of earlier instances.
 abbrev pub HasWritten : {D : Type 0} → TableId → List Step → Closed D → Beginning → Type 0
 HasWritten history earlier left written = HasReadSettled history earlier (first_settled left.base left.trail.items left.settled) written
 
--- Some instances rested, and then this one ran over the store that they left. Whatever a crash may have left
--- at any moment between the first store and the remaining one gives the world after a prefix of all the steps
--- that they accepted, and the settled steps are written in the history. `talked v talks w`: the callers were
--- in the state v, had these talks, and then are in the state w; `failed v w`: they were in the state v, and
--- have failed
+-- Some instances rested, and then this instance ran over the store that they left. A crash at any moment between the first store
+-- and the remaining one leaves bytes that give the world after a prefix of all steps that these instances accepted. The settled
+-- steps are written in the history. `talked v talks w`: the callers were in the state v, had these talks, and then are in the
+-- state w; `failed v w`: they were in the state v, and have failed
 pub record HasLived {D : Type 0} (m : DiskModel D) {V : Type 0} (talked : V → List Talk → V → Type 0) (failed : V → V → Type 0) (most : ℕ) (first : Kept D) (v : V) (last : Instance D V) : Type 0 where
   pub rested : List (InstanceRun D V)
   pub world : World

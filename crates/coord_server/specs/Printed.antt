@@ -12,11 +12,11 @@ use Rattle.coord_server.specs.declared.last_line.LastLine.{LastLine}
 use Rattle.coord_server.specs.Lines.{after_line, is_next, nothing_since}
 use Rattle.coord_server.specs.Signals.{StepSignal}
 
--- the line that says at which address the server listens
+-- the line that states the address at which the server listens
 abbrev pub listening_line : SocketAddr → List ℕ
 listening_line address = codes "listening " ++ socket_text address ++ codes "\n"
 
--- the line that says that a reset has ended at this node and this epoch has begun
+-- the line that states that a reset has ended at this node and this epoch has begun
 abbrev pub signal_line : ℕ → ℕ → List ℕ
 signal_line node epoch = codes "signal " ++ decimal node ++ codes " " ++ decimal epoch ++ codes "\n"
 
@@ -28,7 +28,7 @@ pub record PrinterState (W : Type 0) : Type 0 where
   pub lost : ℕ
   pub last : LastLine
 
--- the state before anything was printed, for signals of steps after this one
+-- the state of a printer that has printed nothing yet, and prints only signals of steps after this one
 abbrev pub new_printer : {W : Type 0} → W → ℕ → PrinterState W
 new_printer output since = record { output = output; is_broken = false; lost = 0; last = nothing_since since }
 
@@ -36,8 +36,7 @@ new_printer output since = record { output = output; is_broken = false; lost = 0
 abbrev pub signal_lines : List StepSignal → List ℕ
 signal_lines signals = flat_map (λ s. signal_line s.node s.epoch) signals
 
--- Each of these signals may follow the one before it, and the first one may follow `first`; the last of them
--- is `last`.
+-- Each of these signals may follow the one before it, and the first may follow `first`. `last` is the state after all of them.
 abbrev pub Follow : LastLine → List StepSignal → LastLine → Type 0
 Follow first [] last = last ≡ first
 Follow first (s ∷ later) last = (is_next first s.step s.node ≡ true) × Follow (after_line first s.step s.node) later last
@@ -50,18 +49,18 @@ with_lost p = record p { lost = one_more p.lost }
 abbrev pub is_amiss : {W : Type 0} → PrinterState W → ℕ → Bool
 is_amiss p settled = p.is_broken || not (nat_le p.last.step settled)
 
--- the possible faults if a line is not printed
+-- the faults with which the printing of a line may fail
 abbrev pub IsOfPrinting : ServerFault → Type 0
 IsOfPrinting returned = (returned ≡ fault.OutOfMemory) ⊎ (returned ≡ fault.Write)
 
--- The part of an address line that was written before the output failed is a prefix of the line.
+-- The output failed within the line of an address. `torn`, the written part, is a prefix of the line.
 pub record IsTornAddress {W : Type 0} (q : PrinterState W) (torn : List ℕ) : Type 0 where
   pub broken : q.is_broken ≡ true
   pub address : SocketAddr
   pub part : IsFirstPart torn (listening_line address)
 
--- The part of a signal's line that was written before the output failed is a prefix of the line. This signal
--- may be printed, and may follow the last one.
+-- The output failed within the line of a signal. `torn`, the written part, is a prefix of the line. The signal may be printed,
+-- and may follow the last one.
 pub record IsTornSignal {W : Type 0} (may : ℕ → ℕ → ℕ → Type 0) (q : PrinterState W) (torn : List ℕ) : Type 0 where
   pub broken : q.is_broken ≡ true
   pub signal : StepSignal
@@ -69,7 +68,7 @@ pub record IsTornSignal {W : Type 0} (may : ℕ → ℕ → ℕ → Type 0) (q :
   pub next : is_next q.last signal.step signal.node ≡ true
   pub part : IsFirstPart torn (signal_line signal.node signal.epoch)
 
--- The reason why the first line was not printed when it was requested: memory ran out, or the output failed.
+-- The reason why the first line was requested but not printed, if that happened: memory ran out, or the output failed.
 abbrev pub IsUnprintedFor : {W : Type 0} → PrinterState W → Option ServerFault → Type 0
 IsUnprintedFor p None = Unit {0}
 IsUnprintedFor p (Some fault.OutOfMemory) = Unit {0}
@@ -93,16 +92,15 @@ module _ {W : Type 0} (contents : W → Option (List ℕ)) where
       ((is_next p.last s.step s.node ≡ true) × Appends (contents p.output) (contents q.output) (signal_line s.node s.epoch) × (q.is_broken ≡ false) × (q.lost ≡ p.lost) × (q.last ≡ after_line p.last s.step s.node))
       ⊎ ((is_next p.last s.step s.node ≡ false) × (q ≡ with_lost p))
 
-  -- These signals arrived in order. Each was printed once, or was lost because it may not follow the last
-  -- printed one.
+  -- These signals arrived in order. Each was printed once, or was lost because it may not follow the last printed signal.
   abbrev pub PrintsEach : PrinterState W → List StepSignal → PrinterState W → Type 0
   PrintsEach p [] q = q ≡ p
   PrintsEach p (s ∷ later) q = (m : PrinterState W) × Prints p s m × PrintsEach m later q
 
   -- `may`: the signals that may be printed, by step, node and epoch
   module _ (may : ℕ → ℕ → ℕ → Type 0) where
-    -- The lines of permitted signals were printed, each of which may follow the one before. If the output
-    -- failed within a line, a prefix of that line was written too.
+    -- The lines of permitted signals were printed, and each signal may follow the one before. If the output failed within a
+    -- further line, a prefix of that line was written too.
     pub record HasPrinted (p q : PrinterState W) : Type 0 where
       pub signals : List StepSignal
       pub torn : List ℕ
@@ -111,8 +109,8 @@ module _ {W : Type 0} (contents : W → Option (List ℕ)) where
       pub follow : Follow p.last signals q.last
       pub whole : (torn ≡ []) ⊎ IsTornSignal may q torn
 
-    -- The line of an address was printed, and then lines of permitted signals; or only a prefix of the
-    -- address line, possibly empty.
+    -- Either the line of an address was printed, and then lines of permitted signals, perhaps with a prefix of one more; or only
+    -- a prefix of the address line was written, possibly empty.
     pub record IsPrinted (p q : PrinterState W) : Type 0 where
       pub first : List ℕ
       pub signals : List StepSignal

@@ -1,4 +1,4 @@
--- The steps of an instance that its replies name, and that its remaining disk holds.
+-- The steps that an instance's replies name, and the steps that its remaining disk holds.
 use Rattle.std.specs.List.{AllByRecursion}
 use Rattle.std.specs.Prelude.{◌≡◌, ◌⊎◌, ℕ, ◌+◌, ◌-◌, ◌≤◌, true, List, [], ◌∷◌, ◌++◌, Contains, Ok, Some, length, slice_get, take}
 use Rattle.coord_disk.specs.Model.Present.{IsImage}
@@ -22,9 +22,9 @@ use Rattle.coord_lines.specs.Written.{IsFirstPart}
 use Rattle.coord_server.specs.EngineDesk.{AnswersOrder, DeskKeeps, DeskState}
 use Rattle.coord_server.specs.Ending.{IsClosed, IsOneHistory, ServedWhileOpen}
 
--- An order that got a reply was just noted with the reply's number and kind, or it is a repeat and nothing
--- was noted. Among the settled steps that were read by then, the step with this number is the order and was
--- answered with this kind; or the base kept this reply for this order.
+-- An order got a reply. It was just noted with the reply's number and kind, or it is a repeat and nothing was noted. Among the
+-- settled steps that the desk had read by then, the step with this number is the order, and was answered with this kind; or the
+-- base kept this reply for the order.
 pub record NamesItsStep {D : Type 0} (b : Basis D) (s : Step) (reply : Reply) (before after : List Note) (read : List Step) : Type 0 where
   pub noted : (after ≡ before ++ record { step = reply.step; what = s; kind = reply.kind } ∷ []) ⊎ (after ≡ before)
   pub settled : AtSomeMoment b (λ g. IsCollectable g.ledger.log (record { step = reply.step; what = s; kind = reply.kind }) × (settled_steps g.ledger.log ≡ read))
@@ -55,7 +55,7 @@ AnswersUpTo step (Resent n) = Unit {0}
 AnswersUpTo step answer.Closed = Unit {0}
 AnswersUpTo step (Faulted f) = Unit {0}
 
--- The output consists of lines that name no later step than this one. It may break off within the last line.
+-- The output consists of lines that name no later step than this one. Its last line may be cut off.
 pub record WritesUpTo (step : ℕ) (text : List ℕ) : Type 0 where
   pub returned : List Answer
   pub up_to : AllByRecursion (AnswersUpTo step) returned
@@ -63,32 +63,32 @@ pub record WritesUpTo (step : ℕ) (text : List ℕ) : Type 0 where
   pub broken : (part ≡ []) ⊎ ((last : Answer) × AnswersUpTo step last × IsFirstPart part (reply_line last))
   pub text_is : text ≡ reply_lines returned ++ part
 
--- The same for the output of each of these connections.
+-- The output of each of these connections names no later step than this one.
 abbrev pub AllWriteUpTo : ℕ → List Connection → Type 0
 AllWriteUpTo step cs = AllByRecursion (λ c. WritesUpTo step c.talk.bytes_written) cs
 
--- All replies and views of an instance's desk come from steps that are settled in the remaining parts,
--- whether or not a line closed the desk.
+-- All replies and views of an instance's desk name only steps that are settled in the remaining parts. This holds whether or not
+-- a caller closed the desk.
 abbrev pub ReturnedIsSettled : Type 0 → Type 0 → {V : Type 0} → (V → List Talk → V → Type 0) → Type 0
 ReturnedIsSettled D P {V} talked =
     (b : Basis D) (most : ℕ) (port : P) (v w : V) (desk : DeskState P) (left : Closed D) → IsOneHistory b desk left
     → ((served : ServedWhileOpen b talked most port v w desk) → AllWriteUpTo left.settled served.0)
     × ((served : IsClosed b talked most port v w desk) → AllWriteUpTo left.settled (served.0 ++ served.1 ∷ []))
 
--- These bytes give the world after the settled steps of an instance or, after a stop, possibly the world
--- after the steps in doubt too.
+-- These bytes give the world after the settled steps of an instance. If the store has stopped, they may also give the world after
+-- more steps of the trail, whose commit is in doubt.
 abbrev pub InstanceGives : {D : Type 0} → Closed D → List ℕ → Type 0
 InstanceGives left bytes =
     Recovered bytes left.store.world
     ⊎ ((size : ℕ) × (has_stopped left.store ≡ true) × (left.settled + size ≤ left.base.count + length left.trail.items)
     × Recovered bytes (fold left.base (take (left.settled - left.base.count + size) left.trail.items)))
 
--- Whatever a crash may leave of an instance's disk gives such a world.
+-- Any bytes that a crash may leave on an instance's disk give such a world.
 abbrev pub InstancesLeaveSteps : Type 0 → Type 0 → Type 0
 InstancesLeaveSteps D P =
     (b : Basis D) (desk : DeskState P) (left : Closed D) → IsOneHistory b desk left
     → b.keeps_model left.store.disk ≡ true → (image : List ℕ) → IsImage (b.present left.store.disk) image → InstanceGives left image
 
--- If a desk has noted as many steps as an instance has, it never keeps fewer, whatever its engine keeps.
+-- A desk that has noted as many steps as an instance has never keeps fewer, whatever its engine keeps.
 abbrev pub NotesEndALife : Type 0 → Type 0 → Type 0
 NotesEndALife D P = (b : Basis D) (desk : DeskState P) (most : ℕ) → most ≤ length desk.notes → ¬ HasKeptFewer (DeskKeeps b) desk most

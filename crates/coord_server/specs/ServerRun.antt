@@ -33,7 +33,7 @@ pub record ServerRun {D V W : Type 0} (model : DiskModel D) (talked : V → List
   -- the instances, in order
   pub instances : List (InstanceRun D V)
   pub served : AreInstances model talked failed most store.world v instances ended.served ended.closed ended.callers
-  -- the steps that they accepted are one trail, and the settled ones are a prefix of it
+  -- the steps that the instances accepted are one trail, and the settled steps are a prefix of it
   pub trail : IsTrail store.world (all_steps instances)
   pub counted : (store.world.count ≤ ended.closed.settled) × (ended.closed.settled ≤ store.world.count + length (all_steps instances))
   pub settled : ended.closed.store.world ≡ fold store.world (first_settled store.world (all_steps instances) ended.closed.settled)
@@ -48,6 +48,6 @@ pub record ServerRun {D V W : Type 0} (model : DiskModel D) (talked : V → List
 abbrev pub HasServed : {D V W : Type 0} → DiskModel D → (V → List Talk → V → Type 0) → (V → V → Type 0) → (W → Option (List ℕ)) → (List Step → ℕ → ℕ → ℕ → Type 0) → Kept D → V → PrinterState W → ServerEnd D V W → Type 0
 HasServed model talked failed contents gives store v printer ended = ServerRun model talked failed instance_steps contents gives store v printer ended
 
--- Such a run over the connections of a listener, with the usual timeouts for its clients.
+-- The run of a server over the connections of a listener, with the usual timeouts for its clients.
 abbrev pub HasServedUsual : {D W : Type 0} → DiskModel D → (W → Option (List ℕ)) → (List Step → ℕ → ℕ → ℕ → Type 0) → Kept D → PrinterState W → ServerEnd D Timeouts W → Type 0
 HasServedUsual {D} {W} model contents gives store printer ended = (callers : Timeouts) × IsUsual callers × HasServed model (λ _ _ _. ⊤) (λ _ _. ⊤) contents gives store callers printer ended

@@ -19,9 +19,9 @@ use Rattle.coord_server.specs.declared.server_end.ServerEnd.{ServerEnd}
 abbrev pub is_printed_within : ℕ → ℕ → ℕ → StepSignal → Bool
 is_printed_within a b v s = (nat_lt a s.step && nat_le s.step b) && (s.node == v)
 
--- The signals that a server has printed in all its instances keep the bounds between two moments of its
--- settled steps: for the steps in between, it printed at most as many lines of a node's signals as resets
--- were started there.
+-- The signals that a server printed, in all its instances, keep both bounds of `BoundSignals` between two moments of its settled
+-- steps. In particular, for the steps in between it printed at most as many signals of a linked node of the part as resets were
+-- started in the part.
 abbrev pub PrintedBetween : {D V W : Type 0} → DiskModel D → (V → List Talk → V → Type 0) → (V → V → Type 0) → (W → Option (List ℕ)) → Type 0
 PrintedBetween {D} {V} {W} model talked failed contents =
     (most : ℕ) (store : Kept D) (callers : V) (printer : PrinterState W) (ended : ServerEnd D V W) (run : ServerRun model talked failed most contents (GivesSignal store.world) store callers printer ended) →
@@ -29,9 +29,9 @@ PrintedBetween {D} {V} {W} model talked failed contents =
     first_settled store.world (all_steps run.instances) ended.closed.settled ≡ earlier ++ (between ++ rest) → IsReadyAgain store.world earlier between part →
     BoundSignals (fold store.world earlier) between part (λ v. count_by (is_printed_within (store.world.count + length earlier) (store.world.count + length earlier + length between) v) run.printed.signals)
 
--- The bound if nodes and links come and go, as long as no link joins the part with the rest: for the steps in
--- between, it printed at most as many lines of signals of a node of the part as resets were started and links
--- dropped there, plus the node's own resets that were answered Finished.
+-- The bound if nodes and links come and go, as long as no link joins the part with the rest. For the steps in between, the server
+-- printed at most as many signals of a node of the part as resets were started and links dropped in the part, plus the node's own
+-- resets that were answered Finished.
 abbrev pub PrintedWithDrops : {D V W : Type 0} → DiskModel D → (V → List Talk → V → Type 0) → (V → V → Type 0) → (W → Option (List ℕ)) → Type 0
 PrintedWithDrops {D} {V} {W} model talked failed contents =
     (most : ℕ) (store : Kept D) (callers : V) (printer : PrinterState W) (ended : ServerEnd D V W) (run : ServerRun model talked failed most contents (GivesSignal store.world) store callers printer ended) →

@@ -16,8 +16,7 @@ third_line = codes "{\"kind\":\"started\",\"step\":3}\n"
 abbrev pub third_world : Answer
 third_world = Shown (record { accepted = 5; settled = 3; nodes = []; links = [] })
 
--- They name no later step than the third, but the third too, not only the first two. A reader of the line
--- alone finds the same.
+-- These answers name the third step, and no later one. The reply's line, read alone, does too.
 pub record ReturnUpToThird : Type 0 where
   pub returned : AllByRecursion (AnswersUpTo 3) (third_reply ∷ third_world ∷ Closed ∷ [])
   pub written : WritesUpTo 3 third_line

@@ -15,9 +15,9 @@ use coord_view::View;
 use std::marker::Model;
 use std::sync::Wait;
 
-/// A desk that queries an engine, and passes resent packets to a port. Contracts see the notes of its
-/// share, its seen count, the settled steps that it has read, and the port. Each answer follows from
-/// the steps that it has read when it answers.
+/// A desk over an engine. It passes resent packets to a port. Contracts see the notes of its share, its seen count, the
+/// settled steps that it has read, and the port. Each answer follows from the settled steps that the desk has read by
+/// then.
 #[derive(Drop)]
 pub struct EngineDesk<'a, D: Disk, L: Origin, P: Port, R: Wait> {
     rt: &'a R,
@@ -84,7 +84,7 @@ impl<'a, D: Disk, L: Origin, P: Port + Drop, R: Wait> EngineDesk<'a, D, L, P, R>
     }
 }
 
-/// Returns the reply to a posted step, or the reason why there is none. The reader reads on.
+/// Returns the reply to a posted step, or the reason why there is none. Advances the reader.
 fn reply_to<D: Disk, L: Origin, R: Wait>(
     rt: &R,
     engine: &Engine<D, L>,
@@ -102,7 +102,7 @@ fn reply_to<D: Disk, L: Origin, R: Wait>(
     }
 }
 
-/// Wakes the flusher, and waits for the reply to an accepted step. The reader reads on.
+/// Wakes the flusher, and waits for the reply to an accepted step. Advances the reader.
 #[tactic(auto, using(crate::proofs::Reading::read_collected))]
 fn collect<D: Disk, L: Origin, R: Wait>(
     rt: &R,
@@ -119,7 +119,7 @@ fn collect<D: Disk, L: Origin, R: Wait>(
     without_ticket(engine.collect(rt, ticket, reader))
 }
 
-/// Returns the answer to a ticket, and drops the ticket that a refusal returns.
+/// Returns the answer to a ticket, without the ticket that a refusal gives back.
 fn without_ticket(answer: Result<Reply, (Refusal, Ticket)>) -> Result<Reply, Refusal>
     ensures { result ≡ without_ticket answer }
 {
@@ -132,7 +132,7 @@ fn without_ticket(answer: Result<Reply, (Refusal, Ticket)>) -> Result<Reply, Ref
     }
 }
 
-/// Shows the settled world to a caller with this seen count. The reader reads on.
+/// Shows the settled world to a caller with this seen count. Advances the reader.
 #[tactic(auto, using(crate::proofs::Reading::shows_to, crate::proofs::Reading::read_shown))]
 fn show<D: Disk, L: Origin, R: Wait>(
     rt: &R,
@@ -148,7 +148,7 @@ fn show<D: Disk, L: Origin, R: Wait>(
     engine.show(rt, seen, reader)
 }
 
-/// Passes the packets that may have been lost to a port again, and returns their number.
+/// Sends the packets that may have been lost to a port again, and returns their number.
 fn resend<D: Disk, L: Origin, P: Port, R: Wait>(
     rt: &R,
     engine: &Engine<D, L>,
@@ -183,8 +183,8 @@ impl<'a, D: Disk, L: Origin, P: Port, R: Wait> Desk for EngineDesk<'a, D, L, P, 
 
     ghost keeps = { DeskKeeps (based_on D.model L.base L.before) };
 
-    /// Returns the number of steps that the engine keeps. The desk's own notes are among them; but no
-    /// clause can state that of a value under a lock, so the result is at least their number.
+    /// Returns the number of steps that the engine keeps. The desk's own notes are among these steps, but no clause can
+    /// state that, because the engine is under a lock; so the function returns at least the number of notes.
     fn kept(&self) -> usize {
         self.engine.kept(self.rt).max(self.share.notes().len())
     }

@@ -17,8 +17,7 @@ pub enum ServerFault {
     Device,
     /// A line could not be printed.
     Write,
-    /// The engine could not be closed. That would be a bug of this program: no sequence of its calls
-    /// leads there.
+    /// The engine could not be closed. That would be a bug in this program: no sequence of its calls leads there.
     NotClosed(CloseFault),
 }
 

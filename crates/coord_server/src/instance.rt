@@ -35,14 +35,13 @@ use std::sync::ledger::Blank;
 use std::thread::Threads;
 use std::time::Clock;
 
-/// The desk's share and the flusher's each allocate room for this many notes when an instance begins.
-/// Notes that stay within it never move. The room takes more than 32 MiB, so the C library maps it
-/// separately and returns it to the system when the instance ends; smaller blocks would stay with the
-/// thread that allocated them.
+/// The number of notes for which the desk's share and the flusher's share each allocate room when an instance begins.
+/// Notes that stay within this room never move. The room takes more than 32 MiB, so the C library maps it separately
+/// and returns it to the system when the instance ends. Smaller blocks would stay with the thread that allocated them.
 const NOTES_ROOM: usize = 600_000;
 
-/// The start of an instance: the ledger of a store, which has accepted nothing yet, and a handle of the
-/// server's history.
+/// The start of an instance: the ledger of a store, which has accepted nothing yet, and a handle to the server's
+/// history.
 #[derive(Drop)]
 pub struct InstanceStart<D: Disk> {
     pub history: MonotoneLog,
@@ -53,7 +52,7 @@ pub struct InstanceStart<D: Disk> {
 }
 
 impl<D: Disk> InstanceStart<D> {
-    /// Makes a ledger over a store. If memory runs out, returns the store.
+    /// Makes a ledger over a store. Errors: if memory runs out, returns the store.
     pub fn new(alloc: Global, history: &MonotoneLog, store: Store<D>) -> Result<Self, Store<D>>
         requires { has_stopped store ≡ false }
         ensures history { IfOk result (λ start. start.history ≡ history.now) }
@@ -75,8 +74,8 @@ impl<D: Disk> InstanceStart<D> {
     }
 }
 
-/// The remaining parts of an instance, the callers, and the authority of the history, to which the
-/// instance's settled steps are written.
+/// The remaining parts of an instance, the callers, and the authority to write the history, which already has the
+/// instance's settled steps.
 #[derive(Drop)]
 pub struct Instance<D: Disk, C> {
     pub closed: Closed<D>,
@@ -85,13 +84,11 @@ pub struct Instance<D: Disk, C> {
     pub left: InstanceEnd,
 }
 
-/// Serves a ledger's store to the callers until a line closes it or the instance is old, and returns
-/// the engine's parts in any case. Accepted steps are settled first. The first instance opens the
-/// output.
+/// Serves the store of a ledger to the callers until a line closes it or the instance is old, and returns the engine's
+/// parts in any case. Before that, all accepted steps are settled. The first instance opens the output.
 ///
-/// If memory or threads are lacking, the instance serves nobody and leaves its engine unused; `left`
-/// reports that, and whether the engine refused to be closed with all shares.
-/// so, and whether the engine refused to be closed with all shares.
+/// If memory or threads are lacking, the instance serves nobody and leaves its engine unused; `left` reports that, and
+/// whether the engine refused to be closed with all shares.
 pub fn serve_instance<
     D: Disk + Send,
     C: Callers + Drop,
@@ -232,9 +229,9 @@ fn unbegun<D: Disk, L: Origin, C, O: SignalSource, R: Wait + Clock>(
     }
 }
 
-/// Takes the engine apart after the threads of an instance have run, and returns the remaining parts.
-/// If the engine refuses the shares, it is taken apart whatever they noted. The steps that the desk has
-/// read are a prefix of the written history.
+/// Takes the engine apart after the threads of an instance have run, and returns the remaining parts. If the engine
+/// refuses to be closed with the shares, it is taken apart nevertheless. The steps that the desk has read are a prefix
+/// of the written history.
 fn retired<D: Disk, L: Origin, C: Callers, R: Wait + Clock>(
     rt: &R,
     history: &MonotoneLog,
@@ -274,7 +271,7 @@ fn retired<D: Disk, L: Origin, C: Callers, R: Wait + Clock>(
     }
 }
 
-/// Returns the end of an instance, from the end of its serving and the result of closing its engine.
+/// Returns the end of an instance, given the end of its serving and the result of closing its engine.
 fn left_with(served: InstanceEnd, refused: Option<CloseFault>) -> InstanceEnd
     ensures named { refused ≡ None → result ≡ served }
     ensures refused { IfSome refused (λ why.

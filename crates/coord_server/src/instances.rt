@@ -48,9 +48,9 @@ use std::time::Clock;
 /// The server prints its address, and signals of the history that `O` names. This history is new, and
 /// the server writes it. The printer can't print anything else, even if the server never returns.
 ///
-/// `ServerEnd` reports why the server ended, for example that memory or a thread for an instance or for
-/// printing was lacking. Only if memory runs out at the very beginning, the store and the printer are
-/// returned unchanged, and nobody was served.
+/// `ServerEnd` reports why the server ended: for example, because memory ran out, or because a thread for an instance
+/// or for printing could not be started. If memory runs out at the very beginning, and only then, the store and the
+/// printer are returned unchanged, and nobody was served.
 pub fn serve_instances<
     D: Disk + Send,
     C: Callers + Drop,
@@ -203,8 +203,8 @@ fn print_and_live<
     end_of(setting.history, instance, printed)
 }
 
-/// Runs one instance after another, each with the store and the callers that the previous one left, and
-/// returns the last. The first one opens the output; if no thread prints, it ends there.
+/// Runs one instance after another, each with the store and the callers that the previous one left, and returns the
+/// last instance. The first instance opens the output; if no thread prints, it is also the last.
 fn live<
     D: Disk + Send,
     C: Callers + Drop,
@@ -323,9 +323,9 @@ fn next_of<D: Disk, C, O: SignalSource, R: Wait>(
     }
 }
 
-/// Returns the end of a server, from its last instance. A resting instance is the last only if it can't
-/// continue, for example because its store has stopped. If the first line was not printed, the printer
-/// has the reason. All instances together have written the steps of all printed signals.
+/// Returns the end of a server, given its last instance. A resting instance is the last one only if the server can't
+/// continue, for example because the store has stopped. If the first line was not printed, the printer has the reason.
+/// All instances together have written the steps of all printed signals.
 fn end_of<D: Disk, C, W: Write>(
     history: &MonotoneLog,
     instance: Instance<D, C>,

@@ -15,7 +15,7 @@ pub struct LastLine {
 }
 
 impl LastLine {
-    /// Returns the state in which nothing was printed, and no signal of a step up to this one will be.
+    /// Returns the state of a printer that has printed nothing, and will print no signal of a step up to this one.
     pub fn since(step: u64) -> Self
         ensures { result ≡ nothing_since step }
     {

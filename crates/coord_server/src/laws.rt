@@ -21,28 +21,28 @@ pub fn instances_are_one<D: Disk, C: Callers>()
     ensures { (most : ℕ) → InstancesAreOne D.model C.talked C.failed most }
 {}
 
-/// An order that gets a reply was just noted with the reply's number and kind, or it is a repeat. The
-/// log of that instance had the step at that number, settled, and answered it with that kind; or the
-/// base kept that reply for it. A desk's notes are in the trail of its instance, each at its number.
+/// If an order gets a reply, the order was just noted with the reply's number and kind, or it is a repeat. In the log
+/// of its instance, the settled step with that number is the order, and was answered with that kind; or the base kept
+/// that reply for the order.
 pub fn replies_name_steps<D: Disk>()
     ensures { RepliesNameSteps D }
 {}
 
-/// Each reply that a desk noted in an instance is the reply of its step in the remaining history: the
-/// trail has the step at the number of the reply, and the step gets a reply of that kind there.
+/// Each reply that a desk noted in an instance is the reply of its step in the remaining history: the trail has the
+/// step at the reply's number, and the step gets a reply of that kind there.
 pub fn notes_are_replies<D: Disk, P: Port>()
     ensures { NotesAreReplies D P }
 {}
 
-/// All replies and views of an instance's desk, over each connection that ended, come from settled
-/// steps: no reply has a greater number, and no view counts more steps as settled.
+/// All replies and views of an instance's desk, over each connection that ended, come from settled steps: no reply
+/// names a later step, and no view counts a later step as settled.
 pub fn returned_is_settled<D: Disk, C: Callers, P: Port>()
     ensures { ReturnedIsSettled D P C.talked }
 {}
 
-/// Everything that an instance's desk replied or showed, over its connections, follows from the settled
-/// steps that it had read at that time: a reply belongs to the order's own step, and a view shows the
-/// world after those steps. The number of those steps never decreases from one answer to the next.
+/// Everything that an instance's desk replied or showed over its connections follows from the settled steps that the
+/// desk had read at that time: a reply belongs to the order's own step, and a view shows the world after those steps.
+/// The number of those steps never decreases from one answer to the next.
 pub fn answered_in_order<D: Disk, C: Callers, P: Port>()
     ensures { AnsweredInOrder D P C.talked }
 {}
@@ -62,21 +62,21 @@ pub fn printed_between<D: Disk, C: Callers, W: Write>()
     ensures { PrintedBetween D.model C.talked C.failed W.contents }
 {}
 
-/// The bound if nodes and links come and go, but no link joins the part with the rest: since every node
-/// of the part was Ready, a server prints at most as many signals of a node of it as resets were
-/// started and links dropped there, plus the node's own resets that were answered Finished.
+/// The bound if nodes and links come and go, but no link joins the part with the rest. After a moment at which every
+/// node of the part was Ready, a server prints at most as many signals of one of its nodes as resets were started and
+/// links dropped in the part, plus the node's own resets that were answered Finished.
 pub fn printed_with_drops<D: Disk, C: Callers, W: Write>()
     ensures { PrintedWithDrops D.model C.talked C.failed W.contents }
 {}
 
-/// A reply to the third step and a view with three settled steps name the third step, and no later one.
-/// The line of that reply does too, as a client reads it.
+/// A reply to the third step and a view with three settled steps name the third step, and no later one. A client that
+/// reads only the reply's line learns the same.
 pub fn return_up_to_third()
     ensures { ReturnUpToThird }
 {}
 
-/// Whatever a crash leaves of an instance's disk opens as the world after the settled steps; if the store
-/// had stopped, it may instead open as the world after some of the steps in doubt as well.
+/// After a crash, the disk of an instance opens as the world after the settled steps. If the store had stopped, it may
+/// also open as the world after some more steps, whose commit is in doubt.
 pub fn instances_leave_steps<D: Disk, P: Port>()
     ensures { InstancesLeaveSteps D P }
 {}

@@ -5,12 +5,11 @@
 //! bound its memory, it does so in instances, each over an engine that is taken apart once it keeps
 //! many steps ([`serve_instances`]).
 //!
-//! `specs/EngineDesk.antt` states the answers of that desk, in terms of the statements about the
-//! engine's calls; `specs/Printed.antt` states the printed lines; `specs/Ending.antt` the remaining
-//! parts of an instance: one history, and a store that has not stopped; and `specs/Instances.antt` how
-//! one instance follows another. The main theorem is `specs/ServerRun.antt`, which `serve_store`
-//! ensures, with the proved answers of an `EngineDesk` as a `Desk`. None of this states that a thread
-//! runs, that a packet arrives, or that anyone is served.
+//! `specs/EngineDesk.antt` states the answers of that desk, by the statements about the engine's calls.
+//! `specs/Printed.antt` states the printed lines. `specs/Ending.antt` states the remaining parts of an instance: one
+//! history, and a store that has not stopped. `specs/Instances.antt` states how one instance follows another. The main
+//! theorem is in `specs/ServerRun.antt`: `serve_store` ensures it, with the proved answers of an `EngineDesk` as a
+//! `Desk`. None of this states that a thread runs, that a packet arrives, or that anyone is served.
 #![tactic(auto)]
 
 mod desk;

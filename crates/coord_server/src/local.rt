@@ -23,11 +23,11 @@ struct Ways {
     gathered: [Vec<Packet>; 8],
 }
 
-/// Carries packets to the workers' channels, and signals to the channel of the thread that prints them.
-/// It gathers packets and hands on those for one worker as one message, so that each worker wakes once.
-/// It gets the resent packets and all signals; a flusher submits the packets of its flights itself
-/// (`SubmittingPort`). It never waits: a packet is lost if memory for it runs out. No clause can
-/// describe the values under its locks, so contracts see nothing of it.
+/// A port that carries packets to the workers' channels, and signals to the channel of the thread that prints them. It
+/// gathers packets, and sends all packets for one worker as one message, so that each worker wakes once. It carries the
+/// resent packets and all signals; a flusher submits the packets of its flights itself (`SubmittingPort`). It never
+/// waits. If memory for a packet runs out, the packet is lost. No clause can describe the values under its locks, so
+/// contracts see nothing of it.
 #[derive(Drop)]
 pub struct LocalPort<R: Wait, O: SignalSource> {
     rt: R,
@@ -88,7 +88,7 @@ fn worker_of(packet: &Packet) -> usize
     usize::from(node.number() % WORKERS)
 }
 
-/// Sends the packets gathered for a worker, if any, and returns the number of lost ones.
+/// Sends the packets gathered for a worker, if any, and returns the number of packets that were lost.
 fn send<R: Wait>(
     rt: &R,
     channels: &[Sender<Vec<Packet>>],
@@ -107,7 +107,7 @@ fn send<R: Wait>(
 }
 
 impl Ways {
-    /// Adds a packet to the gathered ones of the node's worker. Returns false if memory runs out.
+    /// Adds a packet to those gathered for its node's worker. Returns false if memory runs out.
     fn gather(&mut self, packet: Packet) -> bool {
         match self.gathered.get_mut(worker_of(&packet)) {
             Some(packets) => packets.push(packet).is_ok(),
@@ -115,7 +115,7 @@ impl Ways {
         }
     }
 
-    /// Hands on the gathered packets, and returns the number of lost ones.
+    /// Sends the gathered packets to all workers, and returns the number of packets that were lost.
     fn hand_on<R: Wait>(&mut self, rt: &R, alloc: Global) -> u64 {
         let mut lost = 0u64;
         for (worker, gathered) in self.gathered.iter_mut().enumerate() {

@@ -66,7 +66,7 @@ pub fn print_signals<W: Write, O: SignalSource, I: Iterator<Item = Signal<O>>>(
     }
 }
 
-/// Asks the thread that prints for the first line, and waits until it is printed.
+/// The request for the first line: it asks the printing thread for the line, and waits until it is printed.
 #[derive(Drop)]
 pub struct Opening {
     to: Option<Sender<SocketAddr>>,
@@ -74,17 +74,15 @@ pub struct Opening {
 }
 
 impl Opening {
-    /// Drops the request for the first line. The thread that waits for the request continues without
-    /// it.
+    /// Drops the request for the first line. The printing thread, which waits for the request, continues without it.
     pub fn give_up(&mut self)
         ensures { self.new.to ≡ None }
     {
         self.to = None;
     }
 
-    /// Makes the other thread print the address at which the server listens, and after that signals.
-    /// Returns the end of the instance if the address was not printed, for example because no thread
-    /// prints.
+    /// Makes the printing thread print the address at which the server listens, and after that signals. Returns the end
+    /// of the instance if the address was not printed, for example because no thread prints.
     pub fn open<C: Callers, R: Wait>(self, rt: &R, callers: &C) -> Result<(), InstanceEnd>
         ensures unopened { IfErr result (EndsUnopened C.failed callers.now) }
         ensures given_up { self.to ≡ None → IsErr result }
@@ -135,8 +133,8 @@ pub struct Printing<W: Write + Drop, O: SignalSource> {
 
 #[tactic(auto, using(crate::proofs::Starts::printed_none))]
 impl<W: Write + Drop, O: SignalSource> Printing<W, O> {
-    /// Prints the received address, and then the received signals, and returns the printer. Of the
-    /// content of a channel, a clause can state only the invariant of a signal's type.
+    /// Prints the received address, and then the received signals, and returns the printer. A clause can state only the
+    /// signal type's invariant about the content of a channel.
     pub fn print<R: Wait>(self, rt: &R) -> Printed<W>
         ensures printed { IsPrinted W.contents (O.gives result.reader.steps)
             self.printer result.printer }
@@ -173,8 +171,8 @@ impl<W: Write + Drop, O: SignalSource> Printing<W, O> {
     }
 }
 
-/// Records that the printer has printed, since its first state, the address, and signals of steps that
-/// its token has read.
+/// A record that the printer, since its first state, has printed the address, and signals of steps that its token has
+/// read.
 #[derive(Drop)]
 pub struct PrintsFrom<W: Write + Drop, O: SignalSource> {
     pub first: Snapshot<SignalPrinter<W, O>>,
@@ -221,8 +219,8 @@ impl<O: SignalSource> Channels<O> {
     }
 }
 
-/// The two sides of an output: the port for signals with the request for the first line, and the side
-/// of the printing thread.
+/// The two sides of an output. One side is the port for signals, with the request for the first line; the other is the
+/// side of the printing thread.
 #[derive(Drop)]
 pub struct Outlet<R: Wait, W: Write + Drop, O: SignalSource> {
     pub port: LocalPort<R, O>,

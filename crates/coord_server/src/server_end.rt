@@ -23,9 +23,9 @@ pub struct ServerEnd<D: Disk, C, W: Write> {
 }
 
 impl<D: Disk, C, W: Write> ServerEnd<D, C, W> {
-    /// Returns the one fault to report: first a stopped store; then the fault that ended the serving;
-    /// then an output that failed, or that has a signal of a step that is not settled (no call of the
-    /// server leads there). None if the server was closed and nothing failed.
+    /// Returns the one fault to report. A stopped store comes first; then the fault that ended the serving; then an
+    /// output that failed, or that has a signal of a step that is not settled (no call of the server leads there).
+    /// Returns None if the server was closed and nothing failed.
     pub fn fault(&self) -> Option<ServerFault>
         ensures { result ≡ fault_at_end
             (has_stopped self.now.closed.store) self.now.served
@@ -51,8 +51,8 @@ impl<D: Disk, C, W: Write> ServerEnd<D, C, W> {
 }
 
 impl<D: Disk, C: Callers + Drop, W: Write + Drop> ServerEnd<D, C, W> {
-    /// Returns the parts of the last engine, together with the fault to report if there is one, and the
-    /// printer. There is no fault only if a line closed the server and its store has not stopped.
+    /// Returns the parts of the last engine, with the fault to report if there is one, and the printer. There is no
+    /// fault only if a line closed the server and its store has not stopped.
     pub fn into_closed(self) -> (Result<Closed<D>, (ServerFault, Closed<D>)>, Printer<W>)
         ensures closed { IfOk result.0 (λ closed. (closed ≡ self.closed) ×
             (fault_at_end (has_stopped self.closed.store) self.served

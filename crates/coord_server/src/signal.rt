@@ -10,8 +10,8 @@ use std::marker::{Brand, Model, PhantomData};
 /// Names a server by its history: the server prints only signals that the settled steps of that history
 /// send.
 ///
-/// The code that creates a port and an output is generic over this name, and is called with `Brand`.
-/// That picks the server's history, and the signals of its steps.
+/// The code that creates a port and an output is generic over this name, and is called with `Brand`. `Brand` picks the
+/// server's history, and the signals of its steps.
 pub trait SignalSource {
     ghost use Rattle.std.specs.Prelude.{ℕ, List, ◌++◌};
     ghost use Rattle.atomic_table.specs.Seated.{TableId};
@@ -40,9 +40,9 @@ impl SignalSource for Brand {
     ghost lasts = { λ _ _ _ _ _ is. is };
 }
 
-/// A signal: the step with this number has ended a reset at this node, and this epoch has begun. The
-/// type guarantees that the server that `O` names may print it, because its step is among the settled
-/// steps that the reader has read. So this is known of each signal that arrives over a channel.
+/// A signal: the step with this number has ended a reset at this node, and this epoch has begun. The type guarantees
+/// that the server that `O` names may print the signal, because its step is among the settled steps that the reader has
+/// read. So every signal that arrives over a channel may be printed.
 #[derive(Drop)]
 pub struct Signal<O: SignalSource> {
     reader: LogPrefix,

@@ -46,7 +46,7 @@ pub struct Begun<L: Origin> {
     pub ghost eight: { length packets.items ≡ 8 },
 }
 
-/// The results of all threads: all shares, the desk's first, the desk's seen count, and the token that
+/// The results of all threads: all shares, of which the desk's is the first; the desk's seen count; and the token that
 /// has read the steps from which the desk's answers follow.
 #[derive(Drop)]
 pub struct JoinedThreads<L: Count, C> {
@@ -66,10 +66,9 @@ struct Crew<L: Count> {
     ghost eight: { vec_len workers ≡ 8 },
 }
 
-/// Starts a flusher, and a worker on each channel. Once all of them run, opens the output, sends the
-/// packets again that may have been lost, and serves the callers until the instance is old. Returns an
-/// error if a thread could not be started: then nothing was printed and nobody was served, and the
-/// callers and the opening are returned unchanged.
+/// Starts a flusher, and a worker on each channel. Once all of them run, opens the output, sends the packets again that
+/// may have been lost, and serves the callers until the instance is old. Returns an error if a thread could not be
+/// started. Then nothing was printed and nobody was served, and the callers and the opening are returned unchanged.
 pub fn run<
     D: Disk + Send,
     L: Origin + Send + Sync,
@@ -193,8 +192,8 @@ fn start<
     Some(Crew { flushing, workers })
 }
 
-/// Starts a flusher, with this share, that submits the packets of its flights itself. Returns None if
-/// no thread can be started.
+/// Starts a flusher with this share. The flusher submits the packets of its flights itself. Returns None if no thread
+/// can be started.
 fn start_flusher<
     's,
     'r: 's,
@@ -278,8 +277,8 @@ fn start_worker<
         .ok()
 }
 
-/// Opens the output, and serves the callers by a desk with this share while the crew's threads run.
-/// Returns the share, the desk's seen count, its token, and the end of the serving.
+/// Opens the output, and serves the callers through a desk with this share while the crew's threads run. Returns the
+/// share, the desk's seen count, its token, and the end of the serving.
 fn serve_over<D: Disk, L: Origin, C: Callers, O: SignalSource, R: Wait>(
     setting: &Setting<'_, R, O>,
     engine: &Engine<D, L>,
@@ -320,9 +319,8 @@ fn open<C: Callers, R: Wait>(
     }
 }
 
-/// Once the output is open, sends the packets again that may have been lost, and serves the callers
-/// until the instance is old. Returns the reason of the end; for example, that the output could not be
-/// opened.
+/// Once the output is open, sends the packets again that may have been lost, and serves the callers until the instance
+/// is old. Returns why the serving ended; for example, because the output could not be opened.
 fn serve_clients<D: Disk, L: Origin, C: Callers, P: Port, O: SignalSource, R: Wait>(
     setting: &Setting<'_, R, O>,
     opened: Result<(), InstanceEnd>,
@@ -350,8 +348,8 @@ fn serve_clients<D: Disk, L: Origin, C: Callers, P: Port, O: SignalSource, R: Wa
     serve_until_old(setting, callers, desk)
 }
 
-/// Serves the callers by a desk without notes, until a line closes it or the instance is old. Returns
-/// the reason of the end.
+/// Serves the callers through a desk without notes, until a line closes it or the instance is old. Returns why the
+/// serving ended.
 fn serve_until_old<D: Disk, L: Origin, C: Callers, P: Port, O: SignalSource, R: Wait>(
     setting: &Setting<'_, R, O>,
     callers: &mut C,

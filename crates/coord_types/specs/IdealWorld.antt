@@ -3,8 +3,8 @@ use Rattle.std.specs.Prelude.{ℕ, Bool, List}
 use Rattle.coord_types.specs.NodeState.{NodeState}
 use Rattle.coord_types.specs.declared.messages.Msg.{Msg}
 
--- the version of the world, the state of each node, which nodes are linked, and the messages in transit from one node
--- to another, oldest first
+-- an ideal world: its version, the state of each node, which nodes are linked, and the messages in transit from one node to
+-- another, oldest first
 pub record Ideal : Type 0 where
   pub version : ℕ
   pub state : ℕ → NodeState

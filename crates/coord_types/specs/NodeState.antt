@@ -6,12 +6,12 @@ use Rattle.std.specs.Coded.{Coded, code_by, coded×, coded_ℕ, coded_option}
 use Rattle.coord_types.specs.declared.messages.Mode.{Mode}
 use Rattle.coord_types.specs.declared.messages.Mode.TheVariants.{Ready, Abort, Converge}
 
--- `pend` is the set of neighbours from which the node awaits an acknowledgement, and `parent` the neighbour to which it
--- owes its own acknowledgement. `distance` is the number of links between the node and the node that began its reset;
--- it is 0 for a Ready node, and for every node in a world of version 1. `neighbours` is part of the state so that a
--- reset rule is a function of one state; the type `World` guarantees that they are exactly the nodes to which it has
--- lanes (`linked` in coord_world's Ranges). `epoch` counts the node's signals; `confirmed` is the last epoch that its
--- service is known to have acted on
+-- `pend` is the set of neighbours from which the node awaits an acknowledgement, and `parent` the neighbour to which the node
+-- owes its own acknowledgement. `distance` is the number of links between the node and the node that began its reset; it is 0 for
+-- a Ready node, and for every node in a world of version 1. `neighbours` is part of the state so that a reset rule is a function
+-- of one state; the type `World` guarantees that the neighbours are exactly the nodes to which the node has lanes (`linked` in
+-- coord_world's Ranges). `epoch` counts the node's signals; `confirmed` is the last epoch that the node's service is known to
+-- have acted on
 pub record NodeState : Type 0 where
   pub group : ℕ
   pub mode : Mode

@@ -44,8 +44,8 @@ pub enum Msg {
     /// number of links between the receiver and the node that began the reset. In version 1 it
     /// carries 0.
     Abort(u64),
-    /// The sender acknowledges an Abort. If the receiver is its parent, every node to which the
-    /// sender passed the reset has acknowledged it too.
+    /// The sender acknowledges an Abort. If the receiver is the sender's parent, every node to which the sender passed
+    /// the reset on has acknowledged it too.
     Ack,
     /// The reset is over.
     Ready,

@@ -7,8 +7,7 @@ ghost use Rattle.coord_types.specs.NodeMask.{nodes_of, mask_of, IsMaskable};
 use crate::identifiers::NodeId;
 use std::marker::Model;
 
-/// A set of nodes, stored as a mask: node k is bit k - 1. Contracts see it as the set of their
-/// numbers.
+/// A set of nodes, stored as a mask: node k is bit k - 1. Contracts see it as the set of the nodes' numbers.
 #[derive(Clone, Copy, Debug)]
 pub struct NodeSet {
     bits: u64,

@@ -114,7 +114,7 @@ impl fmt::Display for Kind {
     }
 }
 
-/// The reply to a step: its number, counted from 1, and its kind.
+/// The reply to a step: the step's number, counted from 1, and the kind of the reply.
 #[derive(Clone, Copy, Debug, PartialEq, Eq)]
 pub struct Reply {
     pub step: u64,

@@ -30,7 +30,7 @@ pub fn next_keeps_legal()
     ensures { NextKeepsLegal }
 {}
 
-/// A step changes the view as the ideal step does.
+/// A step changes the view as the ideal step does, if on each lane at most one message is taken and not yet cleared.
 #[tactic(auto, using(crate::proofs::View::view_next))]
 pub fn view_of_next()
     ensures { ViewOfNext }
@@ -56,8 +56,8 @@ pub fn version_1_asks_no_distance()
     ensures { Version1AsksNoDistance }
 {}
 
-/// A legal world of version 1 in which every node is Ready is a legal world of version 2 once its
-/// version is changed: its distances are 0.
+/// A legal world of version 1 in which every node is Ready stays legal if its version is changed to 2, because all its
+/// distances are 0.
 pub fn raised_is_legal()
     ensures { RaisedIsLegal }
 {}
@@ -78,23 +78,22 @@ pub fn rows_give_world()
     ensures { RowsGiveWorld }
 {}
 
-/// A list of steps in turn begins and ends with every node Ready, adds or removes no node and no
-/// link, and starts exactly one reset. Then each node that links connect with its initiator is
-/// signalled exactly once, and any other signal is of a step that is answered Finished.
+/// A list of steps in turn begins and ends with every node Ready, adds or removes no node and no link, and starts
+/// exactly one reset. Then each node that links connect with the initiator is signalled exactly once, and every other
+/// signal comes from a step that is answered Finished.
 pub fn once_per_wave()
     ensures { OncePerWave }
 {}
 
-/// If a reset of a node is accepted, whatever the reply, and the node is Ready at the end of the
-/// steps, then it is signalled by that step or a later one. The steps may add and remove nodes and
-/// links.
+/// If a reset of a node is accepted, whatever the reply, and the node is Ready at the end of the steps, then that step
+/// or a later one signals the node. The steps may add and remove nodes and links.
 pub fn asked_is_signalled()
     ensures { AskedIsSignalled }
 {}
 
-/// Take a part of the nodes that no link leaves, and steps that begin and end with every node of it
-/// Ready and add or remove no node and no link. Each node that links connect with the node of a
-/// started reset is signalled at least once, however many resets were started.
+/// No link leaves a part of the nodes, every node of the part is Ready before and after the steps, and the steps add or
+/// remove no node and no link. Then each node that links connect with the node of a reset started in the part is
+/// signalled at least once, however many resets were started.
 pub fn once_or_more()
     ensures { OnceOrMore }
 {}
@@ -106,10 +105,9 @@ pub fn no_more_than_started()
     ensures { NoMoreThanStarted }
 {}
 
-/// Every node of a part that no link leaves is Ready at first. The steps may add and remove nodes
-/// and links, but never link a node of the part with a node outside it. Then a node of the part is
-/// signalled at most as often as resets were started in the part, links of it were dropped, and
-/// resets of the node were answered Finished, in total.
+/// Every node of a part that no link leaves is Ready at first. The steps may add and remove nodes and links, but never
+/// link a node of the part with a node outside it. Then a node of the part is signalled at most as often, in total, as
+/// resets were started in the part, links of the part were dropped, and resets of the node were answered Finished.
 pub fn no_more_with_drops()
     ensures { NoMoreWithDrops }
 {}
@@ -120,20 +118,20 @@ pub fn alone_as_finished()
     ensures { AloneAsFinished }
 {}
 
-/// Under the conditions of `once_or_more`, if exactly one reset was started in the part, each node
-/// that links connect with its initiator is signalled exactly once.
+/// Under the conditions of `once_or_more`, if exactly one reset was started in the part, each node that links connect
+/// with the initiator is signalled exactly once.
 pub fn once_if_one_started()
     ensures { OnceIfOneStarted }
 {}
 
-/// Under the conditions of `once_or_more`, either all or none of the nodes that links connect with
-/// each other are signalled.
+/// Under the conditions of `once_or_more`, of the nodes that links connect with each other, either all or none are
+/// signalled.
 pub fn all_or_none()
     ensures { AllOrNone }
 {}
 
-/// Under the conditions of `once_or_more`, each node that links connect with a node of the part
-/// whose reset was accepted, whatever the reply, is signalled at least once.
+/// Under the conditions of `once_or_more`, if a reset of a node of the part was accepted, whatever the reply, each node
+/// that links connect with this node is signalled at least once.
 pub fn asked_reaches_all()
     ensures { AskedReachesAll }
 {}
@@ -144,8 +142,8 @@ pub fn epochs_count_signals()
     ensures { EpochsCountSignals }
 {}
 
-/// Under the conditions of `once_or_more`, either all or none of the nodes that links connect with
-/// each other enter a new epoch.
+/// Under the conditions of `once_or_more`, of the nodes that links connect with each other, either all or none enter a
+/// new epoch.
 pub fn epochs_rise_together()
     ensures { EpochsRiseTogether }
 {}
@@ -157,8 +155,8 @@ pub fn bound_between()
     ensures { BoundBetween }
 {}
 
-/// The bound of `no_more_with_drops` holds for the steps of a history after a moment at which every
-/// node of a part is Ready.
+/// The bound of `no_more_with_drops` holds for the steps of a history after a moment at which every node of a part is
+/// Ready, under the same conditions.
 pub fn bound_with_drops()
     ensures { BoundWithDrops }
 {}
@@ -168,14 +166,13 @@ pub fn trail_keeps_worlds()
     ensures { TrailKeepsWorlds }
 {}
 
-/// The first steps of a trail are a trail, and the remaining steps are a trail from the world after
-/// them.
+/// The first n steps of a trail are a trail, and the remaining steps are a trail from the world after them.
 pub fn trail_is_cut()
     ensures { TrailIsCut }
 {}
 
-/// A trail followed by a step is a trail, if the step is fresh over the trail's world and the
-/// settled world is the world after some of the trail's first steps.
+/// A trail followed by a step is a trail, if the step is fresh over the trail's world, with the world after some of the
+/// trail's first steps as the settled world.
 pub fn trail_goes_on()
     ensures { TrailGoesOn }
 {}
@@ -198,8 +195,7 @@ pub fn fresh_where_released()
     ensures { FreshWhereReleased }
 {}
 
-/// A release stays: a step that is not refused as `NotReleased` gets the same verdict after more
-/// steps are settled.
+/// A release stays: if a step is not refused as `NotReleased`, it gets the same verdict after more steps are settled.
 pub fn release_stays()
     ensures { ReleaseStays }
 {}
@@ -214,13 +210,14 @@ pub fn released_grows()
     ensures { ReleasedGrows }
 {}
 
-/// A packet that is released from a world of the trail is released from its base.
+/// A packet that is released when a world of the trail is taken as the base of the later steps is also released from
+/// the trail's own base.
 pub fn released_from_base()
     ensures { ReleasedFromBase }
 {}
 
-/// The kept-reply law: the reply that is kept for a client is the reply to its last order, or the
-/// reply that the base keeps if there is no order of the client.
+/// The kept-reply law: a world keeps the reply to a client's last order, or the reply that the base keeps if the steps
+/// have no order of the client.
 #[tactic(auto, using(crate::proofs::release::KeptReplies::kept_reply_law))]
 pub fn kept_reply_law()
     ensures { KeptReplyLaw }

@@ -10,14 +10,14 @@ pub fn stored_run()
     ensures { StoredRun }
 {}
 
-/// The steps after the nodes are linked are a single wave from the first node.
+/// The steps after the nodes are linked form a single wave from the first node.
 #[tactic(auto, using(crate::proofs::waves::StoredWave::stored_is_wave))]
 pub fn stored_wave()
     ensures { StoredWave }
 {}
 
-/// If both ends of a link start a reset, each node may be signalled once; if one end starts another
-/// reset before the other end is Ready again, each may be signalled twice.
+/// If both ends of a link start a reset, each node may be signalled once. If one end starts another reset before the
+/// other end is Ready again, each node may be signalled twice.
 #[tactic(auto, using(crate::proofs::waves::WorkedOverlaps::overlaps_compute))]
 pub fn overlaps()
     ensures { Overlaps }
@@ -31,8 +31,7 @@ pub fn not_all_after_each()
     ensures { NotAllAfterEach }
 {}
 
-/// Two resets and a dropped link on three nodes, each linked with both others: one node is
-/// signalled three times.
+/// Two resets and a dropped link on three nodes, each linked with both others. One node is signalled three times.
 #[tactic(auto, using(crate::proofs::waves::WorkedDrop::drops_count))]
 pub fn drops_count()
     ensures { DropsCount }
@@ -62,13 +61,13 @@ pub fn drop_in_converge()
     ensures { DropInConverge }
 {}
 
-/// A wave of version 2 along a path of three nodes, the first link of which is dropped.
+/// A wave of version 2 along a path of three nodes, whose first link is dropped.
 #[tactic(auto, using(crate::proofs::WorkedRuns::distances_compute))]
 pub fn distances()
     ensures { Distances }
 {}
 
-/// Two waves of version 2 that meet on a path of three nodes, until the signals.
+/// Two waves of version 2 that meet on a path of three nodes, up to the signals of all three.
 #[tactic(auto, using(crate::proofs::WorkedRuns::two_waves_compute))]
 pub fn two_initiators_with_distances()
     ensures { TwoInitiatorsWithDistances }

@@ -1,5 +1,5 @@
-//! The tables of a world: its step count, its nodes, its links and the clients' last orders. Their
-//! type does not guarantee the ranges of a world.
+//! The tables of a world: its step count, its nodes, its links and the clients' last orders. The type `Tables` does not
+//! guarantee the ranges of a world.
 
 ghost use Rattle.std.specs.Prelude.{◌≡◌, IfOk, IsTrue, ◌↔◌};
 ghost use Rattle.std.specs.Option.{option_copied};

@@ -91,7 +91,7 @@ impl World {
         }
     }
 
-    /// Returns the world with these rows.
+    /// Returns the world with these rows. Errors: out of memory.
     pub fn assemble(alloc: Global, parts: Parts) -> Result<Self, AllocError>
         requires { RowsFit (listed parts) }
         ensures rows { IfOk result (λ world. rows_of world ≡ listed parts) }
@@ -101,7 +101,7 @@ impl World {
         Ok(World { alloc, tables })
     }
 
-    /// Returns the rows of the world, each list in ascending order.
+    /// Returns the rows of the world, each list in ascending order. Errors: out of memory.
     pub fn parts(&self) -> Result<Parts, AllocError>
         ensures rows { IfOk result (λ parts. listed parts ≡ rows_of self.now) }
         ensures fit { IfOk result (λ parts. RowsFit (listed parts)) }
@@ -130,7 +130,7 @@ impl World {
         let _ = &self.tables;
     }
 
-    /// Returns a copy of this world.
+    /// Returns a copy of this world. Errors: out of memory.
     pub fn copy(&self) -> Result<World, AllocError>
         ensures { IfOk result (λ copy. copy ≡ self.now) }
     {
@@ -182,14 +182,12 @@ impl World {
         self.tables.sessions.get(client).copied()
     }
 
-    /// Returns whether this world accepts a step, given the settled world. The verdict is Repeat
-    /// with the kept reply if the step is a client's last order, sent again; an error is the first
-    /// refusal that applies.
+    /// Returns the verdict on a step, given the settled world: Fresh if this world accepts the step, or Repeat with the
+    /// kept reply if the step is a client's last order, sent again. Errors: the first refusal that applies.
     pub fn judge(&self, settled: &World, step: &Step) -> Result<Verdict, Refusal>
         ensures value { result ≡ accepts self.now settled.now step.now }
 
-        // If the verdict is Fresh, it has the kind of the reply, and this world accepts the step
-        // over itself too.
+        // A step with the verdict Fresh will get a reply of this kind, and this world accepts the step over itself too.
         ensures fresh { (k : Kind) → result ≡ Ok (Verdict.Fresh k) →
             IsFresh self.now settled.now step.now }
         ensures itself { (k : Kind) → result ≡ Ok (Verdict.Fresh k) →
@@ -200,7 +198,8 @@ impl World {
         self.tables.judge(&settled.tables, step)
     }
 
-    /// Carries out a step that was judged fresh. Its outputs may be released once it is settled.
+    /// Carries out a step that was judged fresh. The outputs may be released once the step is settled. Errors: out of
+    /// memory; the world is then unchanged.
     pub fn apply(&mut self, step: &Step) -> Result<StepOutcome, AllocError>
         requires legal { Legal self.old }
         requires fresh { IsFresh self.old self.old step.now }
@@ -216,9 +215,9 @@ impl World {
         Ok(outcome)
     }
 
-    /// Returns the packets that may have been lost and are sent again: for each lane, in ascending
-    /// order, the data packet of its front, and then the receipt of the front if the other end has
-    /// taken it.
+    /// Returns the packets that may have been lost and are sent again. For each lane, in ascending order, these are the
+    /// data packet of its front, and then the receipt of the front if the other end has taken the front. Errors: out of
+    /// memory.
     pub fn resend(&self) -> Result<Vec<Output>, AllocError>
         ensures { IfOk result (λ outputs. outputs.items ≡ again self.now) }
     {

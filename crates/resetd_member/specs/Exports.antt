@@ -60,7 +60,7 @@ pub record IsTagGiven (show : List ℕ) (node : ℕ) (file word room : List ℕ)
   pub is : IsTagged show node file word made
   pub given : IsGiven made room size status
 
--- the status, and the order book after an order was to be recorded: if it was not, the book is unchanged
+-- the status and the order book of a call that records an order; if the order was not recorded, the book is unchanged
 abbrev pub IsKeptAs : Orders → Result Orders Fault → Orders → ℕ → Type 0
 IsKeptAs old (Ok written) new status = (status ≡ 0) × (new ≡ written)
 IsKeptAs old (Err fault) new status = (status ≡ status_of fault) × (new ≡ old)

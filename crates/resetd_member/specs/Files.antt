@@ -1,4 +1,4 @@
--- The other contents of a start's file: what it says in one boot of the machine, and the fence of the start.
+-- Other uses of a start's file: what the file says in one boot of the machine, and the fence of the start.
 use Rattle.std.specs.Prelude.{◌≡◌, ◌≤◌, ◌<◌, ◌⊎◌, ℕ, ◌+◌, ◌*◌, ◌^◌, List, [], Option, Some, None, Result, Ok, Err, String, string_bytes}
 use Rattle.std.specs.declared.alloc.Global.{Global}
 use Rattle.std.specs.declared.vec.Vec.{Vec}
@@ -10,7 +10,7 @@ use Rattle.coord_kept.specs.declared.start.Start.{Start}
 use Rattle.resetd_member.specs.declared.status.Fault.{Fault}
 use Rattle.resetd_member.specs.declared.status.Fault.TheVariants.{OutOfMemory, BadStart, BadNumber, NoText}
 
--- the text of the start that the file says in this boot, in the form that is valid in any boot
+-- `text` is the start that the file states in this boot, in the form that is valid in any boot
 pub record IsCarriedText (node : ℕ) (file boot text : List ℕ) : Type 0 where
   pub start : Start
   pub read : carried_in boot node file ≡ Some (seen start)
@@ -35,7 +35,8 @@ IsLoaded node epoch boot (Err _) = ⊥
 abbrev pub Brought : Type 0
 Brought = ℕ × String Global
 
--- the count of a fence; the counts of a later generation are greater than all counts of an earlier one
+-- the count of a fence; for 1 to 2^40 settled steps, the counts of a later generation are greater than all counts of an earlier
+-- one
 abbrev pub fence_count : ℕ → ℕ → ℕ
 fence_count generation settled = generation * 2 ^ 40 + settled
 
@@ -44,7 +45,7 @@ IsFenceBy word generation (Some first) (Some settled) fence = (fence.0 ≡ fence
 IsFenceBy word generation (Some first) None fence = (fence.0 ≡ 0) × (string_bytes fence.1 ≡ [])
 IsFenceBy word generation None settled fence = (fence.0 ≡ 0) × (string_bytes fence.1 ≡ [])
 
--- the number of settled steps is greater than a world can have
+-- the start's file states more settled steps than a world can have
 abbrev pub IsTooMany : Option ℕ → Type 0
 IsTooMany None = ⊥
 IsTooMany (Some settled) = 2 ^ 40 < settled

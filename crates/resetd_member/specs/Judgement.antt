@@ -1,4 +1,4 @@
--- The action that a view requires of the member of a node, with the texts to store in its files.
+-- The action that a view requires of a node's member, and the texts to store in the member's files.
 use Rattle.std.specs.Prelude.{◌≡◌, ◌<◌, ℕ, ◌==◌, ◌++◌, false, List, [], length, take, Option, Some, None, Result, Ok, Err, if◌then◌else◌, find, is_some, String, string_bytes}
 use Rattle.std.specs.declared.alloc.Global.{Global}
 use Rattle.std.specs.Option.{option_map}
@@ -30,7 +30,7 @@ use Rattle.resetd_member.specs.Status.{due_number}
 
 -- ---- the shown view
 
--- the line answers `show`, and shows this row, party and number of settled steps to the member of the node
+-- the line is an answer to `show`, and shows this row, party and number of settled steps to the node's member
 pub record IsShown (show : List ℕ) (node : ℕ) (row : Row) (party : List Entry) (settled : ℕ) : Type 0 where
   pub view : Shown
   pub own : NodeView
@@ -39,13 +39,13 @@ pub record IsShown (show : List ℕ) (node : ℕ) (row : Row) (party : List Entr
   pub read : IsReadOf view node own row party
   pub settled_is : settled ≡ view.settled
 
--- the line answers `show`, but the node does not exist
+-- the line is an answer to `show`, but the node does not exist in it
 pub record IsAbsent (show : List ℕ) (node : ℕ) : Type 0 where
   pub view : Shown
   pub shown : shown_in show ≡ Ok view
   pub absent : find (is_of node) view.nodes ≡ None
 
--- why a line shows the node's member no view
+-- why a line shows no view to the node's member
 abbrev pub IsUnseen : List ℕ → ℕ → Fault → Type 0
 IsUnseen show node OutOfMemory = Unit {0}
 IsUnseen show node BadLine = shown_in show ≡ Err NoAnswer
@@ -63,13 +63,13 @@ IsLooked show node (Err fault) = IsUnseen show node fault
 
 -- ---- the due action
 
--- the epoch of the present work, if it is the one that the file of the start says
+-- the epoch of the present work, if the start's file states the same epoch
 abbrev pub begun_at : Option ℕ → Option ℕ → Option ℕ
 begun_at None work = None
 begun_at (Some epoch) None = None
 begun_at (Some epoch) (Some e) = if epoch == e then Some epoch else None
 
--- the shown entries among those of the party with which the start first talked
+-- the entries of the shown party that are also in the party with which the start first talked; None if the start has not talked
 abbrev pub first_known : Start → List Entry → Option (List Entry)
 first_known kept party = option_map (λ lines. known lines.items party) kept.party
 
@@ -80,14 +80,14 @@ start_after node begun lines settled Drops = start_text node None None None
 start_after node begun lines settled NotesAlone = start_text node begun (Some lines) (Some settled)
 start_after node begun lines settled NotesFirst = start_text node begun (Some lines) (Some settled)
 
--- the line to add to the history with this change, or nothing; `line` is the line of the shown party
+-- the line to add to the history with this change, or an empty line; `line` is the line of the shown party
 abbrev pub line_of_change : List ℕ → Change → List ℕ
 line_of_change line Keeps = []
 line_of_change line Drops = []
 line_of_change line NotesAlone = []
 line_of_change line NotesFirst = line
 
--- the judgement for this view, given the stored start and the result of looking up the party in the history
+-- the judgement for this view, given the stored start and the result of looking up the shown party in the history
 pub record IsDueBy (node : ℕ) (row : Row) (party : List Entry) (lines : List (String Global)) (settled : ℕ) (shown_line : List ℕ) (kept : Start) (found : Found) (work : Option ℕ) (j : Judgement) : Type 0 where
   pub due : j.due ≡ due_of (begun_at kept.begun work) (first_known kept party) found.has row party
   pub epoch : j.epoch ≡ row.epoch

@@ -25,7 +25,7 @@ due_number Wait = 2
 due_number Begin = 3
 due_number Reset = 4
 
--- the text is at the beginning of the buffer, or the buffer is too small for it
+-- the text is at the beginning of the buffer; a fault says that the buffer is too small for the text
 abbrev pub IsPut : List ℕ → List ℕ → Result Unit Fault → Type 0
 IsPut text room (Ok done) = take (length text) room ≡ text
 IsPut text room (Err fault) = (fault ≡ NoRoom) × (length room < length text)

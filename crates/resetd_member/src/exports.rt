@@ -30,8 +30,8 @@ fn work_of(work: Work) -> Option<u64>
     }
 }
 
-/// Judges a line that answers `show`, for the member of a node, from the contents of its files and
-/// the epoch of its present work. Writes the texts to store to `out`.
+/// Judges the answer to `show` for the member of a node, given the contents of the member's files and the epoch of its
+/// present work. Writes the texts to store to `out`. Returns the status.
 #[unsafe(no_mangle)]
 pub extern "C" fn resetd_judge(
     alloc: Global,
@@ -54,8 +54,8 @@ pub extern "C" fn resetd_judge(
     }
 }
 
-/// Writes the text for the file of the start once the common start for an epoch is loaded. The text
-/// is valid in any boot.
+/// Writes the text to store in the file of the start once the common start for an epoch is loaded. The text is valid in
+/// any boot. Returns the status.
 #[unsafe(no_mangle)]
 pub extern "C" fn resetd_begun(
     alloc: Global,
@@ -73,8 +73,8 @@ pub extern "C" fn resetd_begun(
     give(text, out, length)
 }
 
-/// Writes the text for the file of the start once the common start for an epoch is loaded, in a
-/// form that is valid only in the boot with this name.
+/// Writes the text to store in the file of the start once the common start for an epoch is loaded. The text is valid
+/// only in the boot with this name. Returns the status.
 #[unsafe(no_mangle)]
 pub extern "C" fn resetd_loaded(
     alloc: Global,
@@ -89,8 +89,8 @@ pub extern "C" fn resetd_loaded(
     give(loaded(alloc, node, epoch, boot), out, length)
 }
 
-/// Writes what the file of a start says in the boot with this name, as the text that `resetd_judge`
-/// takes.
+/// Writes what the file of a start says in the boot with this name, as the text that `resetd_judge` takes. Returns the
+/// status.
 #[unsafe(no_mangle)]
 pub extern "C" fn resetd_carried(
     alloc: Global,
@@ -105,8 +105,8 @@ pub extern "C" fn resetd_carried(
     give(carried(alloc, node, start, boot), out, length)
 }
 
-/// Writes the fence of the start in a file: its count and its tag. The tag is empty if the start
-/// has no fence yet.
+/// Writes the fence of the start in a file: its count and its tag. The tag is empty if the start has no fence yet.
+/// Returns the status.
 #[unsafe(no_mangle)]
 pub extern "C" fn resetd_fence(
     alloc: Global,
@@ -129,8 +129,8 @@ pub extern "C" fn resetd_fence(
     }
 }
 
-/// Writes the tag of a start that is due to talk. `start` is the content of its file after the
-/// judgement was stored; `word` is the first line of each digest, or empty if the group has none.
+/// Writes the tag of a start that is due to talk. `start` is the content of its file after the judgement was stored.
+/// `word` is the first line of each digest, or empty if the group has no word. Returns the status.
 #[unsafe(no_mangle)]
 pub extern "C" fn resetd_tag(
     alloc: Global,
@@ -162,7 +162,7 @@ pub extern "C" fn resetd_are_parted(own: &[u8], other: &[u8]) -> bool
     coord_kept::are_parted(own, other)
 }
 
-/// Records an order under the next number.
+/// Records an order under the next number. Returns the status.
 #[unsafe(no_mangle)]
 pub extern "C" fn resetd_write_down(orders: &mut Orders, order: &Order) -> u32
     ensures { IsWrittenAs orders.old order.now orders.new result }
@@ -176,8 +176,8 @@ pub extern "C" fn resetd_write_down(orders: &mut Orders, order: &Order) -> u32
     }
 }
 
-/// Writes the line to send for the order in hand, for the first time or again. It is empty if no
-/// order is in hand.
+/// Writes the line to send for the order in hand, for the first time or again. The line is empty if no order is in
+/// hand. Returns the status.
 #[unsafe(no_mangle)]
 pub extern "C" fn resetd_order_line(
     alloc: Global,
@@ -191,7 +191,7 @@ pub extern "C" fn resetd_order_line(
     give(line_for(alloc, *orders, client), out, length)
 }
 
-/// Handles the answer to the line that was sent last, and writes its meaning.
+/// Handles the answer to the line that was sent last, and writes the answer's meaning. Returns the status.
 #[unsafe(no_mangle)]
 pub extern "C" fn resetd_hear(
     alloc: Global,

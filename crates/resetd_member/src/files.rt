@@ -13,8 +13,8 @@ use std::alloc::{AllocError, Global};
 /// One more than the greatest generation.
 const GENERATIONS: u32 = 8_388_608;
 
-/// The maximum number of steps of a world: counts of a later generation are greater than all counts
-/// of an earlier one.
+/// The maximum number of steps of a world. A fence's count is this number times its generation, plus its settled steps,
+/// so a later generation has greater counts.
 const COUNTS: u64 = 1_099_511_627_776;
 
 /// Returns the text of the file of this start, in the form that is valid in any boot.
@@ -33,7 +33,7 @@ fn text_with(alloc: Global, node: u8, start: &Start) -> Result<String, AllocErro
     }
 }
 
-/// Returns what a file says in this boot, as the text that a judgement takes.
+/// Returns what a start's file says in this boot, as the text that a judgement takes.
 pub(crate) fn carried(alloc: Global, node: u8, file: &[u8], boot: &[u8]) -> Result<String, Fault>
     ensures { IsCarried node file.now boot.now result }
 {

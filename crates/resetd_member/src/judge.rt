@@ -56,7 +56,7 @@ pub struct Judged {
     pub history_size: usize,
 }
 
-/// Returns what a line that answers `show` shows to the member of a node.
+/// Returns the part of the view that the member of a node sees. `show` is a line that answers `show`.
 pub(crate) fn look_at(alloc: Global, show: &str, node: NodeId) -> Result<Sight, Fault>
     ensures { IsLooked show.now node result }
 {
@@ -75,7 +75,7 @@ pub(crate) fn look_at(alloc: Global, show: &str, node: NodeId) -> Result<Sight, 
     }
 }
 
-/// Returns the epoch of the present work, if it is the one that the file of the start says.
+/// Returns the epoch of the present work, if the start's file states the same epoch.
 fn begun_at(kept: Option<u64>, work: Option<u64>) -> Option<u64>
     ensures { result ≡ begun_at kept work }
 {
@@ -133,8 +133,7 @@ fn start_after(
     }
 }
 
-/// Returns the line to add to the history with a change, or an empty one. `line` is the line of the
-/// shown party.
+/// Returns the line to add to the history with a change, or an empty line. `line` is the line of the shown party.
 fn line_after(alloc: Global, line: &str, change: Change) -> Result<String, AllocError>
     ensures { IfOk result (λ text. string_bytes text ≡ line_of_change line.now change) }
 {
@@ -243,7 +242,7 @@ pub(crate) fn judge(
     judged
 }
 
-/// Returns the tag of the start in a file for the view that a line shows; empty if it has none.
+/// Returns the tag of the start in a file, given the view that a line shows; empty if the start has no tag.
 pub(crate) fn tag(
     alloc: Global,
     show: &str,
@@ -266,7 +265,7 @@ pub(crate) fn tag(
     Ok(tag?)
 }
 
-/// Returns a text followed by another one.
+/// Returns a text followed by another text.
 fn joined(mut text: String, behind: &str) -> Result<String, AllocError>
     ensures { IfOk result (λ both. string_bytes both ≡ string_bytes text ++ behind.now) }
 {

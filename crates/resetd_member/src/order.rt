@@ -41,7 +41,7 @@ pub(crate) fn command_of(order: Order) -> Option<Command>
     }
 }
 
-/// Returns the numbers of an order.
+/// Returns a command as an order, in numbers.
 pub(crate) fn order_of(command: &Command) -> Order
     ensures { result ≡ order_of command.now }
 {
@@ -61,7 +61,7 @@ fn numbers(op: u8, a: u8, b: u8, epoch: u64) -> Order
     Order { op, a, b, epoch }
 }
 
-/// Returns the book with these numbers, or None if one of them is out of range.
+/// Returns the order book with these numbers, or None if one of them is out of range.
 pub(crate) fn kept_of(orders: Orders) -> Option<Kept>
     ensures { result ≡ kept_of orders }
 {
@@ -77,7 +77,7 @@ pub(crate) fn kept_of(orders: Orders) -> Option<Kept>
     })
 }
 
-/// Returns the numbers of a book.
+/// Returns an order book in numbers.
 pub(crate) fn orders_of(kept: &Kept) -> Orders
     ensures { result ≡ orders_of kept.now }
 {

@@ -67,8 +67,9 @@ fn meaning_number(meaning: Meaning) -> u32
     }
 }
 
-/// Handles the answer to the line that was sent last. The caller uses a separate connection for
-/// each line, or sends no line before the previous one is answered, so no other answer can arrive.
+/// Handles the answer to the line that was sent last, and returns the new book and the answer's meaning. The caller
+/// uses a separate connection for each line, or sends no line before the previous one is answered, so no other answer
+/// can arrive.
 pub(crate) fn hear(alloc: Global, orders: Orders, line: &str) -> Result<Heard, Fault>
     ensures { result ≢ Err OutOfMemory → result ≡ heard_in orders line.now }
 {

@@ -27,7 +27,7 @@ abbrev pub packets_of : ℕ × ℕ → Lane → List Msg → List Output
 packets_of k l [] = []
 packets_of k l (m ∷ ms) = Sent (front_packet k l m) ∷ []
 
--- the packet of a message that is sent on a lane, if the lane is empty, so the message becomes its front
+-- the packet of a message that is sent on a lane, if the lane was empty, so that the message becomes its front
 abbrev pub front_sent : Option Lane → ℕ × ℕ → Msg → List Output
 front_sent None k m = []
 front_sent (Some l) k m = if is_nil l.queue then Sent (front_packet k l m) ∷ [] else []
@@ -37,12 +37,12 @@ abbrev pub fronts_sent : Links → ℕ → List (ℕ × Msg) → List Output
 fronts_sent links u [] = []
 fronts_sent links u (s ∷ ss) = front_sent (lane_at links u s.0) (u, s.0) s.1 ++ fronts_sent links u ss
 
--- the packet of the message after a lane's front, which becomes the front when that is cleared
+-- the packet of the message after a lane's front, which becomes the front when the present front is cleared
 abbrev pub front_behind : Option Lane → ℕ × ℕ → List Output
 front_behind None k = []
 front_behind (Some l) k = packets_of k (cleared l) (behind_front l.queue)
 
--- the outputs of both ends of a link, those of the lesser end first
+-- the outputs of both ends of a link, with the outputs of the lesser end first
 abbrev pub by_lesser : ℕ → ℕ → List Output → List Output → List Output
 by_lesser a b of_a of_b = if nat_lt a b then of_a ++ of_b else of_b ++ of_a
 

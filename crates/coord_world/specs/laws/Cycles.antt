@@ -12,7 +12,7 @@ pub record IsAbove (w : World) (u v : ℕ) : Type 0 where
   pub parent : (state w v).parent ≡ Some u
   pub unreleased : readies ((view w).in_transit u v) ≡ 0
 
--- a path from u to v in which each node is the parent of the next one, by `IsAbove`
+-- a path from u to v in which each node is above the next one, in the sense of `IsAbove`
 abbrev pub IsChain : World → ℕ → List ℕ → ℕ → Type 0
 IsChain w u [] v = u ≡ v
 IsChain w u (x ∷ path) v = IsAbove w u x × IsChain w x path v

@@ -11,7 +11,7 @@ use Rattle.coord_world.specs.protocol.Ranges.{InRange}
 use Rattle.coord_world.specs.laws.Overlaps.{IsPart, PartReady, finished_at}
 use Rattle.coord_world.specs.laws.Waves.{signals_of, started}
 
--- a step that adds a link adds it between two nodes of the part, or between two nodes outside it
+-- if a step adds a link, both its ends are in the part, or both are outside it
 abbrev pub KeepsApart : (ℕ → Bool) → Step → Type 0
 KeepsApart part (Order c n (Join a b)) = part a ≡ part b
 KeepsApart part s = Unit {0}
@@ -21,8 +21,8 @@ abbrev pub drops_in : (ℕ → Bool) → Step → Bool
 drops_in part (Order c n (Drop a b)) = part a
 drops_in part s = false
 
--- Steps in turn that begin with every node of the part Ready and never link a node of the part with a node outside it.
--- They may add and remove nodes and links otherwise
+-- Steps in turn. Every node of the part is Ready before them, and they never link a node of the part with a node outside it. They
+-- may add and remove nodes and links otherwise
 pub record BeginsApart (w : World) (steps : List Step) (part : ℕ → Bool) : Type 0 where
   pub in_range : InRange w
   pub legal : Legal w
@@ -35,7 +35,7 @@ pub record BeginsApart (w : World) (steps : List Step) (part : ℕ → Bool) : T
 abbrev pub most_signals : World → List Step → (ℕ → Bool) → ℕ → ℕ
 most_signals w steps part v = count_by part (started w steps) + count_by (drops_in part) steps + count_by (λ u. u == v) (finished_at w steps)
 
--- at any time, each node of the part was signalled at most that often
+-- after such steps, each node of the part was signalled at most that often
 abbrev pub NoMoreWithDrops : Type 0
 NoMoreWithDrops = (w : World) (steps : List Step) (part : ℕ → Bool) → BeginsApart w steps part → (v : ℕ) → part v ≡ true →
     signals_of v (outs w steps) ≤ most_signals w steps part v

@@ -15,7 +15,7 @@ IsNotBy c (Order d n x) = d ≢ c
 IsNotBy c (Take p) = Unit {0}
 IsNotBy c (Clear p) = Unit {0}
 
--- the last order of client c among these steps, with its number, its command, and the reply that it was given
+-- the last order of client c among these steps: its number, its command, and the reply that it got
 pub record IsLastOrder (base : World) (steps : List Step) (c : ℕ) (o : Session) : Type 0 where
   pub before : List Step
   pub rest : List Step

@@ -14,8 +14,8 @@ use Rattle.coord_world.specs.protocol.Outputs.{outs}
 use Rattle.coord_world.specs.protocol.Ranges.{InRange}
 use Rattle.coord_world.specs.laws.Waves.{Connected, changes_topology, signals_of, started}
 
--- If a reset of node u is accepted, whatever the reply, and u is Ready at the end of the steps, then u is signalled by
--- that step or a later one. The steps may add and remove nodes and links
+-- If a reset of node u is accepted, whatever the reply, and u is Ready at the end of the steps, then that step or a later one
+-- signals u. The steps may add and remove nodes and links
 abbrev pub AskedIsSignalled : Type 0
 AskedIsSignalled = (w : World) (steps before rest : List Step) (c n u : ℕ) → InRange w → Legal w → InTurn w steps →
     steps ≡ before ++ Order c n (Reset u) ∷ rest → (state (fold w steps) u).mode ≡ Ready → 1 ≤ signals_of u (outs (fold w before) (Order c n (Reset u) ∷ rest))
@@ -28,7 +28,7 @@ IsPart w part = (a b : ℕ) → is_linked w a b ≡ true → part a ≡ part b
 abbrev pub PartReady : World → (ℕ → Bool) → Type 0
 PartReady w part = (v : ℕ) → part v ≡ true → (state w v).mode ≡ Ready
 
--- steps in turn that begin with every node of the part Ready, and add or remove no node and no link
+-- steps in turn that add or remove no node and no link; every node of the part is Ready before them
 pub record BeginsReady (w : World) (steps : List Step) (part : ℕ → Bool) : Type 0 where
   pub in_range : InRange w
   pub legal : Legal w
@@ -43,13 +43,13 @@ abbrev pub OnceOrMore : Type 0
 OnceOrMore = (w : World) (steps : List Step) (part : ℕ → Bool) → BeginsReady w steps part → PartReady (fold w steps) part →
     All (λ u. part u ≡ true → (v : ℕ) → Connected w u v → 1 ≤ signals_of v (outs w steps)) (started w steps)
 
--- at any time, a node of the part that has a link was signalled at most as often as resets were started in the part
+-- after such steps, a node of the part that has a link was signalled at most as often as resets were started in the part
 abbrev pub NoMoreThanStarted : Type 0
 NoMoreThanStarted = (w : World) (steps : List Step) (part : ℕ → Bool) → BeginsReady w steps part →
     (v x : ℕ) → part v ≡ true → is_linked w v x ≡ true → signals_of v (outs w steps) ≤ count_by part (started w steps)
 
--- if exactly one reset was started in the part, each node that is connected with its initiator is signalled exactly
--- once
+-- if every node of the part is Ready at the end, and exactly one reset was started in the part, each node that is connected with
+-- the initiator is signalled exactly once
 abbrev pub OnceIfOneStarted : Type 0
 OnceIfOneStarted = (w : World) (steps : List Step) (part : ℕ → Bool) → BeginsReady w steps part → PartReady (fold w steps) part → count_by part (started w steps) ≡ 1 →
     All (λ u. part u ≡ true → (v : ℕ) → Connected w u v → signals_of v (outs w steps) ≡ 1) (started w steps)
@@ -69,14 +69,14 @@ abbrev pub AloneAsFinished : Type 0
 AloneAsFinished = (w : World) (steps : List Step) (part : ℕ → Bool) → BeginsReady w steps part →
     (v : ℕ) → part v ≡ true → ((x : ℕ) → is_linked w v x ≡ false) → signals_of v (outs w steps) ≡ count_by (λ u. u == v) (finished_at w steps)
 
--- if every node of the part is Ready at the end, either all or none of the nodes that are connected with each other are
+-- if every node of the part is Ready at the end, then of the nodes that are connected with each other, either all or none are
 -- signalled
 abbrev pub AllOrNone : Type 0
 AllOrNone = (w : World) (steps : List Step) (part : ℕ → Bool) → BeginsReady w steps part → PartReady (fold w steps) part →
     (u v : ℕ) → part u ≡ true → Connected w u v → 1 ≤ signals_of u (outs w steps) → 1 ≤ signals_of v (outs w steps)
 
--- each node that is connected with a node of the part whose reset was accepted, whatever the reply, is signalled at
--- least once
+-- if every node of the part is Ready at the end, and a reset of one of its nodes was accepted, whatever the reply, then each node
+-- that is connected with this node is signalled at least once
 abbrev pub AskedReachesAll : Type 0
 AskedReachesAll = (w : World) (steps before rest : List Step) (part : ℕ → Bool) (c n u : ℕ) → BeginsReady w steps part → PartReady (fold w steps) part →
     steps ≡ before ++ Order c n (Reset u) ∷ rest → part u ≡ true → (v : ℕ) → Connected w u v → 1 ≤ signals_of v (outs w steps)
@@ -86,8 +86,8 @@ abbrev pub EpochsCountSignals : Type 0
 EpochsCountSignals = (w : World) (steps : List Step) → InRange w → Legal w → InTurn w steps → All (λ s. changes_topology s ≡ false) steps →
     (v : ℕ) → (state (fold w steps) v).epoch ≡ (state w v).epoch + signals_of v (outs w steps)
 
--- if every node of the part is Ready at the end, either all or none of the nodes that are connected with each other
--- enter a new epoch
+-- if every node of the part is Ready at the end, then of the nodes that are connected with each other, either all or none enter a
+-- new epoch
 abbrev pub EpochsRiseTogether : Type 0
 EpochsRiseTogether = (w : World) (steps : List Step) (part : ℕ → Bool) → BeginsReady w steps part → PartReady (fold w steps) part →
     (u v : ℕ) → part u ≡ true → Connected w u v → (state w u).epoch < (state (fold w steps) u).epoch → (state w v).epoch < (state (fold w steps) v).epoch

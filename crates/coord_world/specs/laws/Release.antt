@@ -18,19 +18,19 @@ use Rattle.coord_world.specs.laws.Trails.{IsTrail}
 abbrev pub outputs_of : World → List Step → List Output
 outputs_of base steps = flat_map (λ r. r.outputs) (outs base steps)
 
--- an output is released if these steps are settled: one of them sent it, or it is in the base's resend list
+-- an output is released once these steps are settled: one of them sent it, or it is in the base's resend list
 abbrev pub IsReleased : World → List Step → Output → Type 0
 IsReleased base settled o = Contains (outputs_of base settled) o ⊎ Contains (again base) o
 
--- the front world takes this data packet, provided that the packet was released
+-- the front world would take this data packet if it was released
 abbrev pub IsTakeable : World → DataPacket → Type 0
 IsTakeable front p = (l : Lane) × ((lane front p.from p.to p.inc ≡ Some l) × (judged_take l p.number p.msg ≡ Ok tt))
 
--- the front world clears a front by this receipt, provided that the receipt was released
+-- the front world would clear a front by this receipt if it was released
 abbrev pub IsClearable : World → ReceiptPacket → Type 0
 IsClearable front p = (l : Lane) × ((lane front p.from p.to p.inc ≡ Some l) × (judged_clear l p.number ≡ Ok tt))
 
--- the settled world shows whether a packet was released, for each packet that the front world would take
+-- for each packet that the front world would take, the settled world shows whether the packet was released
 pub record HoldsReleased (front settled : World) (IsOut : Output → Type 0) : Type 0 where
   pub packets : (p : DataPacket) → IsTakeable front p → (has_sent (lane settled p.from p.to p.inc) p.number ≡ true) ↔ IsOut (Sent p)
   pub receipts : (p : ReceiptPacket) → IsClearable front p → (has_receipted (lane settled p.from p.to p.inc) p.number ≡ true) ↔ IsOut (Receipted p)
@@ -45,13 +45,13 @@ NamesReleased IsOut (Order c n x) = Unit {0}
 NamesReleased IsOut (Take p) = IsOut (Sent p)
 NamesReleased IsOut (Clear p) = IsOut (Receipted p)
 
--- the release law for verdicts: a step that the front world accepts over itself is accepted over the settled world if
--- and only if its packet was released
+-- the release law for verdicts: a step that the front world accepts over itself is accepted over the settled world if and only if
+-- the packet that the step names was released
 abbrev pub FreshWhereReleased : Type 0
 FreshWhereReleased = (base : World) (trail : List Step) (d : ℕ) (s : Step) → IsTrail base trail → IsFresh (fold base trail) (fold base trail) s →
     IsFresh (fold base trail) (fold base (take d trail)) s ↔ NamesReleased (IsReleased base (take d trail)) s
 
--- a release stays: a step that is not refused as NotReleased gets the same verdict after more steps are settled
+-- a release stays: if a step is not refused as NotReleased, it gets the same verdict after more steps are settled
 abbrev pub ReleaseStays : Type 0
 ReleaseStays = (base : World) (trail : List Step) (d e : ℕ) (s : Step) → IsTrail base trail → d ≤ e → accepts (fold base trail) (fold base (take d trail)) s ≢ Err NotReleased →
     accepts (fold base trail) (fold base (take e trail)) s ≡ accepts (fold base trail) (fold base (take d trail)) s
@@ -64,7 +64,7 @@ ResendLaw = (base : World) (trail : List Step) (d : ℕ) → IsTrail base trail 
 abbrev pub ReleasedGrows : Type 0
 ReleasedGrows = (base : World) (trail : List Step) (d e : ℕ) (o : Output) → d ≤ e → IsReleased base (take d trail) o → IsReleased base (take e trail) o
 
--- a packet that is released from a world of the trail, as the base of the later steps, is released from the trail's
--- base
+-- a packet that is released when a world of the trail is taken as the base of the later steps is also released from the trail's
+-- own base
 abbrev pub ReleasedFromBase : Type 0
 ReleasedFromBase = (base : World) (trail : List Step) (n d : ℕ) (o : Output) → IsTrail base trail → IsReleased (fold base (take n trail)) (take d (drop n trail)) o → IsReleased base (take (n + d) trail) o

@@ -16,7 +16,7 @@ use Rattle.coord_world.specs.laws.Release.{outputs_of}
 use Rattle.coord_world.specs.laws.WorkedSteps.{clear, data_out, one_reset, receipt_out, take, two_linked}
 use Rattle.coord_world.specs.laws.Trails.{IsTrail}
 
--- two linked nodes: the world at which the reset begins
+-- the world of two linked nodes in which the reset begins
 abbrev pub linked : World
 linked = fold (no_world 1) two_linked
 
@@ -24,7 +24,7 @@ linked = fold (no_world 1) two_linked
 abbrev pub after : ℕ → World
 after n = fold linked (first n one_reset)
 
--- the verdicts on a step after n steps, one for each of these numbers of settled steps
+-- the verdicts on a step that arrives after n steps, one verdict for each of these numbers of settled steps
 abbrev pub answers : ℕ → Step → List ℕ → List (Result Verdict Refusal)
 answers n s settled = map (λ d. accepts (after n) (after d) s) settled
 

@@ -24,8 +24,8 @@ pub record IsTrail (base : World) (trail : List Step) : Type 0 where
 abbrev pub TrailKeepsWorlds : Type 0
 TrailKeepsWorlds = (base : World) (trail : List Step) (n : ℕ) → IsTrail base trail → IsSound (fold base (take n trail))
 
--- The first n steps of a trail are a trail, and the remaining steps are a trail from the world after them. Both
--- together lead from the base to the same world
+-- The first n steps of a trail are a trail, and the remaining steps are a trail from the world after them. Together they lead to
+-- the same world, with the same outputs, as the whole trail
 pub record IsCut (base : World) (trail : List Step) (n : ℕ) : Type 0 where
   pub first : IsTrail base (take n trail)
   pub others : IsTrail (fold base (take n trail)) (drop n trail)
@@ -35,8 +35,8 @@ pub record IsCut (base : World) (trail : List Step) (n : ℕ) : Type 0 where
 abbrev pub TrailIsCut : Type 0
 TrailIsCut = (base : World) (trail : List Step) (n : ℕ) → IsTrail base trail → IsCut base trail n
 
--- a trail followed by a step is a trail, if the step is fresh over the trail's world and the settled world is the world
--- after the trail's first d steps
+-- a trail followed by a step is a trail, if the step is fresh over the trail's world, with the world after the first d steps as
+-- the settled world
 abbrev pub TrailGoesOn : Type 0
 TrailGoesOn = (base : World) (trail : List Step) (d : ℕ) (s : Step) → IsTrail base trail → StepInRange s → IsFresh (fold base trail) (fold base (take d trail)) s → IsTrail base (trail ++ s ∷ [])
 

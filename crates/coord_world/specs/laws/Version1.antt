@@ -7,12 +7,12 @@ use Rattle.coord_world.specs.protocol.Links.{has_right_distances, link}
 use Rattle.coord_world.specs.protocol.NumberedWorld.{World, view}
 use Rattle.coord_world.specs.protocol.Ranges.{InRange}
 
--- N without the condition on the distance
+-- the node predicate N without its condition on the distance
 abbrev pub is_legal_but_for_distance : ℕ → NodeState → Bool
 is_legal_but_for_distance count r =
     awaits_rightly r.mode r.pend && has_right_parent r.mode r.parent && is_parent_near r.parent r.pend r.neighbours && set.is_subset r.pend r.neighbours && nat_le r.confirmed r.epoch && nat_le r.epoch count
 
--- H holds for any two nodes, and N holds for a node if N without the distance does
+-- H holds for any two nodes, and N holds for a node if N without its condition on the distance does
 pub record AsksNoDistance (w : World) : Type 0 where
   pub links : (u v : ℕ) → has_right_distances (link (view w) u v) ≡ true
   pub nodes : (u : ℕ) (r : NodeState) → get w.nodes u ≡ Some r → is_legal_node w.count r ≡ is_legal_but_for_distance w.count r

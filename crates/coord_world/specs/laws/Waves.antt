@@ -38,7 +38,7 @@ changes_topology (Order c n (Confirm u e)) = false
 changes_topology (Take p) = false
 changes_topology (Clear p) = false
 
--- the node at which a step with a reply of this kind starts a reset, or an empty list
+-- the node at which a step starts a reset, given the kind of its reply; empty if it starts none
 abbrev pub started_by : Kind → Step → List ℕ
 started_by Started (Order c n (Reset u)) = u ∷ []
 started_by k s = []
@@ -48,8 +48,8 @@ abbrev pub started : World → List Step → List ℕ
 started w [] = []
 started w (s ∷ ss) = started_by (reply w s).kind s ++ started (next w s) ss
 
--- the steps are one wave from u: they begin and end with every node Ready, add or remove no node and no link, and start
--- exactly one reset, at u
+-- The steps are one wave from u. Every node is Ready before and after them, they add or remove no node and no link, and they
+-- start exactly one reset, at u
 pub record IsWave (w : World) (steps : List Step) (u : ℕ) : Type 0 where
   pub in_range : InRange w
   pub legal : Legal w
@@ -69,13 +69,13 @@ is_signal_of v (Sent p) = false
 abbrev pub signals_of : ℕ → List StepOutcome → ℕ
 signals_of v given = sum_by (λ r. count_by (is_signal_of v) r.outputs) given
 
--- a signal is of a node that is connected with u, or its step is answered Finished
+-- if an output is a signal, its node is connected with u, or the step is answered Finished
 abbrev pub IsExplained : World → ℕ → Kind → Output → Type 0
 IsExplained w u k (Receipted p) = Unit {0}
 IsExplained w u k (Signalled v e) = Connected w u v ⊎ (k ≡ Finished)
 IsExplained w u k (Sent p) = Unit {0}
 
--- each node that is connected with u is signalled exactly once, and any other signal is of a step that is answered
+-- each node that is connected with u is signalled exactly once, and every other signal comes from a step that is answered
 -- Finished
 pub record SignalsOnce (w : World) (steps : List Step) (u : ℕ) : Type 0 where
   pub once : (v : ℕ) → Connected w u v → signals_of v (outs w steps) ≡ 1

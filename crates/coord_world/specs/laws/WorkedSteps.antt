@@ -25,7 +25,7 @@ use Rattle.coord_world.specs.laws.Drops.{BeginsApart, drops_in}
 abbrev pub order : ℕ → Command → Step
 order n x = Order 1 n x
 
--- the step in which the packet on the lane from u to v with this incarnation, number and message arrives
+-- the step that takes the packet with this incarnation, number and message from the lane from u to v
 abbrev pub take : ℕ → ℕ → ℕ → ℕ → Msg → Step
 take u v i n m = Take (record { from = u; to = v; inc = i; number = n; msg = m })
 
@@ -47,7 +47,7 @@ abbrev pub verdicts : World → List Step → List (Result Verdict Refusal)
 verdicts w [] = []
 verdicts w (s ∷ ss) = accepts w w s ∷ verdicts (next w s) ss
 
--- in the empty world of this version each step is fresh, and the replies and outputs are the given ones
+-- in the empty world of this version, each step is fresh, and the steps have these replies and outputs
 abbrev pub IsRunIn : ℕ → List Step → List StepOutcome → Type 0
 IsRunIn version steps given = (verdicts (no_world version) steps ≡ map (λ r. Ok (Fresh r.reply.kind)) given) × (outs (no_world version) steps ≡ given)
 
@@ -74,7 +74,7 @@ StoredRun =
     ∷ gives 8 Taken (receipt_out 1 2 3 2 ∷ Signalled 2 1 ∷ []) ∷ []
     )
 
--- that reset is a single wave from node 1
+-- the reset in `one_reset` is a single wave from node 1
 abbrev pub StoredWave : Type 0
 StoredWave = IsWave (fold (no_world 1) two_linked) one_reset 1
 
@@ -101,8 +101,8 @@ TwoInitiators =
     ∷ gives 13 Taken (receipt_out 1 2 3 3 ∷ []) ∷ []
     )
 
--- steps over two linked nodes that begin and end with both Ready; resets are started at these nodes, in order, and each
--- node is signalled this often
+-- Steps over two linked nodes, which are Ready before and after them. Resets are started at these nodes, in order, and each of
+-- the two nodes is signalled this often
 pub record IsOverlap (steps : List Step) (at : List ℕ) (times : ℕ) : Type 0 where
   pub begins : BeginsReady (fold (no_world 1) two_linked) steps (λ _. true)
   pub ends : PartReady (fold (fold (no_world 1) two_linked) steps) (λ _. true)
@@ -135,13 +135,13 @@ two_meet =
     order 6 (Reset 1) ∷ order 7 (Reset 2) ∷ take 2 1 4 1 (msg.Abort 0) ∷ take 1 2 4 1 (msg.Abort 0) ∷ clear 1 2 4 1 ∷ take 1 2 4 2 msg.Ack
     ∷ clear 2 1 4 1 ∷ take 2 1 4 2 msg.Ack ∷ []
 
--- after `two_meet`, the last node starts a reset too, whose wave meets that of the second
+-- after `two_meet`, the last node starts a reset too, and its wave meets the wave of the second node
 abbrev pub third_meets : List Step
 third_meets =
     order 8 (Reset 3) ∷ take 2 3 5 1 (msg.Abort 0) ∷ take 3 2 5 1 (msg.Abort 0) ∷ clear 2 3 5 1 ∷ take 2 3 5 2 msg.Ack ∷ clear 3 2 5 1
     ∷ take 3 2 5 2 msg.Ack ∷ []
 
--- not every node that is connected with the node of a started reset is signalled after that start
+-- an example in which a node is connected with the node of a started reset, but is not signalled after that start
 pub record NotAllAfterEach : Type 0 where
   pub begins : BeginsReady (fold (no_world 1) path_linked) (two_meet ++ third_meets) (λ _. true)
   pub ends : PartReady (fold (fold (no_world 1) path_linked) (two_meet ++ third_meets)) (λ _. true)
@@ -153,7 +153,7 @@ pub record NotAllAfterEach : Type 0 where
 abbrev pub triangle_linked : List Step
 triangle_linked = order 1 (Add 1 1) ∷ order 2 (Add 2 1) ∷ order 3 (Add 3 1) ∷ order 4 (Join 1 2) ∷ order 5 (Join 1 3) ∷ order 6 (Join 2 3) ∷ []
 
--- the first node starts a reset, and another one once it is signalled; the second node has passed both waves on to the
+-- the first node starts a reset, and is signalled; in `passed_on` it starts another. The second node passes both waves on to the
 -- third
 abbrev pub starts_twice : List Step
 starts_twice =
@@ -176,7 +176,8 @@ comes_back =
     ∷ clear 1 3 5 5 ∷ take 1 3 5 6 msg.Ack ∷ clear 3 2 6 1 ∷ take 3 2 6 2 msg.Ack ∷ clear 2 3 6 3 ∷ take 2 3 6 4 msg.Ready
     ∷ clear 3 1 5 5 ∷ take 3 1 5 6 msg.Ready ∷ []
 
--- a node is signalled as often as resets were started and links dropped, which is more often than resets were started
+-- an example in which a node is signalled as often as resets were started and links dropped, so more often than resets were
+-- started
 pub record DropsCount : Type 0 where
   pub begins : BeginsApart (fold (no_world 1) triangle_linked) (starts_twice ++ (passed_on ++ comes_back)) (λ _. true)
   pub ends : PartReady (fold (fold (no_world 1) triangle_linked) (starts_twice ++ (passed_on ++ comes_back))) (λ _. true)

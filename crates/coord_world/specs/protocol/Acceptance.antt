@@ -1,5 +1,5 @@
--- The steps that a world accepts, and the reason for each refusal: a list of tests, each with its refusal. The refusal
--- is that of the first test that holds, so the list states the order of refusals.
+-- The steps that a world accepts, and the reason for each refusal: a list of tests, each with its refusal. The first test that
+-- holds gives the refusal, so the order of the list is the order of the refusals.
 use Rattle.std.specs.Prelude.{◌≡◌, ℕ, ◌+◌, ◌==◌, ◌&&◌, ◌||◌, not, nat_le, nat_lt, Bool, false, true, [], ◌∷◌, ◌++◌, Option, Some, None, Result, Ok, if◌then◌else◌}
 use Rattle.coord_types.specs.NodeSet as set
 use Rattle.coord_types.specs.Table.{get, has, len}
@@ -60,7 +60,7 @@ abbrev pub has_receipted : Option Lane → ℕ → Bool
 has_receipted None n = false
 has_receipted (Some l) n = nat_le n l.got
 
--- the tests of a data packet: first by its lane in the front world, then by its lane in the settled world
+-- the tests of a data packet: first against its lane in the front world, then against its lane in the settled world
 abbrev pub against_data : Option Lane → Option Lane → DataPacket → Tests
 against_data None settled p = (true, NoLink) ∷ []
 against_data (Some l) settled p = against_take l p.number p.msg ++ (not (has_sent settled p.number), NotReleased) ∷ []
@@ -74,8 +74,8 @@ abbrev pub last_number : Option Session → ℕ
 last_number None = 0
 last_number (Some s) = s.number
 
--- the tests of the number of an order that is not a repeat. OutOfTurn: it is 0, or another number than the last and the
--- next one; NumberReused: it is the last number
+-- the tests of the number of an order that is not a repeat. OutOfTurn: the number is 0, or neither the client's last number nor
+-- the next one; NumberReused: the number is the client's last one
 abbrev pub against_number : ℕ → ℕ → Tests
 against_number last n = (not (n == last + 1) && (not (n == last) || (n == 0)), OutOfTurn) ∷ (n == last, NumberReused) ∷ []
 
@@ -91,7 +91,7 @@ is_exhausted w = nat_le MAX_STEPS w.count
 abbrev pub judged : World → World → Step → Result Verdict Refusal
 judged front settled s = refused_or (Fresh (kind (state front) s)) ((is_exhausted front, Exhausted) ∷ against front settled s)
 
--- a repeat of the client's last order is answered with the kept reply; any other order gets this verdict
+-- the client's last order, sent again, is answered with the kept reply; any other order gets this verdict
 abbrev pub or_repeat : Option Session → ℕ → Command → Result Verdict Refusal → Result Verdict Refusal
 or_repeat None n x verdict = verdict
 or_repeat (Some o) n x verdict = if (o.number == n) && same_command o.command x then Ok (Repeat o.reply) else verdict

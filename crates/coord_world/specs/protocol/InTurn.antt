@@ -5,8 +5,7 @@ use Rattle.coord_world.specs.protocol.NumberedWorld.{World}
 use Rattle.coord_world.specs.protocol.Next.{fold}
 use Rattle.coord_world.specs.protocol.Acceptance.{IsFresh}
 
--- For each step there is a prefix of the steps before it such that the step is fresh over the world after all steps
--- before it, with the world after that prefix as the settled world
+-- Each step is fresh over the world after all steps before it, if the settled world is the world after some prefix of those steps
 abbrev pub InTurn : World → List Step → Type 0
 InTurn w steps =
     (before rest : List Step) (s : Step) → steps ≡ before ++ s ∷ rest →

@@ -9,8 +9,8 @@ use Rattle.coord_types.specs.declared.messages.Msg.{Msg}
 use Rattle.coord_types.specs.declared.messages.Msg.TheVariants as msg
 use Rattle.coord_node.specs.Rules.{carries, is_parent}
 
--- One end of a link: its node's mode, whether the node awaits the other end's acknowledgement, whether the other end is
--- its parent, its distance, and the distance that its Aborts carry
+-- One end of a link: its node's mode, whether the node awaits an acknowledgement from the other end, whether the other end is the
+-- node's parent, the node's distance, and the distance that its Aborts carry
 pub record End : Type 0 where
   pub mode : Mode
   pub awaits : Bool
@@ -92,8 +92,8 @@ owes_ack e = is_abort e.mode && e.child
 abbrev pub waits_for_ready : End → Bool
 waits_for_ready e = is_converge e.mode && e.child
 
--- B: an awaited acknowledgement is in exactly one place: as the Abort in transit, at the other end that owes it, or as
--- the Ack in transit back. If none is awaited, there is none in these places
+-- B: if this end awaits an acknowledgement, it is in exactly one place: as the Abort in transit to the other end, at the other
+-- end, which owes it, or as the Ack in transit back. Otherwise these three places are empty
 abbrev pub has_ack_in_one_place : Link → Bool
 has_ack_in_one_place l = (aborts l.out + one (owes_ack l.there) + acks l.back) == one l.here.awaits
 

@@ -1,7 +1,7 @@
--- The effect of each step on a numbered world: first the changes that come before any node acts, then a list of
--- transitions, each computed from the world before the step, then the session and the step count. The signals are in
--- the order of this list. The two transitions of a drop belong to different nodes, so both can be computed from the
--- world before it.
+-- The effect of each step on a numbered world. First come the changes that precede any node's action; then the transitions of
+-- nodes, each computed from the world before the step; then the client's session and the step count. The step's signals are in
+-- the order of the transitions. A drop has two transitions, of different nodes, so both can be computed from the world before the
+-- drop.
 use Rattle.std.specs.Prelude.{ℕ, ◌+◌, ◌==◌, List, [], ◌∷◌, if◌then◌else◌}
 use Rattle.coord_types.specs.Table.{insert, remove}
 use Rattle.coord_types.specs.NodeState.{NodeState, new_node}
@@ -31,8 +31,8 @@ abbrev pub with_transitions : World → List (ℕ × Transition) → World
 with_transitions w [] = w
 with_transitions w (d ∷ ds) = with_transitions (with_transition w d.0 d.1) ds
 
--- the changes of a command that come before any node acts; the incarnation of a new link is the number of the step that
--- makes it
+-- the changes of a command that precede any node's action; the incarnation of a new link is the number of the step that makes the
+-- link
 abbrev pub with_command : World → Command → World
 with_command w (Add u g) = with_state w u (new_node g)
 with_command w (Remove u) = record w { nodes = remove w.nodes u }

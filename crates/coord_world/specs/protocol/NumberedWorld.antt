@@ -12,7 +12,7 @@ use Rattle.coord_link.specs.LaneMachine.{Lane, transit}
 pub use Rattle.coord_tables.specs.Links.{Lanes, Links, is_lane, lane_at, lanes_in_order, links_code}
 pub use Rattle.coord_tables.specs.Pairs.{pair_cmp, pair_cmp_total}
 
--- the version, the number of steps taken, the nodes, the links by their ends, and each client's last order
+-- a world: the version, the number of steps taken, the nodes, the links by their ends, and each client's last order
 pub record World : Type 0 where
   pub version : ℕ
   pub count : ℕ

@@ -29,7 +29,7 @@ abbrev pub signals : List (ℕ × Transition) → List Output
 signals [] = []
 signals (d ∷ ds) = if d.1.finished then Signalled d.0 d.1.state.epoch ∷ signals ds else signals ds
 
--- the data packet that carries message m of the front of lane l between these ends
+-- the data packet of lane l's front, with message m, between these ends
 abbrev pub front_packet : ℕ × ℕ → Lane → Msg → DataPacket
 front_packet k l m = record { from = k.0; to = k.1; inc = l.inc; number = l.base + 1; msg = m }
 
@@ -38,7 +38,7 @@ abbrev pub had_front : Option Lane → Lane → Bool
 had_front None l = false
 had_front (Some o) l = not (is_nil o.queue) && (o.inc == l.inc) && (o.base == l.base)
 
--- the packets that a lane sends: its front, if it has one that was not its front before
+-- the packets that a lane sends: its front, if it has a new one
 abbrev pub sent_by : Option Lane → ℕ × ℕ → Lane → List Msg → List Output
 sent_by before k l [] = []
 sent_by before k l (m ∷ ms) = if had_front before l then [] else Sent (front_packet k l m) ∷ []

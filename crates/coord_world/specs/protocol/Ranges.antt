@@ -43,7 +43,7 @@ farthest version count = if version == 1 then 0 else count
 abbrev pub CarryWithin : ℕ → List Msg → Type 0
 CarryWithin n ms = AllByRecursion (λ m. carried m ≤ n) ms
 
--- a node has a distance that the version allows, and 0 if it is Ready
+-- the node's distance is one that the version allows, and is 0 if the node is Ready
 pub record IsDistant (version count : ℕ) (r : NodeState) : Type 0 where
   pub within : r.distance ≤ farthest version count
   pub ready : r.mode ≡ Ready → r.distance ≡ 0
@@ -67,8 +67,8 @@ pub record SessionInRange (count c : ℕ) (s : Session) : Type 0 where
   pub replied_by : s.reply.step ≤ count
   pub answered : answers s.command s.reply.kind ≡ true
 
--- The ranges of a world. A node's neighbours are exactly the nodes to which it has lanes; a link has its lesser end
--- first, and two lanes with one incarnation, between two nodes of one group
+-- The ranges of a world. A node's neighbours are exactly the nodes to which it has lanes. A link is stored with its lesser end
+-- first; its two lanes have the same incarnation, and its two ends the same group
 pub record InRange (w : World) : Type 0 where
   pub first : 1 ≤ w.version
   pub last : w.version ≤ MAX_VERSIONS

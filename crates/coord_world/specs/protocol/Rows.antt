@@ -23,7 +23,7 @@ pub record Rows : Type 0 where
   pub links : List LinkRow
   pub clients : List ClientRow
 
--- the lists in the program's record
+-- the rows in the program's record, as lists
 abbrev pub listed : Parts → Rows
 listed p = record { version = p.version; count = p.count; nodes = p.nodes.items; links = p.links.items; clients = p.clients.items }
 

@@ -16,7 +16,7 @@ use coord_types::{Client, NodeId, Session};
 use std::alloc::{AllocError, Global};
 
 impl Tables {
-    /// Returns the tables with these rows.
+    /// Returns the tables with these rows. Errors: out of memory.
     pub fn assemble(alloc: Global, parts: Parts) -> Result<Tables, AllocError>
         requires { RowsFit (listed parts) }
         ensures { IfOk result (λ tables. tables ≡ assembled (listed parts)) }

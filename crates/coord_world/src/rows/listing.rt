@@ -10,7 +10,7 @@ use coord_types::{Client, NodeId, Session};
 use std::alloc::{AllocError, Global};
 
 impl Tables {
-    /// Returns the rows of the world.
+    /// Returns the rows of the world. Errors: out of memory.
     pub fn list(&self, alloc: Global) -> Result<Parts, AllocError>
         ensures { IfOk result (λ parts. listed parts ≡ rows_of self.now) }
     {

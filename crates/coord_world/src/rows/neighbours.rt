@@ -1,4 +1,4 @@
-//! The neighbours of each node, as the links give them.
+//! The neighbours of each node, collected from the links.
 
 ghost use Rattle.std.specs.Prelude.{◌≡◌, ◌-◌, slice_set};
 ghost use Rattle.coord_types.specs.NodeSet as set;
@@ -8,14 +8,14 @@ ghost use Rattle.coord_world.specs.code.Assembly.{AreNear, near_in};
 use coord_tables::LinkRow;
 use coord_types::{NODES, NodeId, NodeSet};
 
-/// The neighbours of each node; those of node k are at index k - 1.
+/// The neighbours of each node. The set of node k is at index k - 1.
 #[derive(Drop)]
 pub struct Neighbours {
     pub sets: [NodeSet; NODES],
 }
 
 impl Neighbours {
-    /// Returns the neighbours that these links give, in one pass over the links.
+    /// Returns the neighbours that these links give each node, in one pass over the links.
     pub fn by(links: &[LinkRow]) -> Self
         ensures { AreNear links.now result.sets }
     {
@@ -35,7 +35,7 @@ impl Neighbours {
     }
 }
 
-/// Adds a neighbour of a node.
+/// Adds a neighbour to the set of a node.
 fn note(sets: &mut [NodeSet; NODES], id: NodeId, neighbour: NodeId)
     ensures set { sets.new ≡ slice_set sets.old (id - 1)
         (set.insert (near_in sets.old id) neighbour) }

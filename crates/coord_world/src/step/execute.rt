@@ -173,7 +173,7 @@ impl Tables {
         self.nodes.replace(id, node);
     }
 
-    /// Records on a lane that the other end has taken its front.
+    /// Records on a lane that the other end has taken the lane's front.
     fn take_front(&mut self, from: NodeId, to: NodeId)
         requires { ForSome (lane_at self.old.links from to) (λ l.
             l.got < 2 ^ 64 - 1) }

@@ -15,7 +15,7 @@ use coord_types::{
 };
 
 impl Tables {
-    /// Returns whether a step is fresh or a repeat, or else the first refusal that applies.
+    /// Returns the verdict on a step, or the first refusal that applies.
     pub fn judge(&self, settled: &Tables, step: &Step) -> Result<Verdict, Refusal>
         ensures { result ≡ accepts self.now settled.now step.now }
     {
@@ -26,8 +26,7 @@ impl Tables {
         }
     }
 
-    /// Returns whether an order is fresh or a repeat, by the numbers of its client's orders, or
-    /// else the first refusal that applies.
+    /// Returns the verdict on an order, given its client's last order, or the first refusal that applies.
     #[tactic(auto, using(coord_types::proofs::Commands::same_is, coord_types::proofs::Commands::same_self))]
     fn judge_order(
         &self,

@@ -28,7 +28,7 @@ pub fn push_receipt(packet: &DataPacket, outputs: &mut Vec<Output>) -> Result<()
     Ok(())
 }
 
-/// Appends the signal of a node, if it finished a reset.
+/// Appends the signal of a node, if its transition finished a reset.
 pub fn push_signal(
     node_transition: &NodeTransition,
     outputs: &mut Vec<Output>,
@@ -58,7 +58,7 @@ pub fn push_fronts(
     Ok(())
 }
 
-/// Appends the packets of new fronts of both ends of a link, those of the lesser end first.
+/// Appends the packets of both ends' messages that become fronts, those of the lesser end first.
 pub fn push_fronts_of_both(
     links: &LinkTable,
     first: &NodeTransition,
@@ -80,7 +80,7 @@ pub fn push_fronts_of_both(
     }
 }
 
-/// Appends the packet of a message, if its lane is empty, so the message becomes its front.
+/// Appends the packet of a message, if the lane is empty and the message becomes its front.
 fn push_front(
     links: &LinkTable,
     from: NodeId,
@@ -107,8 +107,8 @@ fn push_front(
     Ok(())
 }
 
-/// Returns the packet of the message after a lane's front, if there is one. It becomes the front
-/// when that is cleared.
+/// Returns the packet of the message after a lane's front, if there is one. That message becomes the front when the
+/// present front is cleared.
 pub fn front_behind(
     alloc: Global,
     links: &LinkTable,

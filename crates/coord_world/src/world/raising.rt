@@ -31,8 +31,8 @@ impl World {
         None
     }
 
-    /// Returns this world in version 2, in which each distance is 0. The world must have version 1,
-    /// and all its nodes must be Ready.
+    /// Returns this world in version 2, in which each distance is 0. The world must have version 1, and all its nodes
+    /// must be Ready. Errors: out of memory.
     pub fn raised(&self) -> Result<World, AllocError>
         requires first { self.now.version ≡ 1 }
         requires legal { Legal self.now }
