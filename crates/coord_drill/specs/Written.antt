@@ -14,7 +14,7 @@ WritesPart old new P = (part : List ℕ) × Appends old new part × P part
 abbrev pub WritesShort : Option (List ℕ) → Option (List ℕ) → List ℕ → Type 0
 WritesShort old new text = WritesPart old new (λ part. IsShortPart part text)
 
--- the known state of a reader and a writer at one moment
+-- what is known about a reader and a writer at one moment
 pub record InOut : Type 0 where
   pub unread : Option (List ℕ)
   pub written : Option (List ℕ)

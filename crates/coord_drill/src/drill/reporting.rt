@@ -42,7 +42,7 @@ impl<D: CrashDisk> Drill<D> {
         }
     }
 
-    /// Stops settling accepted steps at once.
+    /// Holds accepted steps from now on, instead of settling each at once.
     pub(super) fn hold(self) -> Self
         requires ready { IsReadyDrill self }
         ensures ready { IsReadyDrill result }
