@@ -77,8 +77,8 @@ pub record LacksArguments (fault : Fault) (status : ℕ) (old new : Around) : Ty
   pub fails : CommandFails (λ answered. answered ≡ fault) (λ _. ⊥) status old.streams new.streams
   pub unread : Keeps old.streams.input new.streams.input
 
--- The arguments are refused, or the named disk is migrated as requested. A crash at any moment leaves nothing
--- else on that disk.
+-- The arguments are refused, or the named disk is migrated as requested. `EndsMigrating` states what a crash at
+-- any moment may leave on that disk.
 abbrev pub RunsMigrate : {D : Type 0} → DiskModel D → List Text → List ℕ → ℕ → Around → Around → Type 0
 RunsMigrate model arguments file status old new = RefusesArguments arguments status old new ⊎ EndsMigrating model (old.holds file) (new.holds file) status old.streams new.streams
 
