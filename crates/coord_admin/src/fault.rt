@@ -11,7 +11,7 @@ use std::alloc::AllocError;
 use std::error::Error;
 use std::fmt;
 
-/// The reason why a line is not carried out, or why its reply could not be made. The first one that
+/// The reason why a line is not carried out, or why its reply could not be made. The first fault that
 /// applies is reported.
 #[derive(Clone, Copy, Debug, PartialEq, Eq)]
 pub enum LineFault {
@@ -49,7 +49,7 @@ impl LineFault {
     }
 }
 
-/// The faults that end a call of `serve` before the end of its input, and not by a close.
+/// The faults that end a call of `serve` before the end of its input and before a close.
 #[derive(Clone, Copy, Debug, PartialEq, Eq)]
 pub enum ServeFault {
     /// Memory ran out before anything was read.

@@ -58,8 +58,8 @@ impl RawDisk<SystemFile<File>> {
         }
     }
 
-    /// Opens a file read-only, without a lock: writes fail. If it does not exist, creates an empty
-    /// one, like `open`.
+    /// Opens a file read-only, without a lock: writes fail. If the file does not exist, creates an
+    /// empty file, like `open`.
     pub fn open_to_read<R: Files<File = File>>(rt: &R, path: &str) -> Result<FileDisk, DiskFault>
         ensures failures { IfOk result (λ disk. failures_of disk ≡ 0) }
         ensures whole { IfOk result (λ disk. has_lost disk ≡ false) }
