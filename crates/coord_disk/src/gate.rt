@@ -22,8 +22,8 @@ pub struct Gate {
 pub type GateDisk<D> = FailingDisk<D, Gate>;
 
 impl Gate {
-    // Signals that a sync has reached the gate, and waits for the gate to open. Returns whether it
-    // did.
+    // Signals that a sync has reached the gate, and waits for the gate to open. Returns whether
+    // the gate opened.
     fn opens(&self) -> bool {
         self.entered.store(true, Ordering::SeqCst);
         for _ in 0..LOOKS {

@@ -64,8 +64,8 @@ pub fn write(
     Ok(())
 }
 
-// Copies to the synced bytes the ranges written since the last sync; elsewhere both are already
-// equal.
+// Copies the ranges written since the last sync to the synced bytes. Outside these ranges, the two
+// lists are already equal.
 fn copy_written(entries: &[Entry], read: &[u8], synced: &mut [u8])
     requires { length synced.old ≡ length read.now }
     ensures { (first : List ℕ) → IsImage (record (replayed (whole first) entries.now)
