@@ -115,8 +115,8 @@ impl<'a, S: Read + Write + OpenStream + Drop, L: OpenListener<Stream = S>, T: Cl
         self.listener.local_addr()
     }
 
-    /// Skips a client that has left, or whose stream can't be set up. Retries after a temporary failure
-    /// up to `ACCEPT_TRIES` times, after a pause of `ACCEPT_REST_MILLIS`.
+    /// Skips a client that has left, or whose stream can't be set up. After a temporary failure, pauses
+    /// for the time `accept_rest` and retries, at most `ACCEPT_TRIES` times.
     fn next(&mut self) -> io::Result<TimedStream<'a, S, T>> {
         let mut tries = 0;
         for stream in self.listener.incoming() {

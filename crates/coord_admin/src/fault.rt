@@ -23,7 +23,8 @@ pub enum LineFault {
     BadText,
     /// `serde_json` does not accept the line as JSON.
     BadJson,
-    /// The line is not an object with a string as its `op`, or its members are not those of its `op`.
+    /// The line is not an object with a string as its `op`, or its members are not the members of
+    /// that `op`.
     BadRequest,
     /// The line's `op` does not exist.
     UnknownOp,

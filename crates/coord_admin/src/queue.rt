@@ -102,7 +102,7 @@ impl<D: Desk> Queue<D> {
     }
 
     /// Waits for the reply to each order, in turn, and writes the replies. If a reply can't be written,
-    /// the call still waits for all of them.
+    /// the call still waits for all replies.
     pub fn answer_all<C: Duplex>(
         &mut self,
         alloc: Global,

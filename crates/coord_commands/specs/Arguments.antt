@@ -15,7 +15,7 @@ pub data AskedCommand : Type 0 where
   init : Text → Text → AskedCommand
   serve : Text → Text → AskedCommand
 
--- what a task requests
+-- the request of a task
 abbrev pub asked_of : Task → AskedCommand
 asked_of task.Drill = drill
 asked_of (task.Check file) = check file.now

@@ -83,9 +83,9 @@ RefusesStore before after topology fault = ⊥
 abbrev pub LacksMemoryToMake : Option (List ℕ) → Option (List ℕ) → Option (List ℕ) → Type 0
 LacksMemoryToMake file before after = (topology : Content) × Says file topology × (LeavesWithoutMemory topology before after ⊎ IsFounded topology (begun topology) before after)
 
--- The faults of `init`, except those of its arguments. The topology file is checked first, so if the store is
--- not created for another reason, the file contains a topology. If the line can't be written, the store was
--- created.
+-- The faults of `init`, except the faults of its arguments. The topology file is checked first, so if the
+-- store is not created for another reason, the file contains a topology. If the line can't be written, the
+-- store was created.
 abbrev pub IsOfMaking : Option (List ℕ) → Option (List ℕ) → Option (List ℕ) → Fault → Type 0
 IsOfMaking file before after Read = StaysKnown before after
 IsOfMaking file before after Write = (topology : Content) × Says file topology × IsFounded topology (begun topology) before after

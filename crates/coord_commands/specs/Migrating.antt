@@ -61,7 +61,7 @@ pub record IsNotQuiet (before after : Option Present) (node : ℕ) : Type 0 wher
   pub refuses : RefusesMigration world (NotQuiet node)
   pub unchanged : ReadsAsBefore before after
 
--- The faults if the store is not migrated. Unless the device failed, the disk is unchanged.
+-- The store was not migrated because of this fault. Unless the device failed, the disk is unchanged.
 abbrev pub IsOfRaising : Option Present → Option Present → Fault → Type 0
 IsOfRaising before after OutOfMemory = ReadsAsBefore before after
 IsOfRaising before after (Store Device) = GivesEitherVersion before after

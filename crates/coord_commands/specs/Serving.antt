@@ -118,8 +118,8 @@ module _ {D : Type 0} (model : DiskModel D) where
   abbrev pub HasEnded : Option Present → Option Present → Option (List ℕ) → Option (List ℕ) → Fault → Type 0
   HasEnded before after old new answered = (is : IsServedDisk before after old new) × (fault : ServerFault) × (fault_of_end is.ended ≡ Some fault) × (answered ≡ fault_of_server fault)
 
-  -- The faults of `serve` at an address, with its output. Nothing is printed before a server begins, which
-  -- requires an open store and a bound socket.
+  -- How `serve` at an address ends with a fault, and what it has printed by then. Nothing is printed before
+  -- a server begins, which requires an open store and a bound socket.
   abbrev pub EndsServing : Option Present → Option Present → Option (List ℕ) → Option (List ℕ) → Fault → Type 0
   EndsServing before after old new answered =
       ((IsNotOpened before after answered ⊎ (IsNotBound before after answered ⊎ IsNotBegun before after answered)) × Keeps old new) ⊎ HasEnded before after old new answered

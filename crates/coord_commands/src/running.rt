@@ -24,8 +24,8 @@ pub struct ToServe<'a> {
 }
 
 /// Carries out the program's arguments in a folder, and returns the exit status. For `serve`, does
-/// nothing and returns what to serve. It never waits for others. For `migrate` its contract also states
-/// what a crash may leave at each moment.
+/// nothing and returns what to serve. The call never waits for others. For `migrate`, its contract also
+/// states what a crash may leave at each moment.
 pub fn run_in<'a, F: Folder, R: Read, W: Write, E: Write>(
     alloc: Global,
     folder: &mut F,

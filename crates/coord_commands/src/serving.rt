@@ -152,7 +152,7 @@ fn serve_open<
     serve_and_report::<D, S, A, W, Brand, R>(rt, alloc, store, listener, output, written)
 }
 
-/// Serves over a new history, which `O` names, and prints the signals of its settled steps.
+/// Serves an opened store, over a new history that `O` names, and prints the signals of settled steps.
 fn serve_and_report<
     'a,
     D: Disk + Send,

@@ -2,20 +2,20 @@
 --
 -- A place of a drill consists of its state; the lines carried out so far; their output; the steps whose
 -- reply, packet or signal that output shows; the event machine since the drill began; and the disk. The trail
--- of that machine is the accepted steps over the empty world, without those that a crash has lost.
+-- of that machine is the accepted steps over the empty world, except the steps that a crash has lost.
 --
 -- A line leads from one place to the next (`LineGoes`). Its output and the state after it depend only on the
 -- answers to its events. These events are a run of the ledger's machine on the disk (`RunsOn`), and the
 -- headline holds at each moment of that run (`EachMoment`). After the line, each step with visible output is
 -- settled (`settled`), before the writer gets a byte of the output. So whatever a crash may leave from then
 -- on includes that step (`PrintedSurvives`). The line `version 2` is not an event: it migrates the empty
--- store, and at each moment of the migration the bytes give the empty world in one version or the other.
+-- store, and at each moment of the migration the bytes give the empty world in version 1 or in version 2.
 --
 -- `Goes` states this for one line after another, and `Course` for lines from the creation of the store on the
 -- given disk. If a drill reaches the end of its input, its course has all lines of the input, all their
--- output was written, and the returned disk is the one at the end of the course (`DrillEnded`). If it fails,
--- its course has the lines that were carried out. `StopsDrill` then states why there are no more, how much of
--- their output was written, and which disk the drill returns (`BrokeOff`).
+-- output was written, and the drill returns the disk at the end of the course (`DrillEnded`). If a drill
+-- fails, its course has the lines that were carried out. `StopsDrill` then states why no more lines were
+-- carried out, how much of their output was written, and which disk the drill returns (`BrokeOff`).
 use Rattle.std.specs.Prelude.{◌≡◌, ◌⊎◌, ℕ, ◌+◌, ◌≤◌, true, List, [], ◌∷◌, ◌++◌, length, take, option_map, Option, Some, None, if◌then◌else◌}
 use Rattle.std.specs.List.{AllByRecursion}
 use Rattle.coord_disk.specs.Model.Moments.{IsUntouched, LeavesOnly}

@@ -34,8 +34,8 @@ abbrev pub UnlessSkipped : Bool → DrillState → List Answer → List ℕ → 
 UnlessSkipped true s given reported t Otherwise = (given ≡ []) × (reported ≡ []) × (t ≡ s)
 UnlessSkipped false s given reported t Otherwise = Otherwise
 
--- With these answers to its events, the line with this number may print this and leave the drill in this
--- state. A line over the limit is bad, even if it is a comment.
+-- If its events get these answers, the line with this number may print this text and leave the drill in
+-- this state. A line over the limit is bad, even if it is a comment.
 abbrev pub LineResponds : DrillState → ℕ → Line → List Answer → List ℕ → DrillState → Type 0
 LineResponds s n None given reported t = Responds s n None given reported t
 LineResponds s n (Some line) given reported t = UnlessSkipped (is_skipped line) s given reported t (Responds s n (asked_by s line) given reported t)

@@ -18,11 +18,11 @@ abbrev pub claims_of : World → List Step → List Claim
 claims_of w [] = []
 claims_of w (s ∷ ss) = claimed s (reply w s) ∷ claims_of (next w s) ss
 
--- The tickets are those of the ledger's pending steps, in order.
+-- There is one ticket for each pending step of the ledger, in order.
 abbrev pub IsHeld : {D : Type 0} → LedgerState D → List Claim → Type 0
 IsHeld l claims = claims ≡ claims_of (settled_world l.log) (pending l.log)
 
--- The driver has no flight out, and the tickets are those of its pending steps.
+-- The driver has no flight out, and there is one ticket for each of its pending steps, in order.
 abbrev pub IsReadyWith : {D : Type 0} → DriverState D → List Claim → Type 0
 IsReadyWith v claims = (v.flight ≡ None) × IsHeld v.ledger claims
 
@@ -88,7 +88,7 @@ abbrev pub released_lines : ℕ → ℕ → List Release → List ℕ
 released_lines version n [] = []
 released_lines version n (r ∷ rs) = if r.step == n then output_line version r.output ++ released_lines version n rs else []
 
--- the releases after those of this step
+-- the releases after the releases of this step
 abbrev pub behind : ℕ → List Release → List Release
 behind n [] = []
 behind n (r ∷ rs) = if r.step == n then behind n rs else r ∷ rs

@@ -16,7 +16,8 @@ use Rattle.coord_drill.specs.Grammar.{request_of, spelled}
 abbrev pub SpelledIsRead : Type 0
 SpelledIsRead = (version : ℕ) (request : Request) (line : List ℕ) → spelled version request ≡ Some line → request_of version line ≡ Some request
 
--- If a drill has carried out its whole input, its output is one that a drill may print for that input.
+-- If a drill has carried out its whole input, its output is an output that a drill may print for that
+-- input.
 abbrev pub EndedIsDrilled : {D : Type 0} → DiskModel D → (D → D → Type 0) → Type 0
 EndedIsDrilled {D} disk crashes = (given last : D) (input written : List ℕ) → DrillEnded disk crashes given input written last → IsDrilled input written
 

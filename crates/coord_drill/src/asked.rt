@@ -33,7 +33,7 @@ pub enum Asked {
     Version2,
 }
 
-/// Returns what a request asks for in this front world.
+/// Returns what a request asks the drill to do in this front world.
 pub fn wanted_by(front: &World, request: &Request) -> Asked
     ensures { result ≡ asked front.now request.now }
 {

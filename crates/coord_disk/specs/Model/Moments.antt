@@ -3,8 +3,8 @@ use Rattle.std.specs.Prelude.{◌≡◌, ◌⊎◌, ℕ, ◌+◌, ◌≤◌, Lis
 use Rattle.coord_disk.specs.Model.DiskModel.{DiskModel}
 use Rattle.coord_disk.specs.Model.Present.{IsImage}
 
--- Time advances. The bytes that a crash might have left since moment t are those that it might have left before, and
--- possibly those that it may leave now.
+-- Time advances. A crash since moment t might have left the bytes that a crash might have left before, and
+-- possibly the bytes that a crash may leave now.
 pub record Elapses (before now : ℕ) (past since : ℕ → List ℕ → Type 0) (may_leave : List ℕ → Type 0) : Type 0 where
   pub later : before ≤ now
   -- a call takes at most one moment

@@ -1,4 +1,4 @@
--- The calls of a raw file, and the promises of those that a disk does not have.
+-- The calls of a raw file, and the promises of the calls that a disk does not have.
 use Rattle.std.specs.Prelude.{◌≡◌, ℕ, Bool, true, List, Result, OnOk}
 use Rattle.coord_disk.specs.Model.Calls.{Calls}
 use Rattle.coord_disk.specs.Model.DiskModel.{DiskModel}
