@@ -1,4 +1,4 @@
--- The server's reaction when accepting a connection fails, by the error numbers of accept(2) of Linux.
+-- How the server reacts when it fails to accept a connection, by the error numbers of Linux's accept(2).
 use Rattle.std.specs.Prelude.{ℕ, ℤ, pos, int_lt, unsigned_abs, List, [], ◌∷◌, Option, Some, None, if◌then◌else◌, ◌==◌}
 use Rattle.std.specs.declared.io.ErrorKind.{ErrorKind}
 use Rattle.std.specs.declared.io.ErrorKind.TheVariants as kind

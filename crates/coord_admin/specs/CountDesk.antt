@@ -9,7 +9,8 @@ use Rattle.coord_admin.specs.declared.request.Request.TheVariants.{Order, Show, 
 use Rattle.coord_admin.specs.declared.answer.Answer.{Answer}
 use Rattle.coord_admin.specs.declared.answer.Answer.TheVariants as answer
 
--- The n-th order gets step n, at most the greatest u64.
+-- the answer of a desk that has counted n orders: the next order gets step n + 1, or a refusal if
+-- that is no u64
 abbrev pub answer_of : ℕ → Request → Answer
 answer_of n (Order c k x) = if nat_lt (n + 1) (2 ^ 64) then answer.Replied (record { step = n + 1; kind = Done }) else answer.Refused Exhausted
 answer_of n Show = answer.Shown (record { accepted = n; settled = n; nodes = []; links = [] })
@@ -24,7 +25,7 @@ count_after n r = n
 abbrev pub next_reply : ℕ → Result Reply Refusal
 next_reply n = if nat_lt (n + 1) (2 ^ 64) then Ok (record { step = n + 1; kind = Done }) else Err Exhausted
 
--- An order is counted when it is posted, and its reply is stored with it. Nothing else can be posted.
+-- Posting an order counts the order and stores its reply. No other request can be posted.
 abbrev pub Counts : ℕ → Request → Result Reply Refusal → ℕ → Type 0
 Counts n (Order c k x) reply m = (reply ≡ next_reply n) × (m ≡ count_after n (Order c k x))
 Counts n r reply m = ⊥

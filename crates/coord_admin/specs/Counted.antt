@@ -22,6 +22,6 @@ counted_answered a b c Close reply x put replied = absurd put
 pub counted_apart : (a b c : ℕ) (r : Request) (p q x : Result Reply Refusal) → Counts a r q b → (x ≡ p) × (c ≡ b) → (m : ℕ) × ((x ≡ p) × (m ≡ a)) × Counts m r q c
 counted_apart a b c r p q x put replied = (a, (replied.0, refl), subst (λ n. Counts a r q n) (sym replied.1) put)
 
--- The possible number of kept steps does not change if the count does not.
+-- If the count does not change, the possible number of kept steps does not change either.
 pub counted_keeps : (n m kept : ℕ) → m ≡ n → kept ≡ n → kept ≡ m
 counted_keeps n m kept same is = is ∙ sym same

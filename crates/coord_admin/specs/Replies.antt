@@ -19,7 +19,8 @@ use Rattle.coord_admin.specs.declared.writing.ReplyLine.TheVariants as ready
 use Rattle.coord_admin.specs.Faults.{line_fault_name}
 use Rattle.coord_view.specs.Shown as shown
 
--- the answer for a refusal by the desk; if the desk ran out of memory, it is a fault of the line
+-- the answer for a refusal by the desk; if the desk ran out of memory, the answer is a fault of the
+-- line
 abbrev pub refused : Refusal → Answer
 refused refusal.OutOfMemory = Faulted OutOfMemory
 refused r = Refused r
@@ -77,7 +78,7 @@ abbrev pub line_bytes : ReplyLine → List ℕ
 line_bytes (ready.Fixed text) = text.now
 line_bytes (ready.Made text) = string_bytes text
 
--- the bytes of a line or, if it could not be made, of the line for out of memory
+-- the bytes of a line or, if the line could not be made, of the line that reports out of memory
 abbrev pub made_bytes : {E : Type 0} → Result (String Global) E → List ℕ
 made_bytes (Ok text) = string_bytes text
 made_bytes (Err e) = reply_line (Faulted OutOfMemory)

@@ -47,21 +47,21 @@ members_of Show = []
 members_of Resend = []
 members_of Close = []
 
--- the whole number at a name; None unless the member is a u64
+-- the value of the member with this name, if it is a u64; otherwise None
 abbrev pub number_at : Name → Data → Option ℕ
 number_at name d = option_and_then as_u64 (option_and_then as_number (get name d))
 
 abbrev pub from_1_to : ℕ → ℕ → Option ℕ
 from_1_to most n = if nat_le 1 n && nat_le n most then Some n else None
 
--- the whole number at a name; None unless it is from 1 to `most`
+-- the value of the member with this name, if it is a whole number from 1 to `most`; otherwise None
 abbrev pub id_at : Name → ℕ → Data → Option ℕ
 id_at name most d = option_and_then (from_1_to most) (number_at name d)
 
 abbrev pub node_at : Name → Data → Option ℕ
 node_at name d = id_at name MAX_NODES d
 
--- a function of two optional values; None unless both are present
+-- the function applied to two optional values; None unless both are present
 abbrev pub with_both : {A B C : Type 0} → (A → B → C) → Option A → Option B → Option C
 with_both f (Some a) (Some b) = Some (f a b)
 with_both f a b = None
@@ -103,8 +103,8 @@ abbrev pub or_bad_request : Option Request → Result Request LineFault
 or_bad_request None = Err BadRequest
 or_bad_request (Some r) = Ok r
 
--- An object has each name once. So if it has all members of its op, and the same number of members, it has no
--- others.
+-- the request of an object with this op. An object has each name once. So an object with all members of its
+-- op, and with the same number of members, has no others.
 abbrev pub request_of_op : Data → Option Op → Result Request LineFault
 request_of_op d None = Err UnknownOp
 request_of_op d (Some op) = if member_count d == suc (length (members_of op)) then or_bad_request (request_by op d) else Err BadRequest

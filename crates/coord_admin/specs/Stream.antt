@@ -1,4 +1,4 @@
--- The output of `serve`: one reply for each line of the input, in order, that the desk may return.
+-- The output of `serve`: for each line of the input, in order, one reply that the desk may give.
 use Rattle.std.specs.Prelude.{◌≡◌, ◌⊎◌, ℕ, ◌≤◌, Bool, true, false, List, [], ◌∷◌, ◌++◌, length, IsSome, IfSome, Some, Result, Ok, Err}
 use Rattle.std.specs.Str.{IsUtf8}
 use Rattle.coord_lines.specs.Lines.{Line, lines_of}
@@ -21,7 +21,7 @@ abbrev pub is_closed : Answer → Bool
 is_closed Closed = true
 is_closed a = false
 
--- whether making the reply line needs memory; the replies to a close and for a fault do not
+-- whether making the reply line needs memory; the reply to a close and the reply for a fault need none
 abbrev pub takes_memory : Answer → Bool
 takes_memory Closed = false
 takes_memory (Faulted f) = false
@@ -41,11 +41,12 @@ abbrev pub has_begun : Line → Bool
 has_begun (Some []) = false
 has_begun line = true
 
--- The returned reply is the answer, or out of memory if its line could not be made.
+-- The returned reply is the answer, or the fault `OutOfMemory` if the answer's line could not be made.
 abbrev pub IsWritten : Answer → Answer → Type 0
 IsWritten answer returned = (returned ≡ answer) ⊎ ((returned ≡ Faulted OutOfMemory) × (takes_memory answer ≡ true))
 
--- Each returned reply is the answer at the same place, or out of memory if its line could not be made.
+-- Each returned reply is the answer at the same place, or the fault `OutOfMemory` if that answer's line
+-- could not be made.
 abbrev pub AreWritten : List Answer → List Answer → Type 0
 AreWritten [] [] = Unit {0}
 AreWritten (answer ∷ answers) (a ∷ returned) = IsWritten answer a × AreWritten answers returned
@@ -55,7 +56,7 @@ AreWritten answers returned = ⊥
 abbrev pub IsText : Line → Type 0
 IsText line = IsSome line × IfSome line IsUtf8
 
--- `answers d r a e`: the desk d may answer a to the request r, and then is in the state e
+-- `answers d r a e`: the desk d may give the answer a to the request r, and then is in the state e
 module _ {D : Type 0} (answers : D → Request → Answer → D → Type 0) where
   -- The answer to a line. If the line has a fault, the fault is the answer, and the desk gets no request.
   abbrev pub MayAnswer : D → Result Request LineFault → Answer → D → Type 0
@@ -69,7 +70,7 @@ module _ {D : Type 0} (answers : D → Request → Answer → D → Type 0) wher
   abbrev pub FindsNoMemory : D → Line → D → Type 0
   FindsNoMemory d line e = (IsText line × (e ≡ d)) ⊎ ((a : Answer) × (takes_memory a ≡ true) × AnswersLine d line a e)
 
-  -- The reply to a line is its answer, or out of memory.
+  -- The reply to a line is its answer, or the fault `OutOfMemory`.
   abbrev pub Gets : D → Line → Answer → D → Type 0
   Gets d line a e = AnswersLine d line a e ⊎ ((a ≡ Faulted OutOfMemory) × FindsNoMemory d line e)
 
@@ -79,7 +80,7 @@ module _ {D : Type 0} (answers : D → Request → Answer → D → Type 0) wher
   AllGet d (line ∷ lines) (a ∷ returned) e = (f : D) × Gets d line a f × (is_closed a ≡ false) × AllGet f lines returned e
   AllGet d lines returned e = ⊥
 
-  -- The first lines got these replies. The others are posted orders that have no reply yet.
+  -- The first lines got these replies. The other lines are posted orders that have no reply yet.
   abbrev pub GoesOn : {P : Type 0} → (D → Request → P → D → Type 0) → D → List Line → List Answer → List P → D → Type 0
   GoesOn posts d lines returned posted e = (done : List Line) × (waiting : List Line) × (f : D) × (lines ≡ done ++ waiting) × AllGet d done returned f × AwaitReplies posts f waiting posted e
 
@@ -97,11 +98,11 @@ module _ {D : Type 0} (answers : D → Request → Answer → D → Type 0) wher
       (returned : List Answer) × (line : Line) × (next : Line) × (left : List Line) × (f : D)
       × Reaches d lines returned (line ∷ next ∷ left) f × Gets f line Closed e × (text ≡ reply_lines returned ++ reply_line Closed)
 
-  -- Nothing more was read, and each complete line has its reply.
+  -- The server read nothing more, and each complete line has its reply.
   abbrev pub Stops : D → List Line → List ℕ → D → Type 0
   Stops d lines text e = (returned : List Answer) × (last : Line) × Reaches d lines returned (last ∷ []) e × (text ≡ reply_lines returned)
 
-  -- The reply to a line; if it is the last line, without a line feed, the fault `Unfinished`.
+  -- The line gets this reply. A last line without a line feed may get the fault `Unfinished`.
   abbrev pub GetsAtLast : D → Line → Answer → D → Type 0
   GetsAtLast d line a e = Gets d line a e ⊎ ((a ≡ Faulted Unfinished) × (e ≡ d))
 

@@ -50,8 +50,8 @@ module _ {D P : Type 0} (replies : D → P → Result Reply Refusal → D → Ty
   AllReplied d (p ∷ posted) (r ∷ results) e = (f : D) × replies d p r f × AllReplied f posted results e
   AllReplied d posted results e = ⊥
 
--- Orders that were posted together and replied to in turn get the answers that they would get one after
--- another.
+-- Orders that are posted together and replied to in turn get the same answers as orders that are
+-- carried out one after another.
 abbrev pub AnswersInTurn : {D P : Type 0} → (D → Request → Answer → D → Type 0) → (D → Request → P → D → Type 0) → (D → P → Result Reply Refusal → D → Type 0) → Type 0
 AnswersInTurn {D} {P} answers posts replies =
     (d e f : D) (orders : List Request) (posted : List P) (results : List (Result Reply Refusal))

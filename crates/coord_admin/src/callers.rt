@@ -28,7 +28,8 @@ pub trait Callers {
     ghost talked: { Self → List Talk → Self → Type 0 };
 
     /// The server asked for the next client and got this connection, over which nothing was read or
-    /// written yet. Only the end of this connection shows which connections have ended before.
+    /// written yet. This does not show which connections have ended before; only the end of this
+    /// connection does.
     ghost called: { Self → Self.Line → Self → Type 0 };
 
     /// The server asked for the next client or for the address, and the callers failed: no more clients
@@ -48,9 +49,9 @@ pub trait Callers {
         ensures failed { OnErr result (failed self.old self.new) }
         ensures none_ended { OnErr result (talked self.old [] self.new) };
 
-    /// Ends a served connection. `served` must be true of it: it may be `Input` only if nothing more
-    /// comes in, and a fault only if a read or write has failed. If the server ended the connection, by
-    /// a close or a cut, the client first gets time to read the last answer.
+    /// Ends a served connection. `served` must say how the connection ended: it may be `Input` only if
+    /// nothing more comes in, and a fault only if a read or write has failed. If the server ended the
+    /// connection, by a close or a cut, the client first gets time to read the last answer.
     fn end(&mut self, line: Self::Line, served: Result<Ended, ServeFault>)
         requires input { served ≡ Ok Input → Self.Line.has_ended line }
         requires read { served ≡ Err Read → Self.Line.has_failed line }
@@ -114,8 +115,8 @@ impl<'a, S: Read + Write + OpenStream + Drop, L: OpenListener<Stream = S>, T: Cl
         self.listener.local_addr()
     }
 
-    /// Skips a client that has left, or whose stream can't be set up. Retries after a temporary failure
-    /// up to `ACCEPT_TRIES` times, after a pause of `ACCEPT_REST_MILLIS`.
+    /// Skips a client that has left, or whose stream can't be set up. After a temporary failure, pauses
+    /// for the time `accept_rest` and retries, at most `ACCEPT_TRIES` times.
     fn next(&mut self) -> io::Result<TimedStream<'a, S, T>> {
         let mut tries = 0;
         for stream in self.listener.incoming() {

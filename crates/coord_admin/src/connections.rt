@@ -23,9 +23,9 @@ pub enum Stop {
     Old,
 }
 
-/// Serves the callers one after another, until a line closes the desk, or until the desk's instance is
-/// old: it then keeps `most` steps. A connection that is still open when the desk keeps twice as many
-/// is cut, once its complete lines have their replies.
+/// Serves the callers one after another, until a line closes the desk, or until the desk keeps `most`
+/// steps and its instance is old. A connection that is still open when the desk keeps twice as many
+/// steps is cut, once its complete lines have their replies.
 ///
 /// A fault of a connection ends only that connection. An error means that the callers have failed: no
 /// more clients come, and the desk is not closed.

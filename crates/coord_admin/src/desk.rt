@@ -17,7 +17,7 @@ use coord_view::View;
 ///
 /// An order is carried out in two halves: the caller posts it, and then waits for its reply. Orders
 /// that are posted in between change no reply. So orders that are posted together and replied to in
-/// turn get the answers that they would get one after another
+/// turn get the same answers as orders that are carried out one after another
 /// (`laws::posted_together_answered_in_turn`).
 pub trait Desk {
     /// A posted order without a reply yet. The caller must pass it to `reply`.
@@ -36,7 +36,7 @@ pub trait Desk {
     ghost keeps: { Self → ℕ → Type 0 };
 
     /// Returns the number of steps that the desk keeps in memory. `serve_connections` limits an
-    /// instance by it.
+    /// instance by this number.
     fn kept(&self) -> usize
         ensures { keeps self.now result };
 

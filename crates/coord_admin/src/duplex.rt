@@ -3,11 +3,11 @@
 ghost use Rattle.std.specs.Prelude.{◌≡◌, ◌<◌, ◌≤◌, ◌++◌, List, [], ℕ, Bool, ⊤, length, take, IfOk, OnErr, OnOk};
 ghost use Rattle.coord_lines.specs.Written.{IsFirstPart};
 
-/// Nothing more could be read, at least not in time.
+/// A failed read: nothing more could be read, at least not in time.
 #[derive(Clone, Copy, Debug, PartialEq, Eq)]
 pub struct NotRead;
 
-/// A text could not be written completely, at least not in time.
+/// A failed write: a text could not be written completely, at least not in time.
 #[derive(Clone, Copy, Debug, PartialEq, Eq)]
 pub struct NotWritten;
 
@@ -42,7 +42,7 @@ pub trait Duplex {
         false
     }
 
-    /// Writes all of these replies.
+    /// Writes these replies completely.
     fn reply(&mut self, text: &[u8]) -> Result<(), NotWritten>
         ensures whole { OnOk result (exchanged self.old [] text.now self.new) }
         ensures part { OnErr result ((part : List ℕ) × exchanged self.old [] part self.new ×

@@ -11,7 +11,7 @@ use std::alloc::AllocError;
 use std::error::Error;
 use std::fmt;
 
-/// The reason why a line is not carried out, or why its reply could not be made. The first one that
+/// The reason why a line is not carried out, or why its reply could not be made. The first fault that
 /// applies is reported.
 #[derive(Clone, Copy, Debug, PartialEq, Eq)]
 pub enum LineFault {
@@ -23,7 +23,8 @@ pub enum LineFault {
     BadText,
     /// `serde_json` does not accept the line as JSON.
     BadJson,
-    /// The line is not an object with a string as its `op`, or its members are not those of its `op`.
+    /// The line is not an object with a string as its `op`, or its members are not the members of
+    /// that `op`.
     BadRequest,
     /// The line's `op` does not exist.
     UnknownOp,
@@ -49,7 +50,7 @@ impl LineFault {
     }
 }
 
-/// The faults that end a call of `serve` before the end of its input, and not by a close.
+/// The faults that end a call of `serve` before the end of its input and before a close.
 #[derive(Clone, Copy, Debug, PartialEq, Eq)]
 pub enum ServeFault {
     /// Memory ran out before anything was read.

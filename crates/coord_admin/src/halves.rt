@@ -9,7 +9,8 @@ use crate::duplex::{Duplex, NotRead, NotWritten};
 use coord_lines::write_whole;
 use std::io::{Read, Write};
 
-/// A connection that reads from the reader and writes to the writer. Its calls wait as long as theirs.
+/// A connection that reads from the reader and writes to the writer. A call waits as long as the
+/// reader or the writer does.
 #[derive(Drop)]
 pub struct Halves<R, W> {
     pub reader: R,

@@ -34,7 +34,8 @@ fn age_of(most: usize, kept: usize) -> Age
     }
 }
 
-/// Waits for the next caller while the desk's instance is young. Returns None once it is old.
+/// Waits for the next caller while the desk's instance is young. Returns None once the instance is
+/// old.
 pub fn next_in_instance<C: Callers, D: Desk>(
     most: usize,
     callers: &mut C,

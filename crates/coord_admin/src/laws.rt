@@ -1,5 +1,5 @@
-//! Laws about a desk with orders posted together, about worked examples of lines, and about counts.
-//! Each is the contract of an empty function.
+//! Laws about orders posted together, about worked examples of lines, and about counts. Each is the
+//! contract of an empty function.
 
 ghost use Rattle.coord_admin.specs.Times.{CountsAreUsual};
 ghost use Rattle.coord_admin.specs.Together.{AnswersInTurn};
@@ -7,8 +7,8 @@ ghost use Rattle.coord_admin.specs.WorkedLines.{WorkedRequests, WorkedReplies};
 
 use crate::desk::Desk;
 
-/// Orders that are posted together and replied to in turn get the answers that they would get one after
-/// another.
+/// Orders that are posted together and replied to in turn get the same answers as orders that are
+/// carried out one after another.
 pub fn posted_together_answered_in_turn<D: Desk>()
     ensures { AnswersInTurn D.answers D.posts D.replies }
 {}

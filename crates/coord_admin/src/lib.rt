@@ -8,7 +8,7 @@
 //!
 //! `serve_connections` serves one connection after another until the desk's instance is old
 //! (`specs/Connections.antt`, `specs/InstanceLimit.antt`). `Halves` makes one connection of a reader
-//! and a writer, `Accepted` has the connections of a listener, with timeouts for each client, and
+//! and a writer. `Accepted` accepts the connections of a listener, with timeouts for each client.
 //! `CountDesk` is a desk that only counts.
 #![tactic(auto)]
 

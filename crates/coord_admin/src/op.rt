@@ -23,7 +23,7 @@ pub enum Op {
 }
 
 impl Op {
-    /// Returns the op with this name.
+    /// Returns the op with this name, or None if there is no such op.
     pub fn named(name: &str) -> Option<Op>
         ensures { result ≡ op_named name.now }
     {
@@ -96,14 +96,14 @@ impl Op {
     }
 }
 
-/// Returns the whole number at a key, or None unless it is a u64.
+/// Returns the value at a key if it is a u64, otherwise None.
 pub fn number_at(members: &Value, key: &str) -> Option<u64>
     ensures { result ≡ number_at key.now (view members.now) }
 {
     members.get(key).and_then(Value::as_u64)
 }
 
-/// Returns the identifier at a key, or None unless it is a whole number from 1 to `MOST`.
+/// Returns the identifier at a key if it is a whole number from 1 to `MOST`, otherwise None.
 pub fn identifier_at<const MOST: u8>(members: &Value, key: &str) -> Option<Identifier<MOST>>
     ensures { result ≡ id_at key.now MOST (view members.now) }
 {

@@ -101,8 +101,8 @@ impl<D: Desk> Queue<D> {
         self.answer_all(alloc, connection, desk)
     }
 
-    /// Waits for the reply to each order, in turn, and writes the replies. If they can't be written, it
-    /// still waits for all of them.
+    /// Waits for the reply to each order, in turn, and writes the replies. If a reply can't be written,
+    /// the call still waits for all replies.
     pub fn answer_all<C: Duplex>(
         &mut self,
         alloc: Global,

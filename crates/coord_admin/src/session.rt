@@ -53,7 +53,6 @@ pub enum Ended {
 /// `MOST_READS` reads, and `Read` and `Write` after a failed read or write. Orders accepted until then
 /// stay accepted. If the reply to one of several orders posted together could not be written, all of
 /// them may have been accepted.
-/// reply to one was not written.
 pub fn serve<C: Duplex, D: Desk>(
     alloc: Global,
     most: usize,
@@ -149,8 +148,8 @@ fn has_begun(line: &LineBuffer) -> bool
     }
 }
 
-/// Handles a piece of the input. An order that it completes is posted; any other line is answered after
-/// the posted orders. Returns whether a line closed the desk.
+/// Handles a piece of the input. An order that the piece completes is posted; any other line is
+/// answered after the posted orders. Returns whether a line closed the desk.
 fn take<C: Duplex, D: Desk>(
     alloc: Global,
     queue: &mut Queue<D>,

@@ -27,7 +27,7 @@ pub struct TimedStream<'a, S, T: Clock> {
     has_filled: bool,
 }
 
-/// Returns the time that is left of a span since its start, or None if it has passed.
+/// Returns the rest of a time span that began at `start`, or None if the span has passed.
 fn left<T: Clock>(clock: &T, start: Instant, span: Duration) -> Option<Duration> {
     let passed = start.elapsed(clock).ok()?;
     match span.checked_sub(passed) {
@@ -90,8 +90,7 @@ impl<'a, S: Read + Write + OpenStream + Drop, T: Clock> TimedStream<'a, S, T> {
     }
 
     /// Returns the timeout of the next read, or None if its limit has passed. The limit for the whole
-    /// connection applies only between
-    /// lines, and when a line has just begun.
+    /// connection applies only between lines, and when a line has just begun.
     fn waits(&mut self, is_within_line: bool) -> Option<Duration> {
         if !is_within_line {
             self.line_begun = None;
@@ -157,8 +156,8 @@ impl<'a, S: Read + Write + OpenStream + Drop, T: Clock> Duplex for TimedStream<'
         read
     }
 
-    /// Checks without waiting, and not at all if the last read has shown that there is no more input.
-    /// If the stream can't be made blocking again, its next read fails.
+    /// Checks for input without waiting. If the last read has shown that there is no more input, does
+    /// not check. If the stream can't be made blocking again, its next read fails.
     fn has_more(&self) -> bool {
         if !self.has_filled || self.stream.set_nonblocking(true).is_err() {
             return false;

@@ -18,8 +18,8 @@ pub const SILENCE_SECONDS: u64 = 15;
 /// reply that waits for its step is cut off.
 pub const CONNECTION_SECONDS: u64 = 600;
 
-/// The number of milliseconds after a close in which the client's input is discarded, so that it can
-/// still read the answer.
+/// The number of milliseconds after a close in which the client's input is discarded, so that the
+/// client can still read the answer.
 pub const DISCARD_MILLIS: u64 = 1_000;
 
 /// The maximum number of reads of the client's input after a close, each of at most 512 bytes.

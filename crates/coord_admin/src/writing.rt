@@ -34,7 +34,8 @@ impl ReplyLine {
     }
 }
 
-/// Writes the reply line of an answer. If memory for the line runs out, writes the line for that.
+/// Writes the reply line of an answer. If memory for the line runs out, writes the line that
+/// reports out of memory.
 pub fn write_answer<C: Duplex>(
     alloc: Global,
     connection: &mut C,

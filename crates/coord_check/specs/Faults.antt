@@ -23,7 +23,7 @@ holds_of letter.F lane l = has_one_parent_at_most l
 holds_of letter.G lane l = has_no_early_ready l
 holds_of letter.H lane l = has_right_distances l
 
--- whether the predicate with this letter holds for the link of u and v, seen from u
+-- whether the predicate with this letter holds for the link of u and v, seen from the end u
 abbrev pub link_holds : World → ℕ → ℕ → Letter → Bool
 link_holds w u v x = holds_of x (lane_or_none (lane_at w.links u v)) (link (view w) u v)
 
@@ -43,7 +43,7 @@ first (x ∷ xs) = Some x
 abbrev pub nodes_from : ℕ → List ℕ
 nodes_from u = numbers MAX_NODES u
 
--- the violation, if the test fails
+-- the violation if the test fails, otherwise nothing
 abbrev pub fault_unless : Bool → Violation → List Violation
 fault_unless b v = if b then [] else v ∷ []
 

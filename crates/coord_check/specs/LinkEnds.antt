@@ -21,7 +21,7 @@ count (msg.Abort k) ms = aborts ms
 count msg.Ack ms = acks ms
 count msg.Ready ms = readies ms
 
--- the lane, or a new one if it is absent
+-- the lane, or a new lane if there is none
 abbrev pub lane_or_none : Option Lane → Lane
 lane_or_none None = new_lane 0
 lane_or_none (Some l) = l
@@ -40,6 +40,6 @@ link_end w u v = record {
 abbrev pub end_at : LinkEnd → End
 end_at s = record { mode = s.mode; awaits = s.awaits; child = s.child; distance = s.distance; carries = s.carries }
 
--- the link with these two ends, seen from the first one
+-- the link with these two ends, seen from the first end
 abbrev pub seen : LinkEnd → LinkEnd → Link
 seen here there = record { here = end_at here; there = end_at there; out = transit here.lane; back = transit there.lane }

@@ -9,7 +9,7 @@ use coord_link::Lane;
 use coord_types::{Mode, NodeId};
 use coord_world::World;
 
-/// One end of a link: what its node stores about the other end, and the lane to it.
+/// One end of a link: what its node stores about the other end, and the lane to the other end.
 #[derive(Drop)]
 pub(crate) struct LinkEnd {
     pub mode: Mode,

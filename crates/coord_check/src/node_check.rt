@@ -27,7 +27,7 @@ fn awaits_rightly(mode: Mode, pend: NodeSet) -> bool
     (mode == Mode::Abort) != pend.is_empty()
 }
 
-/// Tests whether a Ready node has no parent, and a Converge node has one.
+/// Tests whether a Ready node has no parent, and a Converge node has a parent.
 fn has_right_parent(mode: Mode, parent: Option<NodeId>) -> bool
     ensures { result ≡ has_right_parent mode parent }
 {
@@ -49,7 +49,7 @@ fn is_distance_right(mode: Mode, distance: u64, count: u64) -> bool
     }
 }
 
-/// Tests whether the parent, if any, is a neighbour that the node does not await.
+/// Tests whether the parent, if any, is a neighbour whose acknowledgement the node does not await.
 fn is_parent_near(parent: Option<NodeId>, pend: NodeSet, neighbours: NodeSet) -> bool
     ensures { result ≡ is_parent_near parent pend neighbours }
 {

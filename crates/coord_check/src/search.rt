@@ -26,9 +26,10 @@ const LINK_LETTERS: [Letter; 8] = [
     Letter::H,
 ];
 
-/// Returns the first fault of a world, or None if it is legal. Nodes are tested first, in ascending
-/// order. Then come the links, in ascending order of their lesser and then their greater end: for
-/// each link the letters from A to H, each seen from the lesser end and then from the greater one.
+/// Returns the first fault of a world, or None if the world is legal. Nodes are tested first, in
+/// ascending order. Then come the links, in ascending order of their lesser and then their greater
+/// end: for each link the letters from A to H, each seen from the lesser end and then from the
+/// greater end.
 pub fn check(world: &World) -> Option<Violation>
     ensures first { result ≡ first (faults world.now) }
     ensures legal { IsNone result ↔ Legal world.now }

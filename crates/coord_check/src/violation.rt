@@ -13,9 +13,9 @@ pub enum Letter {
     N,
     /// Of the messages in the queue, the other end has taken none, or only the front.
     A,
-    /// If an end awaits the other, exactly one of these three holds: an Abort is in transit to the
-    /// other end, the other end is in Abort and its parent is this end, or an Ack is in transit
-    /// back. If it does not await the other, none of the three holds.
+    /// If an end awaits the other, exactly one of these three holds: an Abort is in transit to the other
+    /// end, the other end is in Abort and its parent is this end, or an Ack is in transit back. If an end
+    /// does not await the other, none of the three holds.
     B,
     /// At most one Ready is in transit.
     C,

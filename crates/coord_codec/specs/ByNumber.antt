@@ -15,7 +15,7 @@ one_or_none (Some x) = x ∷ []
 abbrev pub HasKeysTo : {X : Type 0} → ℕ → Table nat_cmp_total X → Type 0
 HasKeysTo {X} most m = (q : ℕ) (x : X) → get m q ≡ Some x → (1 ≤ q) × (q ≤ most)
 
--- the entry with this number, or an empty list
+-- a list of the entry with this number, or an empty list if there is no such entry
 abbrev pub entry_at : {X : Type 0} → Table nat_cmp_total X → ℕ → List (ℕ × X)
 entry_at m u = one_or_none (option_map (λ x. (u, x)) (get m u))
 

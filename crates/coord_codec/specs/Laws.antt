@@ -5,7 +5,8 @@ use Rattle.coord_batch.specs.Decoding.{decoded, fault_at}
 use Rattle.coord_batch.specs.declared.fault.FaultKind.TheVariants.{Short, Extra}
 use Rattle.coord_codec.specs.Worlds.{world}
 
--- no encoding is a prefix of another one: bytes that begin with an encoding determine the world
+-- no encoding is a prefix of another encoding: bytes that begin with an encoding determine the
+-- world
 abbrev pub WorldsArePrefixFree : Type 0
 WorldsArePrefixFree = (v w : World) (rest more : List ℕ) → InRange v → InRange w → v.version ≡ w.version → (world v.version).text (rows_of v) ++ rest ≡ (world v.version).text (rows_of w) ++ more → (v ≡ w) × (rest ≡ more)
 

@@ -92,11 +92,11 @@ can_link nodes front e = same_group (group_of nodes e.0) (group_of nodes e.1) &&
 abbrev pub last_ends : List LinkRow → ℕ × ℕ
 last_ends front = last_by (λ r. (r.a, r.b)) (0, 0) front
 
--- whether a link whose lesser end is a may follow these links: a is not below the lesser end of the last one
+-- whether a link whose lesser end is a may follow these links: a is not below the lesser end of the last link
 abbrev pub first_rises : List LinkRow → ℕ → Bool
 first_rises front a = nat_le (last_ends front).0 a
 
--- whether a link from a to b may follow these links: b is above a, and the link is above the last one
+-- whether a link from a to b may follow these links: b is above a, and the link is above the last link
 abbrev pub second_rises : List LinkRow → ℕ → ℕ → Bool
 second_rises front a b = nat_lt a b && (not (a == (last_ends front).0) || nat_lt (last_ends front).1 b)
 
@@ -109,7 +109,7 @@ ends nodes front =
 unfoldable pub queue : ℕ → ℕ → Format (List Msg)
 queue version count = counted (how_many PLACES) (λ _. message version count)
 
--- the fields of a lane except its incarnation, which is that of its link: base, got and queue
+-- the fields of a lane except its incarnation, which is its link's incarnation: base, got and queue
 abbrev pub content_of_lane : Lane → ℕ × (ℕ × List Msg)
 content_of_lane l = (l.base, (l.got, l.queue))
 

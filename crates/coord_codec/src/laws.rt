@@ -19,7 +19,8 @@ pub fn cut_worlds_are_short()
     ensures { CutWorldsAreShort }
 {}
 
-/// An encoding of a world followed by more bytes is refused as `Extra`, at the first of them.
+/// An encoding of a world followed by more bytes is refused as `Extra`, at the first of these
+/// bytes.
 #[tactic(auto, using(crate::proofs::WorldGrammars::more_worlds_extra))]
 pub fn bytes_behind_worlds_are_extra()
     ensures { BytesBehindWorldsAreExtra }

@@ -7,8 +7,9 @@
 //! The main theorems are the contracts of `write_world`, which returns the unique encoding of a
 //! world, and of `read_world`, which accepts exactly the encodings: the world that it returns is in
 //! its ranges, but need not be legal. The functions of `laws` state the laws (`specs/Laws.antt`):
-//! no encoding is a prefix of another one, a truncated encoding is `Short` at its length, and one
-//! followed by more bytes is `Extra` there.
+//! no encoding is a prefix of another encoding, a truncated encoding is refused as `Short` at its
+//! length, and an encoding followed by more bytes is refused as `Extra` at the first of these
+//! bytes.
 #![tactic(auto)]
 
 pub mod laws;

@@ -106,7 +106,7 @@ impl LinksRead {
     }
 
     /// Tests whether a link with the lesser end `a` may follow these links: `a` is not below the
-    /// lesser end of the last one.
+    /// lesser end of the last link.
     pub fn first_rises(&self, a: NodeId) -> bool
         ensures { result ≡ first_rises self.now.rows.items a }
     {
@@ -114,7 +114,7 @@ impl LinksRead {
     }
 
     /// Tests whether the link of `a` and `b` may follow these links: `b` is above `a`, and the link
-    /// is above the last one.
+    /// is above the last link.
     pub fn second_rises(&self, a: NodeId, b: NodeId) -> bool
         ensures { result ≡ second_rises self.now.rows.items a b }
     {

@@ -23,7 +23,7 @@ fn most_world_bytes(version: Version) -> usize {
     if version.number() == 1 { 8_907 } else { 13_515 }
 }
 
-/// Returns the rows whose encoding is exactly these bytes.
+/// Returns the rows whose encoding is exactly these bytes, or the fault.
 fn decode(alloc: Global, version: u8, bytes: &[u8]) -> Result<Parts, CodecFault>
     ensures exact { AnswersDecoded (λ p. listed p) result (decoded world version bytes.now) }
     ensures version { is_version version ≡ false → result ≡ Err bad_version }
@@ -65,7 +65,7 @@ pub fn read_world(alloc: Global, version: u8, bytes: &[u8]) -> Result<World, Cod
         → AnswersDecoded (λ v. v) result (Ok w) }
     // A wrong version is reported even if memory runs out.
     ensures version { (result ≡ Err bad_version) ↔ (is_version version ≡ false) }
-    // The fault and its place.
+    // The result is exact, including the fault and its place.
     ensures exact { AnswersDecoded rows_of result (decoded world version bytes.now) }
 {
     assembled(alloc, version, bytes)

@@ -191,7 +191,7 @@ fn read_link_row(
     Ok(LinkRow { a, b, forth, back })
 }
 
-/// Reads the kind of a reply, which must be one that the command can get.
+/// Reads the kind of a reply, which must be a kind that the command can get.
 #[tactic(auto, unfolding(crate::specs::Worlds::kind))]
 fn read_kind(input: &mut Input, order: &Command) -> Result<Kind, ReadError>
     ensures { ReadsSpelled (λ x. x) result ((kind order.now).read input.old) input.new }

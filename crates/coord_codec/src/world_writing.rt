@@ -59,7 +59,7 @@ fn mode_byte(mode: Mode) -> u8
     }
 }
 
-/// Returns the byte of a kind of reply. Only kinds of replies to orders have one.
+/// Returns the byte of a kind of reply. Only the kinds of replies to orders have a byte.
 fn kind_byte(kind: Kind) -> u8
     ensures { result ≡ kind_number kind }
 {
@@ -146,7 +146,7 @@ fn put_queue(out: &mut Vec<u8>, version: Version, messages: &[Msg]) -> Result<()
     put_messages(out, version, messages)
 }
 
-/// Appends two numbers.
+/// Appends two numbers, each as 8 bytes, the highest byte first.
 fn put_numbers(out: &mut Vec<u8>, first: u64, second: u64) -> Result<(), AllocError>
     ensures { OnOk result (out.new.items ≡
         out.old.items ++ to_be_bytes w64 first ++ to_be_bytes w64 second) }

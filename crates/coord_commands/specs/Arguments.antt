@@ -15,7 +15,7 @@ pub data AskedCommand : Type 0 where
   init : Text → Text → AskedCommand
   serve : Text → Text → AskedCommand
 
--- what a task requests
+-- the request of a task
 abbrev pub asked_of : Task → AskedCommand
 asked_of task.Drill = drill
 asked_of (task.Check file) = check file.now
@@ -71,7 +71,7 @@ resetd =
     (with_rule (with_rule (new_app (codes "serve")) (argument_named (codes "file"))) (argument_named (codes "address"))).top)
     (with_rule (new_app (codes "migrate")) (argument_named (codes "file"))).top
 
--- The request that the arguments make, the first of which is the program's name: the command that `clap`
--- finds in them. They make none if they contain any other argument, such as `--`.
+-- the request that the program's arguments make: the command that `clap` finds in them. The first
+-- argument is the program's name. Arguments that contain anything else, such as `--`, make no request.
 abbrev pub task_of : List Text → Option AskedCommand
 task_of arguments = option_and_then (in_arguments (length arguments)) (option_and_then (λ found. asked_of_name found.0 found.1) (subcommand_of resetd arguments))

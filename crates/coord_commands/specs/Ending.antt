@@ -11,13 +11,13 @@ use Rattle.coord_commands.specs.declared.fault.Fault.TheVariants.{Write, OutOfMe
 abbrev pub PrintsOne : (List ℕ → Type 0) → Option (List ℕ) → Option (List ℕ) → Type 0
 PrintsOne P old new = (text : List ℕ) × P text × Appends old new text
 
--- the possible faults when a write fails
+-- the possible faults of a failed write
 abbrev pub IsOfWriting : Fault → Type 0
 IsOfWriting Write = Unit {0}
 IsOfWriting OutOfMemory = Unit {0}
 IsOfWriting fault = ⊥
 
--- The output is unchanged unless a write fails; then a prefix of a text that satisfies P was appended.
+-- The output is unchanged, or a write failed after a prefix of a text that satisfies P.
 abbrev pub OutputCutShort : (List ℕ → Type 0) → Option (List ℕ) → Option (List ℕ) → Fault → Type 0
 OutputCutShort P old new fault = Keeps old new ⊎ (IsOfWriting fault × ((text : List ℕ) × P text × WritesFirstPart old new text))
 

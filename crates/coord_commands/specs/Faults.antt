@@ -15,8 +15,8 @@ use Rattle.coord_drill.specs.declared.fault.Fault.TheVariants as of_drill
 use Rattle.coord_commands.specs.declared.fault.Fault.{Fault}
 use Rattle.coord_commands.specs.declared.fault.Fault.TheVariants.{Usage, Read, Write, Socket, TooManyReads, OutOfMemory, Topology, Store, Refused, NotClosed}
 
--- The text of a fault. A refusal has its number; a store that is not quiet has the number of the node that is
--- in a reset.
+-- The text of a fault. The text of a refusal includes its number. The text for a store that is not quiet
+-- includes the number of the node that is in a reset.
 abbrev pub fault_text : Fault → List ℕ
 fault_text Usage = codes "Usage"
 fault_text Read = codes "Read"
@@ -68,7 +68,7 @@ fault_of_server of_server.Device = Store of_store.Device
 fault_of_server of_server.Write = Write
 fault_of_server (of_server.NotClosed fault) = NotClosed fault
 
--- the fault for a commit that was refused because memory ran out, or because the device fails or has failed
+-- the fault that a command reports for a failed commit: memory ran out, or the device fails or has failed
 -- before
 abbrev pub fault_of_commit : CommitFault → Fault
 fault_of_commit of_commit.OutOfMemory = OutOfMemory

@@ -11,7 +11,7 @@ use Rattle.coord_commands.specs.declared.fault.Fault.{Fault}
 use Rattle.coord_commands.specs.declared.fault.Fault.TheVariants.{Write, OutOfMemory, Store}
 use Rattle.std.specs.Io.KnownBytes.{Keeps}
 
--- These bytes, if they are known, give a legal world, and this is its line.
+-- These bytes, if they are known, give a legal world, and this is the line for that world.
 pub record IsLegalLine (bytes : Option (List ℕ)) (line : List ℕ) : Type 0 where
   pub world : World
   pub legal : Legal world
@@ -33,7 +33,8 @@ pub record IsShown (bytes : Option (List ℕ)) (lines : List ℕ) : Type 0 where
   pub given : IfSome bytes (λ known. Recovered known world)
   pub answered : lines ≡ shown world
 
--- Output can't be written, memory runs out, or opening a device with these bytes fails with this fault.
+-- The fault may end a command that opens a store: output can't be written, memory runs out, or opening a
+-- device with these bytes fails with this fault.
 abbrev pub IsOfOpening : Option (List ℕ) → Fault → Type 0
 IsOfOpening bytes Write = Unit {0}
 IsOfOpening bytes OutOfMemory = Unit {0}

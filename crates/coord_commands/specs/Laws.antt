@@ -8,8 +8,8 @@ use Rattle.coord_commands.specs.Arguments as asked
 abbrev pub AreTakenAs : List Text → AskedCommand → Type 0
 AreTakenAs arguments asked = (takes resetd arguments ≡ true) × (task_of arguments ≡ Some asked)
 
--- The arguments of each command are accepted, whatever the program's name is: for files with an absolute
--- path, and addresses that begin with 1.
+-- The arguments of each command are accepted, whatever the program's name is, if each file has an
+-- absolute path and each address begins with 1.
 pub record CommandsAreTaken : Type 0 where
   pub drill : (name : Text) → AreTakenAs (name ∷ codes "drill" ∷ []) asked.drill
   pub init : (name file topology : Text) → AreTakenAs (name ∷ codes "init" ∷ (47 ∷ file) ∷ (47 ∷ topology) ∷ []) (asked.init (47 ∷ file) (47 ∷ topology))

@@ -24,17 +24,19 @@ pub record IsStore (topology : Content) (w : World) (bytes : List ℕ) : Type 0 
   pub gives : Recovered bytes w
   pub halves : HasHalves topology.half bytes
 
--- A store with this world was created for a topology on a disk whose bytes, before and after, may be known.
+-- A store with this world was created for a topology. `before` and `after` are the bytes of its disk, if they
+-- are known.
 pub record IsFounded (topology : Content) (w : World) (before after : Option (List ℕ)) : Type 0 where
   pub empty : IfSome before (λ bytes. length bytes ≡ 0)
   pub made : IfSome after (IsStore topology w)
 
--- The topology file, if it is known, contains this topology. Only one byte more than the longest valid file
--- is read.
+-- The topology file contains this topology, if its bytes are known. The command reads only one byte more than
+-- the longest valid file has.
 abbrev pub Says : Option (List ℕ) → Content → Type 0
 Says file topology = IfSome file (λ bytes. said_by (take MOST_BYTES bytes) ≡ Ok topology)
 
--- the printed line for such a store, if this is the topology file
+-- This topology file is valid, its store was created on the disk, and this is the printed line for that
+-- store.
 pub record IsCreatedLine (file before after : Option (List ℕ)) (line : List ℕ) : Type 0 where
   pub topology : Content
   pub said : Says file topology
@@ -55,34 +57,35 @@ pub record LeavesWithoutMemory (topology : Content) (before after : Option (List
   pub taken : KeepsTaken before after
   pub empty : IfSome before (λ old. length old ≡ 0 → IfSome after (λ new. (length new ≡ 0) ⊎ IsStore topology (no_world 2) new))
 
--- A disk that is not empty is refused, and left unchanged.
+-- Creating the topology's store on the disk returned this fault of the store. If the disk was not empty, it
+-- is unchanged.
 abbrev pub RefusesDisk : Option (List ℕ) → Option (List ℕ) → Content → StoreFault → Type 0
 RefusesDisk before after topology NotEmpty = IfSome before (λ bytes. 0 < length bytes) × StaysKnown before after
 RefusesDisk before after topology HalfSize = StaysKnown before after
 RefusesDisk before after topology of_store.OutOfMemory = LeavesWithoutMemory topology before after
 RefusesDisk before after topology fault = IsCreateFault fault
 
--- The topology file, if it is known, contains no topology, for this reason; or memory to read it ran out.
+-- The topology file was refused for this reason: its bytes, if they are known, contain no topology, or memory
+-- to read them ran out.
 abbrev pub RefusesFile : Option (List ℕ) → ConfigFault → Type 0
 RefusesFile file of_topology.OutOfMemory = Unit {0}
 RefusesFile file reason = IfSome file (λ bytes. said_by (take MOST_BYTES bytes) ≡ Err reason)
 
--- the reasons why the store of a topology is not created; if one of its orders is refused, the disk has a
--- store without any step
+-- The store of a topology is not created because of this fault. If one of its orders is refused, the disk has
+-- a store without any step.
 abbrev pub RefusesStore : Option (List ℕ) → Option (List ℕ) → Content → Fault → Type 0
 RefusesStore before after topology OutOfMemory = LeavesWithoutMemory topology before after
 RefusesStore before after topology (Store fault) = RefusesDisk before after topology fault
 RefusesStore before after topology (Refused refusal) = RefusesToBegin (orders topology) refusal × IsFounded topology (no_world 2) before after
 RefusesStore before after topology fault = ⊥
 
--- The topology file, if it is known, contains a topology, and memory to create its store or to print its line
--- ran out.
+-- Memory ran out after the topology file was read: the store was not created, or its line was not printed.
 abbrev pub LacksMemoryToMake : Option (List ℕ) → Option (List ℕ) → Option (List ℕ) → Type 0
 LacksMemoryToMake file before after = (topology : Content) × Says file topology × (LeavesWithoutMemory topology before after ⊎ IsFounded topology (begun topology) before after)
 
--- The faults of `init`, except those of its arguments. The topology file is checked first, so if the store is
--- not created for another reason, the file contains a topology. If the line can't be written, the store was
--- created.
+-- The faults of `init`, except the faults of its arguments. The topology file is checked first, so if the
+-- store is not created for another reason, the file contains a topology. If the line can't be written, the
+-- store was created.
 abbrev pub IsOfMaking : Option (List ℕ) → Option (List ℕ) → Option (List ℕ) → Fault → Type 0
 IsOfMaking file before after Read = StaysKnown before after
 IsOfMaking file before after Write = (topology : Content) × Says file topology × IsFounded topology (begun topology) before after

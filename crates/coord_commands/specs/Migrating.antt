@@ -14,7 +14,7 @@ use Rattle.coord_commands.specs.Streams.{Streams}
 use Rattle.coord_commands.specs.declared.fault.Fault.{Fault}
 use Rattle.coord_commands.specs.declared.fault.Fault.TheVariants.{Write, OutOfMemory, Store}
 
--- The disk reads as before.
+-- If the bytes are known, a read of the disk returns the same bytes as before.
 abbrev pub ReadsAsBefore : Option Present → Option Present → Type 0
 ReadsAsBefore before after = IfSome before (λ old. IfSome after (λ new. new.read ≡ old.read))
 
@@ -30,21 +30,22 @@ pub record IsMigratedLine (before after : Option Present) (line : List ℕ) : Ty
   pub is_raised : IsRaised before after world
   pub counted : line ≡ migrated_line world.count
 
--- These bytes could have been left by a crash before, or give the disk's world in one version or the other.
+-- A crash before the migration could have left these bytes, or they give the disk's world in its old version
+-- or in version 2.
 abbrev pub IsEitherVersion : Present → List ℕ → Type 0
 IsEitherVersion old image = IsImage old image ⊎ ((w : World) × Recovered old.read w × GivesEither w (risen w) image)
 
--- A crash leaves only such bytes.
+-- A crash after the migration leaves only bytes that satisfy `IsEitherVersion`.
 abbrev pub GivesEitherVersion : Option Present → Option Present → Type 0
 GivesEitherVersion before after = IfSome before (λ old. IfSome after (λ new. (image : List ℕ) → IsImage new image → IsEitherVersion old image))
 
--- A migration: a crash at any moment between the two states of the disk leaves only such bytes, and the device
--- has failed this many times meanwhile.
+-- A migration of a disk. A crash at any moment of the migration leaves only bytes that satisfy
+-- `IsEitherVersion`, and the device failed this many times.
 pub record Raises {D : Type 0} (model : DiskModel D) (failed : ℕ) (old new : D) : Type 0 where
   pub any_moment : model.keeps_model old ≡ true → LeavesOnly model old new (IsEitherVersion (model.present old))
   pub failures : model.failures new ≡ model.failures old + failed
 
--- A migration of the named disk, which was taken and put back.
+-- The named disk was taken, its store was migrated (`Raises`), and the disk was put back.
 pub record RaisesNamed {D : Type 0} (model : DiskModel D) (failed : ℕ) (before after : Option Present) : Type 0 where
   pub taken : D
   pub back : D
@@ -52,14 +53,15 @@ pub record RaisesNamed {D : Type 0} (model : DiskModel D) (failed : ℕ) (before
   pub is : IfSome after (λ known. known_of model back ≡ Some known)
   pub raises : Raises model failed taken back
 
--- This is the node with the lowest number among those in a reset, and the disk is unchanged.
+-- The migration is refused because of this node, which has the lowest number among the nodes in a reset. The
+-- disk is unchanged.
 pub record IsNotQuiet (before after : Option Present) (node : ℕ) : Type 0 where
   pub world : World
   pub given : IfSome before (λ old. Recovered old.read world)
   pub refuses : RefusesMigration world (NotQuiet node)
   pub unchanged : ReadsAsBefore before after
 
--- The faults if the store is not migrated. Unless the device failed, the disk is unchanged.
+-- The store was not migrated because of this fault. Unless the device failed, the disk is unchanged.
 abbrev pub IsOfRaising : Option Present → Option Present → Fault → Type 0
 IsOfRaising before after OutOfMemory = ReadsAsBefore before after
 IsOfRaising before after (Store Device) = GivesEitherVersion before after
@@ -73,7 +75,7 @@ IsOfMigrating before after Write = (w : World) × IsRaised before after w
 IsOfMigrating before after OutOfMemory = ReadsAsBefore before after ⊎ ((w : World) × IsRaised before after w)
 IsOfMigrating before after fault = IsOfRaising before after fault
 
--- the number of device failures, if the store is not migrated with this fault
+-- the number of device failures that this fault of a migration implies
 abbrev pub failed_in_migration : Fault → ℕ
 failed_in_migration (Store fault) = failed_in_store fault
 failed_in_migration fault = 0

@@ -65,20 +65,19 @@ IsOfArguments arguments OutOfMemory = Unit {0}
 IsOfArguments arguments Usage = takes resetd arguments ≡ true → task_of arguments ≡ None
 IsOfArguments arguments fault = ⊥
 
--- If the arguments are refused, only the fault's line is printed, nothing is read, and each disk is
--- unchanged.
+-- The arguments are refused: only the fault's line is printed, nothing is read, and each disk is unchanged.
 pub record RefusesArguments (arguments : List Text) (status : ℕ) (old new : Around) : Type 0 where
   pub fails : CommandFails (IsOfArguments arguments) (λ _. ⊥) status old.streams new.streams
   pub unread : Keeps old.streams.input new.streams.input
   pub untouched : (name : List ℕ) → new.holds name ≡ old.holds name
 
--- If the arguments could not be read, only this fault's line is printed, and nothing is read.
+-- The arguments could not be read: only the line of this fault is printed, and nothing is read.
 pub record LacksArguments (fault : Fault) (status : ℕ) (old new : Around) : Type 0 where
   pub fails : CommandFails (λ answered. answered ≡ fault) (λ _. ⊥) status old.streams new.streams
   pub unread : Keeps old.streams.input new.streams.input
 
--- The arguments are refused, or the named disk is migrated as requested. A crash at any moment leaves nothing
--- else on that disk.
+-- The arguments are refused, or the named disk is migrated as requested. `EndsMigrating` states what a crash at
+-- any moment may leave on that disk.
 abbrev pub RunsMigrate : {D : Type 0} → DiskModel D → List Text → List ℕ → ℕ → Around → Around → Type 0
 RunsMigrate model arguments file status old new = RefusesArguments arguments status old new ⊎ EndsMigrating model (old.holds file) (new.holds file) status old.streams new.streams
 

@@ -71,8 +71,8 @@ pub record ServedWithOutput {D : Type 0} (model : DiskModel D) (gives : List Ste
 
 -- `model`: the model of a folder's disks
 module _ {D : Type 0} (model : DiskModel D) where
-  -- The named disk was taken and put back, and its device failed this many times in between. If it never
-  -- failed, the disk is unchanged.
+  -- The named disk was taken and put back, and its device failed this many times in between. If the device
+  -- never failed, the disk is unchanged.
   pub record IsPutBack (failed : ℕ) (before after : Option Present) : Type 0 where
     pub taken : D
     pub back : D
@@ -87,8 +87,8 @@ module _ {D : Type 0} (model : DiskModel D) where
     pub named : answered ≡ Store fault
     pub why : ((fault ≡ Device) × (after ≡ before)) ⊎ (IsOfOpening (reads before) (Store fault) × IsPutBack (failed_in fault) before after)
 
-  -- A store was opened on the named disk, which was taken for it. The store has the world that the disk's
-  -- bytes give, and the disk is unchanged.
+  -- The named disk was taken, and a store was opened on it. The store has the world that the disk's bytes
+  -- give, and the disk is unchanged.
   pub record IsOpenedStore (before : Option Present) (store : Kept D) : Type 0 where
     pub taken : D
     pub was : known_of model taken ≡ before
@@ -118,13 +118,13 @@ module _ {D : Type 0} (model : DiskModel D) where
   abbrev pub HasEnded : Option Present → Option Present → Option (List ℕ) → Option (List ℕ) → Fault → Type 0
   HasEnded before after old new answered = (is : IsServedDisk before after old new) × (fault : ServerFault) × (fault_of_end is.ended ≡ Some fault) × (answered ≡ fault_of_server fault)
 
-  -- The faults of `serve` at an address, with its output. Nothing is printed before a server begins, which
-  -- requires an open store and a bound socket.
+  -- How `serve` at an address ends with a fault, and what it has printed by then. Nothing is printed before
+  -- a server begins, which requires an open store and a bound socket.
   abbrev pub EndsServing : Option Present → Option Present → Option (List ℕ) → Option (List ℕ) → Fault → Type 0
   EndsServing before after old new answered =
       ((IsNotOpened before after answered ⊎ (IsNotBound before after answered ⊎ IsNotBegun before after answered)) × Keeps old new) ⊎ HasEnded before after old new answered
 
--- The store on a disk was served until a line closed it, without a fault. The bytes that are put back give
+-- The store on a disk was served without a fault until a line closed it. The bytes that are put back give
 -- the world that the server left.
 abbrev pub ServedWhole : {D : Type 0} → DiskModel D → Option Present → Option Present → Option (List ℕ) → Option (List ℕ) → Type 0
 ServedWhole model before after old new = (is : IsServedDisk model before after old new) × (fault_of_end is.ended ≡ None) × IfSome (reads after) (λ known. Recovered known is.ended.closed.store.world)
@@ -139,7 +139,8 @@ pub record ServesToEnd (argument : List ℕ) (bytes after : Option (List ℕ)) (
 
 -- `of`: the faults of `serve` once the argument is known to be an address
 module _ (of : Fault → Type 0) where
-  -- The argument is checked first: either it is no address, which is the fault, or it is one.
+  -- The argument is checked first. If it is no address, the fault is `Usage`; otherwise the fault satisfies
+  -- `of`.
   abbrev pub IsOfServingAt : List ℕ → Fault → Type 0
   IsOfServingAt argument answered = ((answered ≡ Usage) × ¬ IsAddress argument) ⊎ (IsAddress argument × of answered)
 

@@ -1,7 +1,7 @@
 -- The streams of a run: its input, its output, and standard error.
 use Rattle.std.specs.Prelude.{ℕ, List, ◌∷◌, Option, option_map}
 
--- the unread rest of the input, and the contents of the output and of standard error, as far as they are
+-- the unread rest of the input, and the contents of the output and of standard error, each if it is
 -- known
 pub record Streams : Type 0 where
   pub input : Option (List ℕ)

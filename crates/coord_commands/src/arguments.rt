@@ -40,9 +40,10 @@ impl Task<'_> {
     }
 }
 
-/// Returns the command that the program's arguments request; the first of them is the program's name.
+/// Returns the command that the program's arguments request. The first argument is the program's name.
 /// The commands are `drill`, `check FILE`, `show FILE`, `migrate FILE`, `init FILE TOPOLOGY` and `serve
-/// FILE ADDRESS`. Any other arguments are refused, for example `--help` and `--version`.
+/// FILE ADDRESS`. Any other arguments are refused, for example `--help` and `--version`. Errors: out of
+/// memory, or `Usage`.
 pub fn read_arguments<'a>(alloc: Global, arguments: &'a [String]) -> Result<Task<'a>, Fault>
     ensures ok { IfOk result (λ task. task_of (map string_bytes arguments.now) ≡ Some (asked_of task)) }
     ensures err { IfErr result (λ fault. (fault ≡ OutOfMemory)
@@ -138,7 +139,7 @@ fn task_named<'a>(name: &str, matches: &ArgMatches<'a>) -> Option<Task<'a>>
     task_of_file(name, file, matches)
 }
 
-/// Returns the request of the named command for a file.
+/// Returns the request of the named command for a file, or None if no such command takes a file.
 fn task_of_file<'a>(name: &str, file: &'a str, matches: &ArgMatches<'a>) -> Option<Task<'a>>
     ensures { option_map asked_of result
         ≡ asked_of_file name.now file.now (rows_of (found_of matches.now)) }

@@ -63,8 +63,8 @@ fn carry_out<
     }
 }
 
-/// Creates a store in an absent or empty file, with the nodes and links of a topology file, prints
-/// its number of steps, and returns the exit status. The topology is read and checked before the
+/// Creates a store in an absent or empty file, with the nodes and links of a topology file. Prints the
+/// store's number of steps, and returns the exit status. The topology is read and checked before the
 /// file is opened.
 pub fn init<S: Files<File = File> + AllocGlobal, R: Read, W: Write, E: Write>(
     rt: &S,
@@ -80,9 +80,10 @@ pub fn init<S: Files<File = File> + AllocGlobal, R: Read, W: Write, E: Write>(
     init_in(rt.alloc(), &mut folder, file, topology, streams)
 }
 
-/// Migrates the store in a file to version 2, prints its number of steps, and returns the exit status.
-/// The file is locked meanwhile, and created if it does not exist. For a store of version 2 the same is
-/// printed, and nothing changes. A store with a node in a reset is refused, and left unchanged.
+/// Migrates the store in a file to version 2, prints the store's number of steps, and returns the exit
+/// status. The file is locked during the migration, and created if it does not exist. A store of
+/// version 2 is left unchanged, with the same output. A store with a node in a reset is refused, and
+/// left unchanged.
 pub fn migrate<S: Files<File = File> + AllocGlobal, R: Read, W: Write, E: Write>(
     rt: &S,
     file: &str,
@@ -96,8 +97,8 @@ pub fn migrate<S: Files<File = File> + AllocGlobal, R: Read, W: Write, E: Write>
     migrate_in(rt.alloc(), &mut folder, file, streams)
 }
 
-/// Prints that the store in a file is legal, with its number of steps; or the first predicate that its
-/// snapshot violates. Returns the exit status, which is 1 for a violation.
+/// Checks the store in a file. Prints that the store is legal, with its number of steps, or else the
+/// first predicate that its snapshot violates. Returns the exit status, which is 1 for a violation.
 pub fn check<S: Files<File = File> + AllocGlobal, R: Read, W: Write, E: Write>(
     rt: &S,
     file: &str,

@@ -21,7 +21,7 @@ use coord_store::Store;
 use std::alloc::Global;
 
 /// Creates a store on an empty disk, and commits the nodes and links of a topology in one commit. If
-/// one of them is refused, the store is left without any step.
+/// a node or link is refused, the store is left without any step.
 pub fn create_store<D: Disk + Takable>(
     alloc: Global,
     disk: D,

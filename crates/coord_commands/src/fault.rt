@@ -61,8 +61,8 @@ impl Fault {
         }
     }
 
-    /// Returns the exit status: 1 for a refusal, 2 for refused arguments, 3 for a failure to read or
-    /// write or of a socket or the device, 4 if memory ran out.
+    /// Returns the exit status: 1 for a refusal, 2 for refused arguments, 3 for a failed read or
+    /// write or a failure of a socket or the device, 4 if memory ran out.
     pub fn status(&self) -> u8
         ensures number { result ≡ fault_status self.now }
         ensures failed { 0 < result }

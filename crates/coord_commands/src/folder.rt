@@ -11,8 +11,8 @@ use std::io::Read;
 use std::rt::Files;
 
 /// A folder of named disks and texts. `holds` is the content of a named disk, and `says` the bytes of a
-/// named text, as far as they are known. The contents of real files are unknown, and the contents of
-/// disks in memory are known.
+/// named text, each if it is known. The contents of real files are unknown, and the contents of disks
+/// in memory are known.
 pub trait Folder {
     /// A named disk.
     type Disk: Disk + Send + Takable;

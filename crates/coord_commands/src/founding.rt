@@ -20,9 +20,9 @@ use std::alloc::{AllocError, Global};
 /// The version of a new store's world.
 pub const VERSION: u8 = 2;
 
-/// Returns the first steps of a store with a topology: the founder's orders, numbered from 1, each
-/// fresh after those before it in an empty store. If one of them is refused, returns the first refusal.
-/// More than 256 steps, which do not fit into one commit, are refused as `PendingFull`.
+/// Returns the first steps of a store with a topology: the founder's orders, numbered from 1. In an
+/// empty store, each order is fresh after the orders before it. If an order is refused, returns the
+/// first refusal. More than 256 steps, which do not fit into one commit, are refused as `PendingFull`.
 pub fn founding_steps(alloc: Global, topology: &Topology) -> Result<Vec<Step>, Fault>
     ensures steps { IfOk result (λ steps. steps.items ≡ orders (content topology.now)) }
     ensures fresh { IfOk result (λ steps. AllFresh (no_world 2) (no_world 2) steps.items) }

@@ -18,9 +18,9 @@ use coord_world::World;
 use std::alloc::{AllocError, Global};
 use std::io::{Read, Write};
 
-/// Prints that the store on the named disk is legal, with its number of steps; or the first predicate
-/// that its snapshot violates. Returns the exit status, which is 1 for a violation. The disk is opened
-/// for reading only.
+/// Checks the store on the named disk. Prints that the store is legal, with its number of steps, or
+/// else the first predicate that its snapshot violates. Returns the exit status, which is 1 for a
+/// violation. The disk is opened for reading only.
 pub fn check_in<F: Folder, R: Read, W: Write, E: Write>(
     alloc: Global,
     folder: &F,
@@ -92,8 +92,8 @@ fn show_at<F: Folder, W: Write>(
     show_store(alloc, disk, output)
 }
 
-/// Opens the store on a disk, and prints that it is legal, with its number of steps; or the first
-/// predicate that its snapshot violates. Returns whether the store is legal.
+/// Opens the store on a disk. Prints that the store is legal, with its number of steps, or else the
+/// first predicate that its snapshot violates. Returns whether the store is legal.
 pub fn check_store<D: Disk, W: Write>(alloc: Global, disk: D, output: &mut W) -> Result<bool, Fault>
     ensures legal { IfOk result (λ legal. legal ≡ true →
         PrintsOne (IsLegalLine (bytes_of D.model disk)) (W.contents output.old)

@@ -5,8 +5,8 @@ use std::io;
 use std::io::Write;
 
 /// An output lent to a server. The bytes that contracts see begin with the number that identifies this
-/// output. So if a server returns an output whose bytes begin with the lent ones, it is exactly this
-/// output.
+/// output. So if a server returns an output whose bytes begin with the lent bytes, that output is this
+/// one.
 #[derive(Drop)]
 pub struct Lent<'a, W: Write> {
     pub output: &'a mut W,

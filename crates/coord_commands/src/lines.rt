@@ -14,7 +14,8 @@ use room::Room;
 use std::io;
 use std::io::Write;
 
-/// Writes a whole text. If a write fails, exactly a prefix of the text was written.
+/// Writes a whole text. If a write fails, exactly a prefix of the text was written. Errors: out of
+/// memory, or `Write`.
 pub fn print<W: Write>(output: &mut W, text: &str) -> Result<(), Fault>
     ensures ok { OnOk result (Appends (W.contents output.old) (W.contents output.new) text.now) }
     ensures err { OnErr result (WritesFirstPart (W.contents output.old)

@@ -19,8 +19,8 @@ use std::alloc::Global;
 use std::io::{Read, Write};
 
 /// Creates a store on the named disk, which must be empty, with the nodes and links of a topology file.
-/// Prints its number of steps, and returns the exit status. The topology is read and checked before the
-/// disk is opened.
+/// Prints the store's number of steps, and returns the exit status. The topology is read and checked
+/// before the disk is opened.
 pub fn init_in<F: Folder, R: Read, W: Write, E: Write>(
     alloc: Global,
     folder: &mut F,

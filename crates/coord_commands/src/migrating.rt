@@ -21,9 +21,9 @@ use coord_store::Store;
 use std::alloc::Global;
 use std::io::{Read, Write};
 
-/// Migrates the store on the named disk to version 2, prints its number of steps, and returns the exit
-/// status. For a store of version 2 the same is printed, and nothing changes. A store with a node in a
-/// reset is refused, and left unchanged.
+/// Migrates the store on the named disk to version 2, prints the store's number of steps, and returns
+/// the exit status. A store of version 2 is left unchanged, with the same output. A store with a node
+/// in a reset is refused, and left unchanged.
 ///
 /// From the moment when the disk is taken until it is put back, a crash leaves only what a crash could
 /// have left before, or the world in one version or the other. `Device` is reported only if the disk is
@@ -101,9 +101,9 @@ fn migrate_disk<D: Disk + Takable>(alloc: Global, disk: D) -> (Result<String, Fa
     }
 }
 
-/// Migrates an opened store to version 2, and returns the line to print, with the store's number of
-/// steps, which does not change. The line is made before the store is migrated, so the store is
-/// unchanged if memory for it runs out.
+/// Migrates an opened store to version 2. Returns the line to print, which has the store's number of
+/// steps; the migration does not change that number. The line is made before the store is migrated, so
+/// the store is unchanged if memory for the line runs out.
 pub fn migrate_store<D: Disk + Takable>(
     alloc: Global,
     store: &mut Store<D>,

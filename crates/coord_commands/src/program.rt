@@ -21,9 +21,10 @@ use std::sync::Wait;
 use std::thread::Threads;
 use std::time::Clock;
 
-/// Carries out the program's arguments, the first of which is the program's name, and returns the exit
-/// status. The drill reads the input; results are printed on the output, and the line of a fault on
-/// standard error. If the arguments could not be read, only that is reported, and nothing is done.
+/// Carries out the program's arguments, and returns the exit status. The first argument is the
+/// program's name. The drill reads the input; results are printed on the output, and the line of a
+/// fault on standard error. If the arguments could not be read, only that fault is reported, and
+/// nothing is done.
 pub fn run_program<
     S: Files<File = File> + Net + Threads + Wait + Clock + Sync + AllocGlobal,
     I: Iterator<Item = String>,
@@ -51,7 +52,7 @@ pub fn run_program<
 
 /// Opens a folder for reading three times, so that each standard descriptor that was closed at the
 /// program's start is taken, and reading or writing it fails. Otherwise a file that is opened later
-/// would get its number, and output would be written into that file.
+/// would get the number of such a descriptor, and output would be written into that file.
 fn take_descriptors<S: Files<File = File>>(rt: &S) -> [io::Result<File>; 3] {
     [
         File::open(rt, "/"),

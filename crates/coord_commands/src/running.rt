@@ -23,9 +23,9 @@ pub struct ToServe<'a> {
     pub address: &'a str,
 }
 
-/// Carries out the program's arguments in a folder, and returns the exit status; for `serve` it does
-/// nothing and returns what to serve. It never waits for others. For `migrate` its contract also states
-/// what a crash may leave at each moment.
+/// Carries out the program's arguments in a folder, and returns the exit status. For `serve`, does
+/// nothing and returns what to serve. The call never waits for others. For `migrate`, its contract also
+/// states what a crash may leave at each moment.
 pub fn run_in<'a, F: Folder, R: Read, W: Write, E: Write>(
     alloc: Global,
     folder: &mut F,
@@ -71,7 +71,7 @@ pub fn run_in<'a, F: Folder, R: Read, W: Write, E: Write>(
     }
 }
 
-/// Reads requests from an input, prints the result of each, and returns the exit status.
+/// Reads requests from the input, prints the result of each, and returns the exit status.
 pub fn drill<R: Read, W: Write, E: Write>(alloc: Global, streams: &mut Streams<R, W, E>) -> u8
     ensures { RunsDrill result streams.old.known streams.new.known }
 {

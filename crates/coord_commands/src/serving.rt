@@ -33,9 +33,9 @@ use std::sync::Wait;
 use std::thread::Threads;
 use std::time::Clock;
 
-/// Serves the store in a file to the connections made to an address, until one of them closes it, and
-/// returns the exit status. The file is locked while it is served. The address, in the form
-/// `A.B.C.D:P`, is checked before the file is opened.
+/// Serves the store in a file to the connections made to an address, until a line on one of them closes
+/// the store, and returns the exit status. The file is locked while it is served. The address, in the
+/// form `A.B.C.D:P`, is checked before the file is opened.
 pub fn serve<
     S: Files<File = File> + Net + Threads + Wait + Clock + Sync + AllocGlobal,
     R: Read,
@@ -51,11 +51,11 @@ pub fn serve<
     serve_in(rt, &mut folder, file, address, streams)
 }
 
-/// Serves the store on the named disk to the connections made to an address, until one of them closes
-/// it, and returns the exit status. The address is checked before the disk is opened, and the socket is
-/// bound once the store is open. The disk is put back in any case: as a server has left it, or
-/// unchanged if its store is refused, no socket can be bound, or memory runs out at the beginning. Only
-/// the server prints to the output.
+/// Serves the store on the named disk to the connections made to an address, until a line on one of
+/// them closes the store, and returns the exit status. The address is checked before the disk is
+/// opened, and the socket is bound once the store is open. The disk is put back in any case. A server
+/// may have changed it; it is unchanged if its store is refused, no socket can be bound, or memory runs
+/// out at the beginning. Only the server prints to the output.
 pub fn serve_in<
     S: Net + Threads + Wait + Clock + Sync + AllocGlobal,
     F: Folder,
@@ -152,7 +152,7 @@ fn serve_open<
     serve_and_report::<D, S, A, W, Brand, R>(rt, alloc, store, listener, output, written)
 }
 
-/// Serves over a new history, which `O` names, and prints the signals of its settled steps.
+/// Serves an opened store, over a new history that `O` names, and prints the signals of settled steps.
 fn serve_and_report<
     'a,
     D: Disk + Send,
@@ -196,8 +196,8 @@ fn serve_and_report<
     }
 }
 
-/// Returns a listener at an address if a descriptor is left for a connection. Without one the server
-/// would listen but answer nobody.
+/// Returns a listener at an address, if a descriptor is left for a connection. Without that descriptor
+/// the server would listen but answer nobody.
 fn listening<S: Net>(rt: &S, address: SocketAddrV4) -> io::Result<S::Listener> {
     let listener = TcpListener::bind(rt, SocketAddr::V4(address))?;
     let spare = listener.try_clone()?;

@@ -13,7 +13,7 @@ use std::alloc::Global;
 use std::io::Read;
 use std::str;
 
-/// One byte more than the longest topology file. Nothing after it is read.
+/// The maximum number of bytes to read: one more than the longest valid topology file has.
 const MOST_BYTES: u64 = MAX_TEXT_BYTES as u64 + 1;
 
 /// Reads a topology file.
@@ -30,7 +30,7 @@ pub fn topology_from<R: Read + Drop>(alloc: Global, reader: R) -> Result<Topolog
     topology_of(alloc, &bytes)
 }
 
-/// Reads at most `MOST_BYTES` bytes.
+/// Reads at most the first `MOST_BYTES` bytes. Errors: `Read`, or out of memory.
 fn front_of<R: Read + Drop>(alloc: Global, reader: R) -> Result<Vec<u8>, Fault>
     ensures bytes { IfOk result (λ front. IfSome (R.remaining reader) (λ bytes. front.items ≡
         take MOST_BYTES bytes)) }

@@ -6,7 +6,7 @@ use Rattle.toml.specs.Data.{Data, array, table, Items, no_items, item, Members, 
 abbrev pub Key : Type 0
 Key = List ℕ
 
--- whether the key is one of these
+-- whether the key is one of these keys
 abbrev pub is_among : List Key → Key → Bool
 is_among [] key = false
 is_among (k ∷ ks) key = bytes_eq key k || is_among ks key

@@ -24,12 +24,12 @@ abbrev pub with_both : {A B C : Type 0} → (A → B → C) → Option A → Opt
 with_both f (Some a) (Some b) = Some (f a b)
 with_both f a b = None
 
--- the value as a whole number, if it is one from `least` to `most`
+-- the value, if it is a whole number from `least` to `most`
 abbrev pub number_within : ℕ → ℕ → Data → Option ℕ
 number_within least most (integer (pos n)) = if nat_le least n && nat_le n most then Some n else None
 number_within least most other = None
 
--- the number at this key of the table, if it is one from `least` to `most`
+-- the value at this key of the table, if it is a whole number from `least` to `most`
 abbrev pub number_at : Key → ℕ → ℕ → Members → Option ℕ
 number_at key least most ms = option_and_then (number_within least most) (get_member key ms)
 

@@ -1,4 +1,4 @@
--- The TOML table that a topology is written as, and the law that reading it returns the topology.
+-- The TOML table of a written topology, and the law that reading the written text returns the topology.
 use Rattle.std.specs.Prelude.{◌≡◌, ℕ, ◌≤◌, pos, Bool, List, [], ◌∷◌, codes, length, Ok}
 use Rattle.std.specs.List.{AllByRecursion}
 use Rattle.toml.specs.Data.{Data, integer, array, table, Items, no_items, item, Members, no_members, member}

@@ -1,4 +1,4 @@
-//! The reasons for which a topology file is refused.
+//! The reasons why a topology file is refused.
 
 ghost use Rattle.std.specs.Prelude.{◌≡◌, Some};
 ghost use Rattle.coord_config.specs.Faults.{fault_name, fault_number};
@@ -8,7 +8,7 @@ use std::alloc::AllocFailed;
 use std::error::Error;
 use std::fmt;
 
-/// The reason for which a topology file is refused.
+/// The reason why a topology file is refused.
 #[derive(Clone, Copy, Debug, PartialEq, Eq)]
 pub enum ConfigFault {
     OutOfMemory,

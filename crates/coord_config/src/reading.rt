@@ -19,8 +19,8 @@ pub const MAX_TEXT_BYTES: usize = 65_536;
 ///
 /// Returns `NotToml` if the text has more than `MAX_TEXT_BYTES` bytes or the crate `toml` does not
 /// read it as a table, `BadKey` if a key is missing or unknown, `BadValue` if all keys are right
-/// but some value is not, or `OutOfMemory`. It never returns `OutOfMemory` for a text that is too
-/// long, or that has only white space and comments.
+/// but a value has a wrong type or is out of range, or `OutOfMemory`. It never returns
+/// `OutOfMemory` for a text that is too long, or that has only white space and comments.
 pub fn read_topology(alloc: Global, text: &str) -> Result<Topology, ConfigFault>
     ensures ok { IfOk result (λ topology. reading text.now ≡ Ok (content topology)) }
     ensures refused { IfErr result (λ fault. fault ≢ OutOfMemory → reading text.now ≡ Err fault) }

@@ -21,7 +21,8 @@ pub struct LinkEntry {
 pub struct Topology {
     /// The size of a half, from 32,768 to 16,777,216 bytes.
     pub half: u64,
-    /// The nodes in the order of the file, possibly with repetitions; the same holds for the links.
+    /// The nodes, in the order of the file, possibly with repetitions. The links are stored in the
+    /// same way.
     pub nodes: Vec<NodeEntry>,
     pub links: Vec<LinkEntry>,
 }

@@ -60,7 +60,7 @@ fn fill(read: &mut [u8], history: &History, filler: &[u8])
     }
 }
 
-/// Replaces the bytes that a read gives by the bytes that a crash with this choice leaves.
+/// Replaces the bytes that a read gives with the bytes that a crash with this choice leaves.
 pub fn crash_bytes(read: &mut Vec<u8>, history: History, choice: &Choice)
     requires { LedTo history read.old.items }
     ensures { IsLeft choice.now (present_after (past_with read.old.items (Some history)))

@@ -32,8 +32,9 @@ pub trait Disk: Drop {
         ensures call { Writes model at bytes.now self.old self.new result }
         ensures cause { HasCause (model.failures self.old) (model.failures self.new) result };
 
-    /// Makes all written bytes durable: after it, a crash leaves the bytes that a read gives. After
-    /// a failed sync, a crash can leave only bytes that it could have left before.
+    /// Makes all written bytes durable: after a successful sync, a crash leaves the bytes that a
+    /// read gives. After a failed sync, a crash can leave only bytes that it could have left
+    /// before.
     fn sync(&mut self) -> Result<(), DiskFault>
         ensures call { Syncs model self.old self.new result }
         ensures cause { HasCause (model.failures self.old) (model.failures self.new) result };

@@ -24,16 +24,16 @@ pub trait Rule: Drop {
     /// the other rule.
     ghost says: { Self → Call → Bool → Self → Type 0 };
 
-    /// The number of bytes that are still written of a failing write. None: the write does not
-    /// reach the disk inside.
+    /// The number of bytes that a failing write still writes. None: the write does not reach the
+    /// disk inside.
     ghost torn: { Self → Option ℕ } = { λ _. None };
 
     /// Decides whether the disk fails this call.
     fn fails(&mut self, call: Call) -> bool
         ensures { says self.old call result self.new };
 
-    /// Returns the number of bytes that are still written of a failing write, or None if the write
-    /// does not reach the disk inside.
+    /// Returns the number of bytes that a failing write still writes, or None if the write does not
+    /// reach the disk inside.
     fn tears(&self) -> Option<usize>
         ensures { result ≡ torn self.now };
 }

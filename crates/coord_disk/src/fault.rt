@@ -7,7 +7,7 @@ use http_server::Log;
 use std::error::Error;
 use std::fmt;
 
-/// The device failed in this call. After that, only its images describe its content.
+/// The failure of a device in a call. After it, only the device's images describe its content.
 #[derive(Clone, Copy, Debug, PartialEq, Eq, Hash)]
 pub struct DiskFault;
 

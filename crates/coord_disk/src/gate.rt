@@ -22,8 +22,8 @@ pub struct Gate {
 pub type GateDisk<D> = FailingDisk<D, Gate>;
 
 impl Gate {
-    // Signals that a sync has reached the gate, and waits for the gate to open. Returns whether it
-    // did.
+    // Signals that a sync has reached the gate, and waits for the gate to open. Returns whether
+    // the gate opened.
     fn opens(&self) -> bool {
         self.entered.store(true, Ordering::SeqCst);
         for _ in 0..LOOKS {
@@ -51,8 +51,9 @@ impl Rule for Gate {
 }
 
 impl<D: Disk> FailingDisk<D, Gate> {
-    /// Wraps a disk. Each sync sets the first flag and then reads the second up to 100,000,000
-    /// times: once that is set, the sync is passed on; if it stays clear, the sync fails.
+    /// Wraps a disk. Each sync sets the first flag and then reads the second flag up to 100,000,000
+    /// times. Once the second flag is set, the sync is passed on; if it stays clear, the sync
+    /// fails.
     pub fn new(inner: D, entered: Arc<AtomicBool>, answered: Arc<AtomicBool>) -> Self
         ensures { IsOver inner (gate_of entered answered) result }
     {

@@ -37,7 +37,7 @@ fn overwrite(bytes: &mut Vec<u8>, at: usize, new: &[u8]) -> Result<(), AllocErro
     Ok(())
 }
 
-/// Writes to the current bytes, and records the write. If it runs out of memory, nothing changes.
+/// Writes to the current bytes, and records the write. If memory runs out, nothing changes.
 pub fn write(
     alloc: Global,
     read: &mut Vec<u8>,
@@ -64,8 +64,8 @@ pub fn write(
     Ok(())
 }
 
-// Copies to the synced bytes the ranges written since the last sync; elsewhere both are already
-// equal.
+// Copies the ranges written since the last sync to the synced bytes. Outside these ranges, the two
+// lists are already equal.
 fn copy_written(entries: &[Entry], read: &[u8], synced: &mut [u8])
     requires { length synced.old ≡ length read.now }
     ensures { (first : List ℕ) → IsImage (record (replayed (whole first) entries.now)
@@ -86,7 +86,7 @@ fn copy_written(entries: &[Entry], read: &[u8], synced: &mut [u8])
     }
 }
 
-/// Syncs the current bytes, and records the sync. If it runs out of memory, nothing changes.
+/// Syncs the current bytes, and records the sync. If memory runs out, nothing changes.
 pub fn record_sync(read: &Vec<u8>, history: &mut History) -> Result<(), AllocError>
     requires led { LedTo history.old read.now.items }
     ensures led { LedTo history.new read.now.items }

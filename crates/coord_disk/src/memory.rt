@@ -89,7 +89,7 @@ impl MemDisk {
         }
     }
 
-    // Begins to record writes and syncs, if it does not yet.
+    // Begins to record writes and syncs, unless the disk already records them.
     fn begin(&mut self) -> Result<(), AllocError>
         ensures past { past_of self.new ≡ past_of self.old }
         ensures failures { failures_of self.new ≡ failures_of self.old }

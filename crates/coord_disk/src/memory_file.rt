@@ -78,8 +78,8 @@ impl MemFile {
         self.disk.choose(choice);
     }
 
-    /// Crashes the file, which leaves the chosen bytes. If there is at least one, the file's entry
-    /// in its folder is synced afterwards.
+    /// Crashes the file, which leaves the chosen bytes. If at least one byte is left, the file's
+    /// entry in its folder is synced afterwards.
     pub fn crash(self) -> Self
         ensures crashes { CrashesByChoice (disk_of self) (disk_of result) }
         ensures leaves { Crashes in_memory (disk_of self) (disk_of result) }
@@ -137,7 +137,7 @@ impl RawFile for MemFile {
         io_answer(self.disk.write_at(at, bytes))
     }
 
-    /// Makes nothing durable if the length is not synced.
+    /// Makes nothing durable if the length or the file's entry in its folder is not synced.
     fn sync_data(&mut self) -> io::Result<()> {
         self.syncs.bytes = self.syncs.bytes.saturating_add(1);
         if !self.entered || !self.disk.is_level() {

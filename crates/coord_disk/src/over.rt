@@ -36,8 +36,8 @@ pub struct RawDisk<F: RawFile> {
 impl<F: RawFile> RawDisk<F> {
     ghost use Rattle.coord_disk.specs.Disks.Raw.{file_of, failures_of, has_grown, has_lost};
 
-    /// Wraps a file that another process may have made and not synced: `over` syncs its entry in
-    /// its folder, and the first sync of the disk also syncs its length.
+    /// Wraps a file that another process may have made and not synced: `over` syncs the file's
+    /// entry in its folder, and the first sync of the disk also syncs the file's length.
     pub fn over(mut file: F) -> Result<Self, DiskFault>
         ensures calls { IfOk result (λ disk. (entered : F) × F.made file SyncFolder true entered ×
             F.made entered Len true (file_of disk)) }
@@ -78,7 +78,7 @@ fn opened<F: RawFile>(file: &mut F) -> io::Result<u64>
     file.len()
 }
 
-/// Returns `at + len`, or an error if a file cannot have that position.
+/// Returns `at + len`, or an error if no file can have that position.
 fn end_of(at: u64, len: usize) -> io::Result<u64>
     ensures ok { IfOk result (λ end. (end ≡ at + len) × (end < 2 ^ 63)) }
     ensures within { at + len < 2 ^ 63 → IsOk result }
@@ -146,7 +146,7 @@ impl<F: RawFile> Disk for RawDisk<F> {
         Ok(())
     }
 
-    /// Also syncs the length if it may have changed. After a failed sync, every later one fails
+    /// Also syncs the length if it may have changed. After a failed sync, every later sync fails
     /// without calling the file.
     fn sync(&mut self) -> Result<(), DiskFault>
         ensures ok { OnOk result ((has_lost self.old ≡ false) × (has_lost self.new ≡ false)) }

@@ -8,11 +8,11 @@ ghost use Rattle.coord_disk.specs.Model.RawCalls.RawCall.{Len, Read, Write, Sync
 
 use std::io;
 
-/// A file, and its entry in a folder. If the file does not keep the model, only the clauses that
-/// state which call was made hold.
+/// A file, and its entry in a folder. If the file does not keep the model, only the clauses about
+/// which call was made hold.
 ///
-/// A sync counts only once the file's entry in its folder is synced: before that, a crash may leave
-/// no file, which is read as an empty one.
+/// A sync counts only once the file's entry in its folder is synced. Before that, a crash may leave
+/// no file, which is read as an empty file.
 pub trait RawFile: Drop {
     /// The model of the file as a disk. The model need not count failures.
     ghost model: { DiskModel Self };
@@ -46,8 +46,8 @@ pub trait RawFile: Drop {
         ensures entered { StaysEntered model is_entered self.old self.new }
         ensures made { made self.old (Write at bytes.now) (is_ok result) self.new };
 
-    /// Syncs the bytes. After it, a crash leaves the bytes that a read gives, provided that the
-    /// length and the file's entry in its folder are synced.
+    /// Syncs the bytes. After a successful sync, a crash leaves the bytes that a read gives,
+    /// provided that the length and the file's entry in its folder are synced.
     fn sync_data(&mut self) -> io::Result<()>
         ensures call { SyncsBytes model ((is_entered self.old ≡ true) ×
             (length (model.present self.old).synced ≡ length (model.present self.old).read))
@@ -55,8 +55,8 @@ pub trait RawFile: Drop {
         ensures entered { StaysEntered model is_entered self.old self.new }
         ensures made { made self.old SyncData (is_ok result) self.new };
 
-    /// Syncs the bytes and the length. After it, a crash leaves the bytes that a read gives,
-    /// provided that the file's entry in its folder is synced.
+    /// Syncs the bytes and the length. After a successful sync, a crash leaves the bytes that a
+    /// read gives, provided that the file's entry in its folder is synced.
     fn sync_all(&mut self) -> io::Result<()>
         ensures call { SyncsBytes model (is_entered self.old ≡ true) self.old self.new result }
         ensures entered { StaysEntered model is_entered self.old self.new }
@@ -71,7 +71,7 @@ pub trait RawFile: Drop {
     /// content.
     ghost laws: { IsModel model };
 
-    /// As long as the file's entry in its folder is not synced, none of its bytes is.
+    /// As long as the file's entry in its folder is not synced, none of the file's bytes is synced.
     ghost may_be_absent: { (file : Self) → model.keeps_model file ≡ true →
         is_entered file ≡ false → (model.present file).synced ≡ [] };
 }

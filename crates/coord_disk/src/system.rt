@@ -26,7 +26,7 @@ pub struct SystemFile<F> {
 pub type FileDisk = RawDisk<SystemFile<File>>;
 
 impl<F: OpenFile + FileExt + Drop> SystemFile<F> {
-    /// Wraps an open file, with its folder if its entry there has to be synced.
+    /// Wraps an open file, with its folder if the file's entry in the folder has to be synced.
     pub fn over(file: F, folder: Option<F>) -> Self
         ensures file { result.file ≡ file }
         ensures folder { result.folder ≡ folder }
@@ -43,8 +43,8 @@ impl<F: OpenFile + FileExt + Drop> SystemFile<F> {
 }
 
 impl RawDisk<SystemFile<File>> {
-    /// Opens a file for reading and writing. If it does not exist, creates an empty one that only
-    /// its owner may read and write. Syncs the file's entry in its folder.
+    /// Opens a file for reading and writing. If the file does not exist, creates an empty file that
+    /// only its owner may read and write. Syncs the file's entry in its folder.
     ///
     /// The file is locked, before any of it is read, until the disk is dropped. The call fails if
     /// another process holds the lock, or if the path does not name a regular file.
@@ -58,8 +58,8 @@ impl RawDisk<SystemFile<File>> {
         }
     }
 
-    /// Opens a file read-only, without a lock: writes fail. If it does not exist, creates an empty
-    /// one, like `open`.
+    /// Opens a file read-only, without a lock: writes fail. If the file does not exist, creates an
+    /// empty file, like `open`.
     pub fn open_to_read<R: Files<File = File>>(rt: &R, path: &str) -> Result<FileDisk, DiskFault>
         ensures failures { IfOk result (λ disk. failures_of disk ≡ 0) }
         ensures whole { IfOk result (λ disk. has_lost disk ≡ false) }

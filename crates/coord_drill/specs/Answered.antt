@@ -23,7 +23,8 @@ use Rattle.coord_drill.specs.declared.request.Request.{Request}
 
 -- ---- flights: begin_flush, commit, end_flush; then for each settled step collect, and its releases
 
--- The next steps leave in a flight: the lines report the settled steps, or why the flight was not committed.
+-- the output for a flight of the next steps: the lines of the settled steps, or the reason why the flight
+-- was not committed
 abbrev pub flight_lines : Log → List Answer → List ℕ
 flight_lines log (Begun b ∷ Committed ∷ given) = settled_lines (settled_world log).version (outs (settled_world log) (take (next_size log) (pending log)))
 flight_lines log (Begun b ∷ Failed fault ∷ given) = commit_line fault
@@ -31,7 +32,7 @@ flight_lines log given = []
 
 -- ---- steps: submit; for a repeat also collect
 
--- A kept reply is printed once its step is settled, and before that the line for a pending step.
+-- the output for a kept reply: the reply if its step is settled, otherwise the line for a pending step
 abbrev pub kept_line : ℕ → Reply → List ℕ
 kept_line count reply = if nat_le reply.step count then reply_line reply else pending_line reply.step
 
@@ -48,7 +49,7 @@ step_lines s x given = []
 
 -- ---- all requests
 
--- the lines of the settled world, or of a refusal if the ledger has stopped
+-- the output of `show`: the lines of the settled world, or the line of a refusal if the ledger has stopped
 abbrev pub shown_lines : Log → List ℕ
 shown_lines log = if has_stopped log then refusal_line Stopped else view_lines (shown (accepted_count log) (settled_world log))
 
@@ -70,7 +71,7 @@ asked_lines s Version2 given = []
 
 -- ---- possible answers
 
--- With these answers to its events, the request may print this and leave the drill in the state `t`: the
+-- If its events get these answers, the request may print this and leave the drill in the state `t`: the
 -- event machine allows the answers, and memory did not run out.
 pub record IsAnswered (s : DrillState) (a : Asked) (given : List Answer) (reported : List ℕ) (t : DrillState) : Type 0 where
   pub answered : Answered (machine_of s) (line_events s.holds a given) given
@@ -78,8 +79,8 @@ pub record IsAnswered (s : DrillState) (a : Asked) (given : List Answer) (report
   pub printed : reported ≡ asked_lines s a given
   pub goes_on : t ≡ after_asked s a given
 
--- With these answers, the line with this number may print this and leave the drill in this state. A bad line
--- makes no request.
+-- If its events get these answers, the line with this number may print this text and leave the drill in this
+-- state. A bad line makes no request.
 abbrev pub Responds : DrillState → ℕ → Option Request → List Answer → List ℕ → DrillState → Type 0
 Responds s n None given reported t = (given ≡ []) × (reported ≡ bad_line n) × (t ≡ s)
 Responds s n (Some r) given reported t = IsAnswered s (asked (front_world s.log) r) given reported t

@@ -1,4 +1,4 @@
--- What a request asks a drill to do, which depends on the front world.
+-- What a request asks a drill to do in a given front world.
 use Rattle.std.specs.Prelude.{ℕ, ◌+◌, List, [], ◌∷◌, Option, Some, None, Result, Ok, Err}
 use Rattle.coord_types.specs.Table.{get}
 use Rattle.coord_types.specs.declared.messages.Msg.{Msg}
@@ -14,7 +14,7 @@ use Rattle.coord_drill.specs.declared.request.Request.TheVariants as request
 use Rattle.coord_drill.specs.declared.asked.Asked.{Asked}
 use Rattle.coord_drill.specs.declared.asked.Asked.TheVariants.{Submit, Refuse, Nothing, Resend, Check, Show, Hold, Flush, Crash, Version2}
 
--- the first packet of a lane from u to v, if it has one
+-- the first packet of a lane from u to v, or None if the lane is empty
 abbrev pub packet_of : ℕ → ℕ → Lane → List Msg → Option DataPacket
 packet_of u v l [] = None
 packet_of u v l (m ∷ ms) = Some (front_packet (u, v) l m)
@@ -39,7 +39,7 @@ operator = 1
 unfoldable pub next_number : World → ℕ → ℕ
 next_number w c = last_number (get w.sessions c) + 1
 
--- what this request asks for in this front world
+-- what this request asks the drill to do in this front world
 abbrev pub asked : World → Request → Asked
 asked w (request.Next x) = Submit (step.Order operator (next_number w operator) x)
 asked w (request.Order c n x) = Submit (step.Order c n x)

@@ -2,20 +2,20 @@
 --
 -- A place of a drill consists of its state; the lines carried out so far; their output; the steps whose
 -- reply, packet or signal that output shows; the event machine since the drill began; and the disk. The trail
--- of that machine is the accepted steps over the empty world, without those that a crash has lost.
+-- of that machine is the accepted steps over the empty world, except the steps that a crash has lost.
 --
 -- A line leads from one place to the next (`LineGoes`). Its output and the state after it depend only on the
 -- answers to its events. These events are a run of the ledger's machine on the disk (`RunsOn`), and the
 -- headline holds at each moment of that run (`EachMoment`). After the line, each step with visible output is
 -- settled (`settled`), before the writer gets a byte of the output. So whatever a crash may leave from then
 -- on includes that step (`PrintedSurvives`). The line `version 2` is not an event: it migrates the empty
--- store, and at each moment of the migration the bytes give the empty world in one version or the other.
+-- store, and at each moment of the migration the bytes give the empty world in version 1 or in version 2.
 --
 -- `Goes` states this for one line after another, and `Course` for lines from the creation of the store on the
 -- given disk. If a drill reaches the end of its input, its course has all lines of the input, all their
--- output was written, and the returned disk is the one at the end of the course (`DrillEnded`). If it fails,
--- its course has the lines that were carried out. `StopsDrill` then states why there are no more, how much of
--- their output was written, and which disk the drill returns (`BrokeOff`).
+-- output was written, and the drill returns the disk at the end of the course (`DrillEnded`). If a drill
+-- fails, its course has the lines that were carried out. `StopsDrill` then states why no more lines were
+-- carried out, how much of their output was written, and which disk the drill returns (`BrokeOff`).
 use Rattle.std.specs.Prelude.{◌≡◌, ◌⊎◌, ℕ, ◌+◌, ◌≤◌, true, List, [], ◌∷◌, ◌++◌, length, take, option_map, Option, Some, None, if◌then◌else◌}
 use Rattle.std.specs.List.{AllByRecursion}
 use Rattle.coord_disk.specs.Model.Moments.{IsUntouched, LeavesOnly}
@@ -70,8 +70,8 @@ abbrev pub reported_in : DrillState → Option Asked → List Answer → List �
 reported_in s None given = []
 reported_in s (Some a) given = reported_by s a given
 
--- Events with possible answers are a run of the machine on a disk, from one state of the disk to another. The
--- device has failed exactly in the commits that report it.
+-- These events, with answers that the machine may give, are a run of the machine on a disk, from the state
+-- `old` of the disk to the state `new`. The device has failed exactly in the commits that report a failure.
 pub record RunsOn {D : Type 0} (disk : DiskModel D) (crashes : D → D → Type 0) (s : Machine) (events : List Event) (given : List Answer) (old new : D) : Type 0 where
   pub in_range : AllByRecursion EventInRange events
   pub answered : Answered s events given
@@ -82,11 +82,12 @@ pub record RunsOn {D : Type 0} (disk : DiskModel D) (crashes : D → D → Type 
 abbrev pub RunsTo : {D : Type 0} → DiskModel D → (D → D → Type 0) → List Event → List Answer → Place D → Place D → Type 0
 RunsTo disk crashes events given p q = (q.machine ≡ run p.machine events given) × RunsOn disk crashes p.machine events given p.disk q.disk
 
--- These bytes give the world of this version without any step, and it is legal.
+-- These bytes give the world of this version without any step, and that world is legal.
 abbrev pub GivesEmpty : ℕ → List ℕ → Type 0
 GivesEmpty version bytes = Recovered bytes (no_world version) × Legal (no_world version)
 
--- The empty store is migrated: at each moment the disk gives the empty world in one version or the other.
+-- During the migration of the empty store, the disk gives the empty world in version 1 or in version 2 at
+-- each moment.
 abbrev pub RaisesEmpty : {D : Type 0} → DiskModel D → D → D → Type 0
 RaisesEmpty disk old new = LeavesOnly disk old new (λ bytes. GivesEmpty 1 bytes ⊎ GivesEmpty 2 bytes)
 
@@ -109,7 +110,8 @@ pub record LineGoes {D : Type 0} (disk : DiskModel D) (crashes : D → D → Typ
   pub settled : IsSettled q.machine q.reported
   pub moves : Moves disk crashes (asked_in p.state line) given p q
 
--- These lines lead from one place to another. At each place in between, whatever a crash may leave survives.
+-- These lines lead from one place to another. At each place, whatever the disk may hold after a crash
+-- survives (`CrashPrefix`).
 abbrev pub Goes : {D : Type 0} → DiskModel D → (D → D → Type 0) → Place D → List Line → Place D → Type 0
 Goes disk crashes p [] q = (q ≡ p) × CrashPrefix p.machine true (disk.present p.disk)
 Goes {D} disk crashes p (l ∷ ls) q = (next : Place D) × LineGoes disk crashes p l next × Goes disk crashes next ls q
@@ -130,25 +132,26 @@ pub record DrillEnded {D : Type 0} (disk : DiskModel D) (crashes : D → D → T
   pub wrote : written ≡ place.printed
   pub given_back : last ≡ place.disk
 
--- The request was cut short, and the drill returns this disk. Some of its events had led to this machine and
--- disk. In a crash, an image may already have been chosen; in `version 2`, it was at some moment of the
--- migration.
+-- The request was cut short. Some of its events had led to this machine and the disk `mid`, and the drill
+-- returns the disk `lost`. The two disks are the same except in two cases: a crash may already have chosen an
+-- image, and a migration stopped at some moment.
 abbrev pub IsLeftBy : {D : Type 0} → DiskModel D → (D → D → Type 0) → Asked → Machine → D → D → Type 0
 IsLeftBy disk crashes Crash s mid lost = (lost ≡ mid) ⊎ Reopens disk crashes (Survives s) mid lost
 IsLeftBy disk crashes Version2 s mid lost = RaisesEmpty disk mid lost
 IsLeftBy disk crashes a s mid lost = lost ≡ mid
 
--- A line was cut short with this fault and this disk. The device has failed if the fault says so.
+-- A line with this request was cut short: this fault and this disk are returned. The device has failed as
+-- often as the fault implies.
 pub record CutShort {D : Type 0} (disk : DiskModel D) (crashes : D → D → Type 0) (p : Place D) (a : Asked) (refused : Fault × D) : Type 0 where
   pub cause : MayCutShort (opens_disk a) refused.0
-  pub none_reported : a ≡ Version2 → IsSettled (adopted (no_world 2)) p.reported  -- no step: the world is empty
+  pub none_reported : a ≡ Version2 → IsSettled (adopted (no_world 2)) p.reported  -- no step is shown: the world is empty
   pub given : List Answer  -- the answers so far
   pub mid : D
   pub runs : RunsOn disk crashes p.machine (take (length given) (line_events p.state.holds a given)) given p.disk mid
   pub left : IsLeftBy disk crashes a (run p.machine (take (length given) (line_events p.state.holds a given)) given) mid refused.1
   pub failed : disk.failures refused.1 ≡ disk.failures mid + failed_by refused.0
 
--- The line with this request was cut short. If it has no request, memory for its output ran out.
+-- The line with this request was cut short. If the line has no request, memory for its output ran out.
 abbrev pub LineCutShort : {D : Type 0} → DiskModel D → (D → D → Type 0) → Place D → Option Asked → Fault × D → Type 0
 LineCutShort disk crashes p None refused = IsOfMemory refused.0 × (refused.1 ≡ p.disk)
 LineCutShort disk crashes p (Some a) refused = CutShort disk crashes p a refused
@@ -160,8 +163,8 @@ FirstCutShort disk crashes p (l ∷ ls) refused = LineCutShort disk crashes p (a
 
 -- ---- why the lines after a place were not carried out, and which disk is returned
 
--- The input could not be read to its end. All output is written. Only the last line is left, whose line feed
--- did not arrive.
+-- The input could not be read to its end. All output is written. Only the last line is left, because its line
+-- feed did not arrive.
 pub record StopsReading {D : Type 0} (p : Place D) (others : List Line) (written : List ℕ) (refused : Fault × D) : Type 0 where
   pub cause : (refused.0 ≡ Read) ⊎ (refused.0 ≡ TooManyReads)
   pub wrote : written ≡ p.printed
@@ -195,8 +198,8 @@ StopsWork disk crashes p others written refused = StopsAtLine disk crashes p oth
 abbrev pub StopsDrill : {D : Type 0} → DiskModel D → (D → D → Type 0) → Place D → List Line → List ℕ → Fault × D → Type 0
 StopsDrill disk crashes p others written refused = StopsReading p others written refused ⊎ (StopsFlushing p others written refused ⊎ StopsWork disk crashes p others written refused)
 
--- A prefix of the input's lines was carried out, and the drill stopped for this reason. `written` is what it
--- has written.
+-- The drill carried out a prefix of the input's lines, and then stopped with this fault and this disk.
+-- `written` is everything that the drill wrote.
 pub record BrokeOff {D : Type 0} (disk : DiskModel D) (crashes : D → D → Type 0) (given : D) (input written : List ℕ) (refused : Fault × D) : Type 0 where
   pub lines : List Line
   pub others : List Line
@@ -219,8 +222,8 @@ pub record NotMade {D : Type 0} (disk : DiskModel D) (given : D) (refused : Faul
 abbrev pub Drills : {D : Type 0} → DiskModel D → (D → D → Type 0) → D → InOut → InOut → D → Type 0
 Drills disk crashes given old new last = Exchanges old new (λ seen written. DrillEnded disk crashes given seen written last)
 
--- The drill failed: after some lines of the input, because the input needed too many reads, or because no
--- store was created. In the last case nothing was read or written.
+-- The drill failed, either after some lines of the input or because no store was created. In the second case
+-- nothing was read or written. If the fault is too many reads, at least `MOST_READS` bytes were read.
 abbrev pub DrillFails : {D : Type 0} → DiskModel D → (D → D → Type 0) → D → InOut → InOut → Fault × D → Type 0
 DrillFails disk crashes given old new refused =
     Exchanges old new (λ seen written. BrokeOff disk crashes given seen written refused × (refused.0 ≡ TooManyReads → MOST_READS ≤ length seen))

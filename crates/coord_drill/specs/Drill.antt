@@ -1,8 +1,8 @@
 -- The states of a drill, and its transitions.
 --
--- A drill is the event machine, of which only the log is visible here; it holds a ticket for each pending
--- step. A line consists of a few events of the machine. If the machine may give more than one answer to an
--- event, memory, the device or the crash decides, and the answer shows the choice.
+-- A drill is the event machine with a ticket for each pending step. Only the log of the machine is visible
+-- here. A line makes a few events of the machine. If the machine may give more than one answer to an event,
+-- then memory, the device or the crash decides, and the answer shows the choice.
 use Rattle.std.specs.Prelude.{ℕ, Bool, false, true, List, [], ◌∷◌, if◌then◌else◌}
 use Rattle.coord_types.specs.declared.steps.Step.{Step}
 use Rattle.coord_world.specs.protocol.NumberedWorld.{World, no_world}
@@ -20,7 +20,7 @@ pub record DrillState : Type 0 where
   pub holds : Bool  -- whether accepted steps wait for `flush`; otherwise each is settled at once
   pub has_begun : Bool  -- whether a step was ever accepted, even if a crash lost it
 
--- the visible part of a machine
+-- the state of a drill over this machine: only the machine's log is visible
 abbrev pub seen_as : Machine → Bool → Bool → DrillState
 seen_as m holds begun = record { log = m.log; holds = holds; has_begun = begun }
 
@@ -36,7 +36,7 @@ drill_over w = seen_as (adopted w) false false
 abbrev pub version_of : DrillState → ℕ
 version_of s = (front_world s.log).version
 
--- ---- the events of a line, by their answers
+-- ---- the events of a line, which depend on the answers
 
 -- the events that commit a flight and take it back
 abbrev pub landing_events : List Event
@@ -73,8 +73,8 @@ changes_nothing asked = false
 abbrev pub from_settled : Machine → Machine
 from_settled m = rebased_machine m m.log.settled
 
--- The machine after a line. A crash makes the opened world its base, and `version 2` starts a machine without
--- steps.
+-- The machine after a line. After a crash, its base is the opened world. The line `version 2` starts a new
+-- machine without steps.
 abbrev pub machine_after : DrillState → Asked → List Answer → Machine
 machine_after s Crash given = from_settled (run (machine_of s) (event.Crash ∷ []) given)
 machine_after s Version2 given = adopted (no_world 2)

@@ -34,13 +34,14 @@ abbrev pub UnlessSkipped : Bool → DrillState → List Answer → List ℕ → 
 UnlessSkipped true s given reported t Otherwise = (given ≡ []) × (reported ≡ []) × (t ≡ s)
 UnlessSkipped false s given reported t Otherwise = Otherwise
 
--- With these answers to its events, the line with this number may print this and leave the drill in this
--- state. A line over the limit is bad, even if it is a comment.
+-- If its events get these answers, the line with this number may print this text and leave the drill in
+-- this state. A line over the limit is bad, even if it is a comment.
 abbrev pub LineResponds : DrillState → ℕ → Line → List Answer → List ℕ → DrillState → Type 0
 LineResponds s n None given reported t = Responds s n None given reported t
 LineResponds s n (Some line) given reported t = UnlessSkipped (is_skipped line) s given reported t (Responds s n (asked_by s line) given reported t)
 
--- A text consists of the output of one line, and then the output of a drill in the state after it.
+-- A text consists of the output of one line, and then the output of a drill in the state after that
+-- line.
 pub record PrintsOn (Line : List Answer → List ℕ → DrillState → Type 0) (Behind : DrillState → List ℕ → Type 0) (text : List ℕ) : Type 0 where
   pub given : List Answer
   pub reported : List ℕ
@@ -50,7 +51,7 @@ pub record PrintsOn (Line : List Answer → List ℕ → DrillState → Type 0) 
   pub behind : Behind after rest
   pub whole : text ≡ reported ++ rest
 
--- A drill in this state may print this for these lines, the first of which has this number.
+-- A drill in this state may print this text for these lines. The first line has this number.
 abbrev pub Prints : DrillState → ℕ → List Line → List ℕ → Type 0
 Prints s n [] text = text ≡ []
 Prints s n (l ∷ ls) text = PrintsOn (LineResponds s n l) (λ t rest. Prints t (n + 1) ls rest) text

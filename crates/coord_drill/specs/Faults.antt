@@ -32,7 +32,8 @@ opens_disk Crash = true
 opens_disk Version2 = true
 opens_disk asked = false
 
--- A fault of the store may end a request only if the request migrates a store or opens one again.
+-- This fault may end a request: out of memory, or a fault of the store if the request migrates a store or
+-- opens one again.
 abbrev pub MayEndBy : Bool → Fault → Type 0
 MayEndBy true fault = IsOfDisk fault
 MayEndBy false fault = IsOfMemory fault
@@ -59,13 +60,13 @@ failed_by fault = 0
 abbrev pub IsPassingFault : Fault → Type 0
 IsPassingFault fault = IsOfMemory fault ⊎ (fault ≡ Store store.Device)
 
--- On a disk that keeps the model only these faults cut a line short. A failure of the device does so only if
--- the line migrates a store or opens one again.
+-- On a disk that keeps the model, this fault may cut a line short: out of memory, or a failure of the device
+-- if the line migrates a store or opens one again.
 abbrev pub MayCutShort : Bool → Fault → Type 0
 MayCutShort true why = IsPassingFault why
 MayCutShort false why = IsOfMemory why
 
--- The reported result of a write: the number of bytes written. A fault writes no bytes, and a success may
--- also write none.
+-- `reported` is a possible report about a write with this answer. A reported count is the number of bytes
+-- written, which is 0 after an error. A fault is reported only after an error or an answer of 0 bytes.
 abbrev pub ReportsOfWrite : {E : Type 0} → Result ℕ E → Result ℕ Fault → Type 0
 ReportsOfWrite answer reported = MatchResult reported (λ count. (answer ≡ Ok count) ⊎ (IsErr answer × (count ≡ 0))) (λ _. (answer ≡ Ok 0) ⊎ IsErr answer)

@@ -37,7 +37,8 @@ f & g = record {
   read = λ ws. f.read ws >>= λ x. g.read x.1 >>= λ y. Some ((x.0, y.0), y.1);
 }
 
--- the format of a value that is made of its parts
+-- the format of a value with parts: `make` builds the value from its parts, and `parts` takes the value
+-- apart
 abbrev pub made : {A B : Type 0} → (A → B) → (B → Option A) → Format A → Format B
 made make parts f = record {
   spell = λ y. parts y >>= f.spell;
@@ -60,7 +61,7 @@ abbrev pub spell_by : {A : Type 0} → List (Row A) → A → Option (List Word)
 spell_by [] x = None
 spell_by (row ∷ rows) x = or_else (spell_row row x) (spell_by rows x)
 
--- reads the words after this verb, by the row of that verb
+-- reads the fields after this verb in the format of the verb's row; None if no row has the verb
 abbrev pub read_by : {A : Type 0} → List (Row A) → Word → List Word → Read A
 read_by [] verb ws = None
 read_by (row ∷ rows) verb ws = if bytes_eq verb row.verb then row.fields.read ws else read_by rows verb ws
@@ -69,11 +70,11 @@ abbrev pub read_first : {A : Type 0} → List (Row A) → List Word → Read A
 read_first rows [] = None
 read_first rows (verb ∷ ws) = read_by rows verb ws
 
--- a format that is one of the rows of a table
+-- the format of a table: a value is written and read in the format of one row
 abbrev pub one_of : {A : Type 0} → List (Row A) → Format A
 one_of rows = record { spell = spell_by rows; read = read_first rows }
 
--- A parser of the program returns this value and leaves these words unread.
+-- A parser in the code returns this value and leaves these words unread, in accordance with `read`.
 abbrev pub ReadsWords : {A : Type 0} → Read A → Option A → List Word → Type 0
 ReadsWords read None left = read ≡ None
 ReadsWords read (Some x) left = read ≡ Some (x, left)

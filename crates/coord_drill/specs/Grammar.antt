@@ -80,7 +80,7 @@ commands =
     ∷ row (codes "confirm") (node & number) (λ p. Confirm p.0 p.1) (λ x. elim x [ Confirm u e ↦ Some (u, e) | _ ↦ None ])
     ∷ []
 
--- a bare command, which is an order of the operator
+-- the row of a bare command, which is an order of the operator
 abbrev pub next_row : Row Command → Row Request
 next_row r = row r.verb r.fields Next (λ x. elim x [ Next c ↦ Some c | _ ↦ None ])
 
@@ -97,7 +97,7 @@ receipt_fields = made (λ p. Receipt (record { from = p.0; to = p.1.0; inc = p.1
     (λ x. elim x [ Receipt r ↦ Some (r.from, (r.to, (r.inc, r.number))) | _ ↦ None ])
     (node & (node & (number & number)))
 
--- the word `2`, in no other spelling
+-- the field of the verb `version`: the word `2`, in no other spelling
 unfoldable pub version_fields : Format Request
 version_fields = made (λ _. Version2) (λ x. elim x [ Version2 ↦ Some tt | _ ↦ None ])
     (field (λ _. Some (codes "2")) (λ word. if bytes_eq word (codes "2") then Some (tt {0}) else None))

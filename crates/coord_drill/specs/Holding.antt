@@ -13,16 +13,16 @@ use Rattle.coord_drill.specs.declared.drill.Drill.{Drill}
 use Rattle.coord_drill.specs.declared.drill.flying.Flown.{Flown}
 use Rattle.coord_drill.specs.declared.drill.flying.Flown.TheVariants as flown
 
--- the claims of the tickets for these steps, from this world on
+-- the claims of the tickets for these steps, if the steps are taken one after another from this world on
 abbrev pub claims_of : World → List Step → List Claim
 claims_of w [] = []
 claims_of w (s ∷ ss) = claimed s (reply w s) ∷ claims_of (next w s) ss
 
--- The tickets are those of the ledger's pending steps, in order.
+-- There is one ticket for each pending step of the ledger, in order.
 abbrev pub IsHeld : {D : Type 0} → LedgerState D → List Claim → Type 0
 IsHeld l claims = claims ≡ claims_of (settled_world l.log) (pending l.log)
 
--- The driver has no flight out, and the tickets are those of its pending steps.
+-- The driver has no flight out, and there is one ticket for each of its pending steps, in order.
 abbrev pub IsReadyWith : {D : Type 0} → DriverState D → List Claim → Type 0
 IsReadyWith v claims = (v.flight ≡ None) × IsHeld v.ledger claims
 
@@ -41,7 +41,7 @@ front_of d = front_world d.driver.ledger.log
 
 -- ---- the effects of calls on a ledger
 
--- No step was accepted: the log is over the world of version 1 or 2 without any step.
+-- No step was accepted: the log is the log over the empty world of version 1 or 2.
 abbrev pub IsEmptyLog : Log → Type 0
 IsEmptyLog log = (log ≡ log_over (no_world 1)) ⊎ (log ≡ log_over (no_world 2))
 
@@ -74,11 +74,11 @@ flown_answers r b count = Begun b ∷ landed_answers r count
 
 -- ---- texts
 
--- A text satisfying P was appended.
+-- The new text is the old text followed by a text that satisfies P.
 abbrev pub Reports : List ℕ → List ℕ → (List ℕ → Type 0) → Type 0
 Reports old new P = (reported : List ℕ) × ((new ≡ old ++ reported) × P reported)
 
--- the current release, if any, and those after it
+-- the releases that are left to print: the current release, if any, and the releases after it
 abbrev pub left : Option Release → List Release → List Release
 left None rs = []
 left (Some r) rs = r ∷ rs
@@ -88,18 +88,18 @@ abbrev pub released_lines : ℕ → ℕ → List Release → List ℕ
 released_lines version n [] = []
 released_lines version n (r ∷ rs) = if r.step == n then output_line version r.output ++ released_lines version n rs else []
 
--- the releases after those of this step
+-- the releases after the releases of this step
 abbrev pub behind : ℕ → List Release → List Release
 behind n [] = []
 behind n (r ∷ rs) = if r.step == n then behind n rs else r ∷ rs
 
--- the lines of the first claims, as long as their steps are settled: for each its reply, and then its
--- releases
+-- the lines of the first claims, up to the first claim with an unsettled step: for each claim its reply,
+-- then the releases of its step
 abbrev pub collected_lines : ℕ → ℕ → List Claim → List Release → List ℕ
 collected_lines version count [] rs = []
 collected_lines version count (c ∷ cs) rs = if nat_le c.step count then reply_line (reply_of c) ++ (released_lines version c.step rs ++ collected_lines version count cs (behind c.step rs)) else []
 
--- the claims whose steps are not settled
+-- the claims that remain, from the first claim with an unsettled step on
 abbrev pub waiting : ℕ → List Claim → List Claim
 waiting count [] = []
 waiting count (c ∷ cs) = if nat_le c.step count then waiting count cs else c ∷ cs
@@ -116,7 +116,7 @@ abbrev pub left_by : World → Flown → List Claim → List Claim
 left_by w (flown.Settled releases) claims = waiting w.count claims
 left_by w r claims = claims
 
--- If any claim is collected, all claims are granted.
+-- If the flight settled its steps, all claims are granted.
 abbrev pub AreGranted : Log → Flown → List Claim → Type 0
 AreGranted log (flown.Settled releases) claims = AllByRecursion (IsGranted log) claims
 AreGranted log r claims = Unit {0}

@@ -12,21 +12,22 @@ use Rattle.coord_drill.specs.declared.fault.Fault.{Fault}
 use Rattle.coord_drill.specs.declared.request.Request.{Request}
 use Rattle.coord_drill.specs.Grammar.{request_of, spelled}
 
--- A written request is read as itself, in a drill of either version.
+-- A request that was written as a line is read from that line again, in a drill of either version.
 abbrev pub SpelledIsRead : Type 0
 SpelledIsRead = (version : ℕ) (request : Request) (line : List ℕ) → spelled version request ≡ Some line → request_of version line ≡ Some request
 
--- If a drill has carried out its whole input, its output is one that a drill may print for that input.
+-- If a drill has carried out its whole input, its output is an output that a drill may print for that
+-- input.
 abbrev pub EndedIsDrilled : {D : Type 0} → DiskModel D → (D → D → Type 0) → Type 0
 EndedIsDrilled {D} disk crashes = (given last : D) (input written : List ℕ) → DrillEnded disk crashes given input written last → IsDrilled input written
 
--- If a drill broke off, its output is a prefix of one that a drill may print for its input.
+-- If a drill broke off, its output is a prefix of an output that a drill may print for its input.
 abbrev pub BrokenIsDrilled : {D : Type 0} → DiskModel D → (D → D → Type 0) → Type 0
 BrokenIsDrilled {D} disk crashes =
     (given : D) (input written : List ℕ) (refused : Fault × D) → BrokeOff disk crashes given input written refused → (text : List ℕ) × IsDrilled input text × IsFirstPart written text
 
--- Whatever survives a crash at any later moment of a run includes each step that is settled here; and each
--- step with visible output is settled.
+-- If all steps with visible output are settled, they are in whatever survives a crash at any later moment
+-- of a run.
 abbrev pub PrintedSurvives : Type 0
 PrintedSurvives =
     (s : Machine) (events : List Event) (given : List Answer) (reported bytes : List ℕ) → IsConsistent s → AllByRecursion EventInRange events → Answered s events given → IsSettled s reported →

@@ -1,4 +1,4 @@
--- The statements of the functions that carry out lines, from any place of the drill.
+-- What the functions that carry out lines promise, from any place of the drill.
 use Rattle.std.specs.Prelude.{◌≡◌, ℕ, ◌+◌, List, [], ◌∷◌, ◌++◌}
 use Rattle.coord_disk.specs.Model.DiskModel.{DiskModel}
 use Rattle.coord_lines.specs.Lines.{Line, lines_on}
@@ -14,13 +14,13 @@ use Rattle.coord_drill.specs.declared.fault.Fault.{Fault}
 abbrev pub CarriesLine : {D : Type 0} → DiskModel D → (D → D → Type 0) → Drill D → ℕ → Line → List ℕ → Drill D → Type 0
 CarriesLine {D} disk crashes d n line text new = (p : Place D) → Stands disk d p → n ≡ p.lines + 1 → (q : Place D) × Stands disk new q × (q.printed ≡ p.printed ++ text) × LineGoes disk crashes p line q
 
--- The line was cut short, and this disk is returned.
+-- The line was cut short, and this fault and this disk are returned.
 abbrev pub CutsLine : {D : Type 0} → DiskModel D → (D → D → Type 0) → Drill D → Line → Fault × D → Type 0
 CutsLine {D} disk crashes d line refused = (p : Place D) → Stands disk d p → FirstCutShort disk crashes p (line ∷ []) refused
 
 -- ---- lines, and the written part of their output
 
--- The drill is at this place, after the lines that the place counts.
+-- The drill is at this place, and the place and the drill count the same number of lines.
 abbrev pub StandsAt : {D : Type 0} → DiskModel D → Console D → Place D → Type 0
 StandsAt disk c p = Stands disk c.drill p × (p.lines ≡ c.number)
 
@@ -32,8 +32,8 @@ CarriesOut {D} disk crashes c lines text new = (p : Place D) → StandsAt disk c
 abbrev pub EndsWith : {D : Type 0} → DiskModel D → (D → D → Type 0) → Console D → List Line → List ℕ → D → Type 0
 EndsWith {D} disk crashes c lines text last = (p : Place D) → StandsAt disk c p → (q : Place D) × (last ≡ q.disk) × (q.printed ≡ p.printed ++ text) × Goes disk crashes p lines q
 
--- Exactly a prefix of these lines was carried out. The reason `Why` names the state in which the drill then
--- is, the remaining lines, and everything that was written.
+-- Only a prefix of these lines was carried out. `Why` holds for the place after that prefix, the remaining
+-- lines, and everything that was written.
 pub record Breaks {D : Type 0} (disk : DiskModel D) (crashes : D → D → Type 0) (c : Console D) (lines : List Line) (text : List ℕ) (Why : Place D → List Line → List ℕ → Type 0) : Type 0 where
   pub ended : List Line
   pub others : List Line
@@ -48,8 +48,8 @@ LinesBreakOff disk crashes c lines refused text = Breaks disk crashes c lines te
 abbrev pub EndsEarly : {D : Type 0} → DiskModel D → (D → D → Type 0) → Console D → List Line → Fault × D → List ℕ → Type 0
 EndsEarly disk crashes c lines refused text = Breaks disk crashes c lines text (λ q others written. StopsDrill disk crashes q others written refused)
 
--- A piece of the input was handled, except for `rest`: the lines that it completed were carried out, and the
--- partial line at its end is kept.
+-- A piece of the input was handled, except for `rest`: the lines that the piece completed were carried out,
+-- and the partial line at its end is kept.
 pub record TakesPiece {D : Type 0} (disk : DiskModel D) (crashes : D → D → Type 0) (c : Console D) (piece rest text : List ℕ) (new : Console D) : Type 0 where
   pub ended : List Line
   pub lines : (more : List ℕ) → lines_on c.line (piece ++ more) ≡ ended ++ lines_on new.line (rest ++ more)

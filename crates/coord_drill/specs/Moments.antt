@@ -1,8 +1,8 @@
 -- The effect of a line on the drill's disk at each moment, in terms of the functions of the code.
 --
--- The events of a line lead from one driver to another, whatever machine the first one represents. Their
--- answers are exactly those on which the line's text and the drill's new state depend. The machine may give
--- these answers, the second driver represents the machine after them, and the headline's chain of moments
+-- The events of a line lead from one driver to another, whatever machine the first driver represents. The
+-- line's text and the drill's new state depend on the same answers to these events. The machine may give these
+-- answers, the second driver represents the machine after them, and the headline's chain of moments
 -- (`EachMoment`) leads from the disk before the line to the disk after it.
 use Rattle.std.specs.Prelude.{◌≡◌, ◌≢◌, ◌⊎◌, ℕ, ◌+◌, List, [], ◌∷◌, length, take, false, true, Option, Some, Result}
 use Rattle.std.specs.List.{AllByRecursion}
@@ -35,7 +35,7 @@ use Rattle.coord_drill.specs.declared.fault.Fault.{Fault}
 
 -- ---- events
 
--- Events have led from one driver to another, and the first one represents this machine.
+-- These events have led from one driver to another. The first driver represents this machine.
 pub record Led {D : Type 0} (disk : DiskModel D) (crashes : D → D → Type 0) (s : Machine) (events : List Event) (given : List Answer) (d new : DriverState D) : Type 0 where
   pub in_range : AllByRecursion EventInRange events
   pub answered : Answered s events given
@@ -44,7 +44,7 @@ pub record Led {D : Type 0} (disk : DiskModel D) (crashes : D → D → Type 0) 
   pub moments : (old : D) → disk_held d ≡ Some old → disk.keeps_model old ≡ true → (now : D) × (disk_held new ≡ Some now) × (disk.keeps_model now ≡ true) × EachMoment disk crashes true s events given old now
   pub failed : (n : ℕ) → HasFailed disk.failures (disk_held d) n → HasFailed disk.failures (disk_held new) (n + failed_until events given)
 
--- These events lead from one driver to another, whatever machine the first one represents.
+-- These events lead from one driver to another, whatever machine the first driver represents.
 abbrev pub Leads : {D : Type 0} → DiskModel D → (D → D → Type 0) → DriverState D → List Event → List Answer → DriverState D → Type 0
 Leads disk crashes d events given new = (s : Machine) → IsConsistent s → Represents d s → Led disk crashes s events given d new
 
@@ -105,21 +105,22 @@ abbrev pub LeadsBy : {D : Type 0} → DiskModel D → (D → D → Type 0) → A
 LeadsBy disk crashes Version2 d given new = RaisesTo disk crashes d.driver new.driver
 LeadsBy disk crashes a d given new = Leads disk crashes d.driver (line_events d.holds a given) given new.driver
 
--- The request may print this and leave the drill in this state: text, state and disk depend on the same
--- answers to its events.
+-- The request may print this text and leave the drill in this state. The text, the state and the disk depend on
+-- the same answers to the request's events.
 pub record Carries {D : Type 0} (disk : DiskModel D) (crashes : D → D → Type 0) (d : Drill D) (a : Asked) (reported : List ℕ) (new : Drill D) : Type 0 where
   pub given : List Answer
   pub answered : IsAnswered (state_of d) a given reported (state_of new)
   pub moments : LeadsBy disk crashes a d given new
 
--- The moments of this line are promised: the disk keeps the model, and `version 2` comes before any step.
+-- The condition for the promises about the moments of this line: the disk keeps the model, and `version 2`
+-- comes before any step.
 abbrev pub LineIsPromised : {D : Type 0} → DiskModel D → Drill D → Asked → Type 0
 LineIsPromised disk d a = (model_held disk d.driver ≡ Some true) × (a ≡ Version2 → IsEmptyLog d.driver.ledger.log)
 
 abbrev pub CarriesIf : {D : Type 0} → DiskModel D → (D → D → Type 0) → Drill D → Asked → List ℕ → Drill D → Type 0
 CarriesIf disk crashes d a reported new = LineIsPromised disk d a → Carries disk crashes d a reported new
 
--- The disk was returned in a crash, after an image was chosen.
+-- The drill failed in a crash, after an image was chosen, and returned the disk.
 pub record GivesUpInCrash {D : Type 0} (disk : DiskModel D) (crashes : D → D → Type 0) (d : DriverState D) (refused : Fault × D) : Type 0 where
   pub moments : (s : Machine) → IsConsistent s → Represents d s → (old : D) → disk_held d ≡ Some old → disk.keeps_model old ≡ true → Reopens disk crashes (Survives s) old refused.1
   pub cause : model_held disk d ≡ Some true → IsPassingFault refused.0
@@ -138,8 +139,8 @@ Cuts disk crashes a d refused = LacksMemory disk crashes a d refused
 abbrev pub CutsIf : {D : Type 0} → DiskModel D → (D → D → Type 0) → Asked → Drill D → Fault × D → Type 0
 CutsIf disk crashes a d refused = LineIsPromised disk d a → Cuts disk crashes a d refused
 
--- A flight may print this and leave the drill in this state, whatever tickets the machine has issued before
--- it.
+-- A flight may print this text and leave the drill in this state, whatever tickets the machine has issued
+-- before the flight.
 pub record Flies {D : Type 0} (disk : DiskModel D) (crashes : D → D → Type 0) (d : Drill D) (reported : List ℕ) (new : Drill D) : Type 0 where
   pub given : List Answer
   pub with_memory : AllByRecursion (λ answer. answer ≢ Refused OutOfMemory) given
@@ -169,7 +170,7 @@ pub record IsMade {D : Type 0} (disk : DiskModel D) (given : D) (l : LedgerState
   pub unfailed : disk.failures begun ≡ disk.failures given
   pub made : disk.keeps_model given ≡ true → disk.present begun ≡ made HALF_SIZE 1
 
--- A store was just created on the given disk.
+-- The drill is over a store that was just created on the given disk.
 pub record IsBegun {D : Type 0} (disk : DiskModel D) (given : D) (d : Drill D) : Type 0 where
   pub begun : D
   pub made : disk.present begun ≡ made HALF_SIZE 1

@@ -42,7 +42,7 @@ output_line version (Sent p) = codes "data " ++ (decimal p.from ++ (codes " " ++
 abbrev pub output_lines : ℕ → List Output → List ℕ
 output_lines version os = flat_map (output_line version) os
 
--- the lines of settled steps, in order, each with its reply before its outputs
+-- the lines of settled steps, in order: the reply to each step, then the outputs of that step
 abbrev pub settled_lines : ℕ → List StepOutcome → List ℕ
 settled_lines version outcomes = flat_map (λ o. reply_line o.reply ++ output_lines version o.outputs) outcomes
 

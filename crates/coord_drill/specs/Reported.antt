@@ -12,12 +12,12 @@ use Rattle.coord_drill.specs.Drill.{DrillState}
 use Rattle.coord_drill.specs.declared.asked.Asked.{Asked}
 use Rattle.coord_drill.specs.declared.asked.Asked.TheVariants.{Submit, Flush, Resend}
 
--- the steps that a flight's lines show: those of a committed flight
+-- the steps that a flight's lines show: the steps of the flight if it was committed, otherwise none
 abbrev pub flight_answered : Log → List Answer → List ℕ
 flight_answered log (Begun b ∷ Committed ∷ given) = map (λ o. o.reply.step) (outs (settled_world log) (take (next_size log) (pending log)))
 flight_answered log given = []
 
--- the step that the answer to a repeat shows, once it is settled
+-- the step that the answer to a repeat shows: the step of the kept reply, if that step is settled
 abbrev pub repeat_answered : ℕ → Result Verdict Refusal → List ℕ
 repeat_answered count (Ok (Repeat reply)) = if nat_le reply.step count then reply.step ∷ [] else []
 repeat_answered count (Ok (Fresh kind)) = []

@@ -14,11 +14,11 @@ WritesPart old new P = (part : List ℕ) × Appends old new part × P part
 abbrev pub WritesShort : Option (List ℕ) → Option (List ℕ) → List ℕ → Type 0
 WritesShort old new text = WritesPart old new (λ part. IsShortPart part text)
 
--- the known state of a reader and a writer at one moment
+-- what is known about a reader and a writer at one moment
 pub record InOut : Type 0 where
   pub unread : Option (List ℕ)
   pub written : Option (List ℕ)
 
--- Bytes were read and a text was written, and P holds for both.
+-- The reader returned bytes, the writer got a text, and P holds for the two.
 abbrev pub Exchanges : InOut → InOut → (List ℕ → List ℕ → Type 0) → Type 0
 Exchanges old new P = (seen : List ℕ) × Consumes old.unread new.unread seen × WritesPart old.written new.written (P seen)

@@ -21,8 +21,8 @@ fn bytes_read(answer: io::Result<usize>) -> Result<usize, Fault>
     }
 }
 
-/// Returns the number of bytes that a write has written, or its fault. An interrupted write has written
-/// none.
+/// Returns the number of bytes that a write has written, or its fault. An interrupted write counts as 0
+/// bytes.
 fn bytes_written(answer: io::Result<usize>) -> Result<usize, Fault>
     ensures some { IfOk answer (λ count. count ≢ 0 → result ≡ Ok count) }
     ensures none { IfOk answer (λ count. count ≡ 0 → result ≡ Err Fault.Write) }
@@ -48,7 +48,7 @@ fn bytes_written(answer: io::Result<usize>) -> Result<usize, Fault>
     }
 }
 
-/// Reads once.
+/// Reads once into `buf`, and returns the number of bytes. Errors: `Read`.
 pub fn read_once<R: Read>(reader: &mut R, buf: &mut [u8]) -> Result<usize, Fault>
     ensures bound { ReadsAtMost result buf.new }
     ensures bytes { ReadConsumes (R.remaining reader.old) (R.remaining reader.new) result buf.new }
@@ -57,7 +57,8 @@ pub fn read_once<R: Read>(reader: &mut R, buf: &mut [u8]) -> Result<usize, Fault
     bytes_read(reader.read(buf))
 }
 
-/// Writes once.
+/// Writes once, and returns the number of bytes, which is 0 if the write was interrupted. Errors: out
+/// of memory, or `Write`.
 pub fn write_once<W: Write>(writer: &mut W, text: &[u8]) -> Result<usize, Fault>
     ensures bound { WritesAtMost result text.now }
     ensures bytes { WriteAppends (W.contents writer.old) (W.contents writer.new) result text.now }

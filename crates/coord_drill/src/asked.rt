@@ -13,9 +13,9 @@ use coord_world::World;
 pub enum Asked {
     /// Submit a step.
     Submit(Step),
-    /// Nothing, because the request names an absent lane.
+    /// Report this refusal, because the request names an absent lane.
     Refuse(Refusal),
-    /// Nothing, because the lane has no message.
+    /// Do nothing, because the lane has no message.
     Nothing,
     /// Resend the packets that may have been lost.
     Resend,
@@ -33,7 +33,7 @@ pub enum Asked {
     Version2,
 }
 
-/// Returns what a request asks for in this front world.
+/// Returns what a request asks the drill to do in this front world.
 pub fn wanted_by(front: &World, request: &Request) -> Asked
     ensures { result ≡ asked front.now request.now }
 {
@@ -68,7 +68,7 @@ pub fn wanted_by(front: &World, request: &Request) -> Asked
     }
 }
 
-/// Returns the number after that of the client's last order.
+/// Returns the number of the client's next order: the number of its last order plus 1.
 #[tactic(auto, unfolding(crate::specs::Asked::next_number))]
 fn next_number(world: &World, client: Client) -> u64
     ensures { result ≡ next_number world.now client }
@@ -81,7 +81,8 @@ fn next_number(world: &World, client: Client) -> u64
     }
 }
 
-/// Returns the packet at the front of a lane, or None if the lane is empty.
+/// Returns the packet at the front of a lane, or None if the lane is empty. Errors: the nodes are
+/// not linked.
 #[tactic(auto, unfolding(crate::specs::Asked::front))]
 fn front_packet(world: &World, from: NodeId, to: NodeId) -> Result<Option<DataPacket>, Refusal>
     ensures { result ≡ front world.now from to }
@@ -103,7 +104,7 @@ fn front_packet(world: &World, from: NodeId, to: NodeId) -> Result<Option<DataPa
     }))
 }
 
-/// Returns the client of orders that name none, such as `reset 3`.
+/// Returns the operator, the client of orders that name no client, such as `reset 3`.
 fn operator() -> Client
     ensures { result ≡ operator }
 {

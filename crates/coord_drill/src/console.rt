@@ -28,10 +28,10 @@ use std::io::{Read, Write};
 /// The maximum number of bytes of one read.
 const READ_LEN: usize = 512;
 
-/// Reads requests to the end of the input, one in each line, and prints their results. The drill runs
-/// over a new disk in memory, on which a crash keeps the bytes that a read returns.
-/// `printed_is_drilled` describes the output for a whole input; if the drill fails, the output is a
-/// prefix of that.
+/// Reads requests, one in each line, to the end of the input, and prints their results. The drill
+/// runs over a new disk in memory, on which a crash keeps the bytes that a read returns.
+/// `printed_is_drilled` describes the output for a whole input. If the drill fails, the output is a
+/// prefix of such an output.
 pub fn coord_drill<R: Read, W: Write>(
     alloc: Global,
     reader: &mut R,
@@ -49,13 +49,13 @@ pub fn coord_drill<R: Read, W: Write>(
     }
 }
 
-/// Reads requests to the end of the input, one in each line, and prints their results. The store is
+/// Reads requests, one in each line, to the end of the input, and prints their results. The store is
 /// created on the given disk, which must be empty. The disk is returned even after a fault.
 ///
 /// The main theorem, over a disk that keeps the model: at each moment of the whole input, between its
 /// lines and inside them, until the end or the fault, whatever a crash may leave of the disk is the
-/// legal world after a prefix of the accepted steps, which includes every step whose reply, packet or
-/// signal was printed (`specs/Course.antt`).
+/// legal world after a prefix of the accepted steps. This prefix includes every step whose reply,
+/// packet or signal was printed (`specs/Course.antt`).
 pub fn coord_drill_on<R: Read, W: Write, D: CrashDisk>(
     alloc: Global,
     reader: &mut R,
@@ -83,8 +83,8 @@ fn new_disk(alloc: Global) -> MemDisk
     disk
 }
 
-/// A drill that gets its input in pieces of any length. It must be consumed, by `into_disk`. A call
-/// that fails returns the disk.
+/// A drill that gets its input in pieces of any length. Every console must be consumed by
+/// `into_disk`. A call that fails returns the disk.
 struct Console<D: CrashDisk> {
     drill: Drill<D>,
     line: LineBuffer,

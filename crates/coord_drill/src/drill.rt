@@ -31,8 +31,8 @@ use std::collections::VecDeque;
 /// The size of a half of the drill's disk, in bytes.
 const HALF_SIZE: u64 = 65_536;
 
-/// The driver of a ledger, and a ticket for each pending step, in order. It must be consumed, by
-/// `into_disk`. A call that fails returns the disk.
+/// The driver of a ledger, and a ticket for each pending step, in order. Every drill must be consumed
+/// by `into_disk`. A call that fails returns the disk.
 pub struct Drill<D: CrashDisk> {
     alloc: Global,
     driver: Driver<D>,
@@ -44,8 +44,8 @@ pub struct Drill<D: CrashDisk> {
 }
 
 impl<D: CrashDisk> Drill<D> {
-    /// Makes a drill without any step: creates its store on the disk, with halves of 65,536 bytes. A
-    /// refusal returns the disk.
+    /// Makes a drill without any step: creates its store on the disk, with halves of 65,536 bytes. If
+    /// that fails, returns the disk with the fault.
     pub fn new(alloc: Global, disk: D) -> Result<Self, (Fault, D)>
         ensures ready { IfOk result IsReadyDrill }
         ensures begun { D.model.keeps_model disk ≡ true → IfOk result (IsBegun D.model disk) }
@@ -127,7 +127,7 @@ impl<D: CrashDisk> Drill<D> {
         driver.into_disk()
     }
 
-    /// Drops a driver because memory ran out, and returns its disk with that fault.
+    /// Drops the drill because memory ran out. Returns its disk and the fault `OutOfMemory`.
     pub fn lost(self) -> (Fault, D)
         ensures fault { result.0 ≡ OutOfMemory }
         ensures disk { disk_held self.driver ≡ Some result.1 }

@@ -5,15 +5,14 @@ ghost use Rattle.coord_drill.specs.WorkedLines.{WorkedLines};
 
 use coord_disk::{CrashDisk, Disk};
 
-/// A written request is read as itself, so no two requests share a line.
+/// A request that was written as a line is read from that line again, so no two requests share a line.
 #[tactic(auto, using(crate::proofs::requests::Spelled::spelled_is_read))]
 pub fn spelled_is_read()
     ensures { SpelledIsRead }
 {}
 
-/// Whatever the disk, the output of a drill is one that the event machine allows for its input lines in
-/// order (`specs/Drilled.antt`): a whole allowed output if the drill carried out all of its input,
-/// otherwise a prefix of one.
+/// On any disk, the output of a drill is an output that the event machine allows for the input's lines
+/// in order (`specs/Drilled.antt`). If the drill broke off, its output is a prefix of such an output.
 pub fn printed_is_drilled<D: CrashDisk>()
     ensures ended { EndedIsDrilled D.model D.crashes }
     ensures broke { BrokenIsDrilled D.model D.crashes }

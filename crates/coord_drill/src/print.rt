@@ -9,7 +9,7 @@ use coord_store::CommitFault;
 use coord_types::{DataPacket, Msg, Output, ReceiptPacket, Refusal, Reply, Version};
 use std::alloc::AllocError;
 
-/// Appends the line for a bad line with this number, counted from 1.
+/// Appends the report of a bad line: its number, counted from 1.
 pub fn print_bad_line(text: &mut String, number: u64) -> Result<(), AllocError>
     ensures { OnOk result (string_bytes text.new ≡ string_bytes text.old ++ bad_line number) }
 {

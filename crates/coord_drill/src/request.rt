@@ -9,7 +9,7 @@ pub enum Request {
     Next(Command),
     /// An order of a client, with the number in the line.
     Order(Client, u64, Command),
-    /// The node at the end of this lane takes the packet at its front.
+    /// The node at the end of this lane takes the packet at the lane's front.
     Take(NodeId, NodeId),
     /// A receipt clears the front of this lane.
     Clear(NodeId, NodeId),
@@ -23,7 +23,7 @@ pub enum Request {
     Check,
     /// The settled world is shown.
     Show,
-    /// Accepted steps are held, not settled at once, from now on.
+    /// From now on, accepted steps are held, not settled at once.
     Hold,
     /// Pending steps are settled in one flight.
     Flush,

@@ -31,7 +31,7 @@ impl<'a> Words<'a> {
         Words { rest: Some(line) }
     }
 
-    /// Returns the next word.
+    /// Removes and returns the next word, or returns None if no word is left.
     pub fn next(&mut self) -> Option<&'a str>
         ensures { MatchOption result (self.old ≡ []) (λ word. self.old ≡ word.now ∷ self.new) }
     {
@@ -48,7 +48,8 @@ impl<'a> Words<'a> {
         }
     }
 
-    /// Returns the next word as a number: only decimal digits, below 2^64.
+    /// Removes the next word and returns its value. Returns None unless the word is a decimal number
+    /// below 2^64.
     #[tactic(auto, unfolding(crate::specs::Grammar::number))]
     pub fn number(&mut self) -> Option<u64>
         ensures { ReadsWords (number.read self.old) result self.new }

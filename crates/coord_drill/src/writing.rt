@@ -11,7 +11,8 @@ use crate::fault::Fault;
 use coord_lines::MOST_CALLS;
 use std::io::{Error, ErrorKind, Write};
 
-/// Writes a whole text.
+/// Writes a whole text. Errors: out of memory, or `Write`; then a proper prefix of the text was
+/// written.
 #[tactic(auto, using(crate::proofs::prints::FirstParts::short_left, crate::proofs::prints::FirstParts::short_kept))]
 pub fn write_text<W: Write>(writer: &mut W, text: &[u8]) -> Result<(), Fault>
     ensures ok { OnOk result (Appends (W.contents writer.old) (W.contents writer.new) text.now) }

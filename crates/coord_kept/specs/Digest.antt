@@ -8,7 +8,7 @@ use Rattle.sha2.specs.Sha256.{sha256}
 abbrev pub line_of : String Global → List ℕ
 line_of line = string_bytes line ++ codes "\n"
 
--- the word as a line, or nothing if it is empty
+-- the word as a line, or nothing if the word is empty
 abbrev pub word_line : List ℕ → List ℕ
 word_line word = if length word == 0 then [] else word ++ codes "\n"
 
@@ -23,13 +23,13 @@ digest_of word lines = encode_lower (sha256 (text_of word lines))
 abbrev pub half_of : List ℕ → List (String Global) → List ℕ
 half_of word lines = encode_lower (take 16 (sha256 (text_of word lines)))
 
--- the tag of a start: half the digest of the party with which it first talked, a dash, and half the digest of the party
--- that is shown now; empty for a start that was alone
+-- the tag of a start: half the digest of the party with which the start first talked, a dash, and half the
+-- digest of the party that is shown now; empty for a start that was alone
 abbrev pub tag_of : List ℕ → List (String Global) → List (String Global) → List ℕ
 tag_of word first shown = if length first == 1 then [] else half_of word first ++ (codes "-" ++ half_of word shown)
 
--- the tag of a start's fence, which names its run; a start that was alone shares its run with no other start, so the
--- tag then also depends on the count
+-- the tag of a start's fence, which names the start's run; a start that was alone shares its run with no other
+-- start, so its fence tag also depends on the count
 abbrev pub fence_tag : List ℕ → ℕ → List (String Global) → List ℕ
 fence_tag word count first = if length first == 1 then half_of (word ++ (codes "@" ++ decimal count)) first else half_of word first
 

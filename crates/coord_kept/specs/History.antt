@@ -29,7 +29,7 @@ abbrev pub are_lines : List ℕ → ℕ → Bool
 are_lines h zero = true
 are_lines h (suc k) = is_line (line_at h k) && are_lines h k
 
--- whether one of the first k lines is this one
+-- whether one of the first k lines is this line
 abbrev pub is_among : List ℕ → List ℕ → ℕ → Bool
 is_among h line zero = false
 is_among h line (suc k) = is_among h line k || bytes_eq (line_at h k) line

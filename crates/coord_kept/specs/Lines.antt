@@ -17,10 +17,10 @@ pub record AreLinesOf (party : List Entry) (lines : List (String Global)) : Type
   pub all : IsPermutation (map entry_words party) (map (λ line. string_bytes line) lines)
   pub in_order : IsSorted string_cmp lines
 
--- whether the line of this entry is one of these
+-- whether the line of this entry is one of these lines
 abbrev pub has_line : List (String Global) → Entry → Bool
 has_line lines entry = list_any (λ line. bytes_eq (string_bytes line) (entry_words entry)) lines
 
--- the entries of a party whose lines are among these
+-- the entries of a party whose lines are among these lines
 abbrev pub known : List (String Global) → List Entry → List Entry
 known lines party = filter (has_line lines) party

@@ -1,7 +1,7 @@
--- The file of a start, in JSON. For the node it has the epoch that is begun, the lines of the party with which the
--- start first talked, and the number of steps that were settled then. As long as the start has not talked, the file has
--- `loaded` with the epoch instead of `begun`, and the name of the machine's boot: that file is not synced, so after a
--- power cut it may have this form even if the start has talked.
+-- The file of a start, in JSON. For the node, the file has the epoch that is begun, the lines of the party with
+-- which the start first talked, and the number of steps that were settled then. As long as the start has not
+-- talked, the file has `loaded` with the epoch instead of `begun`, and the name of the machine's boot. The file
+-- is not synced in this form, so after a power cut it may have this form even if the start has talked.
 use Rattle.std.specs.Prelude.{ℕ, ◌-◌, ◌==◌, ◌&&◌, not, Bool, false, List, [], ◌∷◌, ◌++◌, codes, decimal, length, map, slice_index, is_some, if◌then◌else◌, Option, Some, None, option_and_then, String, string_bytes}
 use Rattle.std.specs.declared.alloc.Global.{Global}
 use Rattle.std.specs.List.{flat_map}
@@ -68,7 +68,7 @@ is_of_boot boot d = not (length boot == 0) && is_named boot (option_and_then as_
 abbrev pub loaded_of : Data → Option ℕ
 loaded_of d = option_and_then as_u64 (option_and_then as_number (get (codes "loaded") d))
 
--- the start of work that was loaded for an epoch and has not talked
+-- a start that was loaded for an epoch and has not talked
 abbrev pub loaded_in : Option ℕ → Option Seen
 loaded_in epoch = option_map (λ e. (Some e, None, None)) epoch
 

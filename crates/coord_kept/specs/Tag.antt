@@ -6,15 +6,15 @@ use Rattle.std.specs.Str.{bytes_eq}
 abbrev pub is_dash : ℕ → Bool
 is_dash byte = byte == 45
 
--- the part of a tag before the dash, the digest of the party with which its start first talked; and the part after the
--- dash, the digest of the party that the start saw last
+-- the part of a tag before the dash: the digest of the party with which the tag's start first talked; and the
+-- part after the dash: the digest of the party that the start saw last
 abbrev pub run_of : List ℕ → List ℕ
 run_of tag = before_first is_dash tag
 
 abbrev pub shown_of : List ℕ → List ℕ
 shown_of tag = after_first is_dash tag
 
--- whether the message is of the receiver's run; a receiver without a tag accepts no message
+-- whether the message belongs to the receiver's run; a receiver without a tag accepts no message
 abbrev pub is_same_run : List ℕ → List ℕ → Bool
 is_same_run own other = not (length own == 0) && bytes_eq (run_of own) (run_of other)
 

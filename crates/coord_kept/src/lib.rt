@@ -3,10 +3,10 @@
 //!
 //! [`lines_of`] makes the lines of a party, sorted by their bytes, [`digest_of`] their digest, and
 //! [`tag_of`] the tag. [`read_start`], [`carried_start`], [`start_text`] and [`loaded_text`] read
-//! and write the file of a start; if a power cut truncates it, it says that nothing is begun
-//! ([`laws`]). [`look_up`] and [`history_line`] read and write the file of the history.
-//! [`is_same_run`] and [`are_parted`] compare a received tag with the member's own. `specs/` has a
-//! file of definitions for each.
+//! and write the file of a start; if a power cut truncates the file, the file says that nothing is
+//! begun ([`laws`]). [`look_up`] and [`history_line`] read and write the file of the history.
+//! [`is_same_run`] and [`are_parted`] compare a received tag with the member's own tag. `specs/`
+//! has a file of definitions for each of these subjects.
 #![tactic(auto)]
 
 mod digest;

@@ -28,7 +28,7 @@ pub fn lines_of(alloc: Global, party: &[Entry]) -> Result<Vec<String>, AllocErro
     Ok(lines)
 }
 
-/// Tests whether the line of this entry is one of these.
+/// Tests whether the line of this entry is one of these lines.
 fn has_line(alloc: Global, lines: &[String], entry: Entry) -> Result<bool, AllocError>
     ensures { IfOk result (λ has. has ≡ has_line lines.now entry) }
 {
@@ -36,7 +36,7 @@ fn has_line(alloc: Global, lines: &[String], entry: Entry) -> Result<bool, Alloc
     Ok(lines.iter().any(|line| line.as_str() == words.as_str()))
 }
 
-/// Returns the entries of a party whose lines are among these.
+/// Returns the entries of a party whose lines are among these lines.
 pub fn known(alloc: Global, lines: &[String], party: &[Entry]) -> Result<Vec<Entry>, AllocError>
     ensures { IfOk result (λ those. those.items ≡ known lines.now party.now) }
 {

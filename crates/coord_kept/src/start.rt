@@ -35,7 +35,7 @@ impl Start {
     }
 }
 
-/// The reason for which a start cannot be read.
+/// The reason why a start cannot be read.
 #[derive(Clone, Copy, Debug, PartialEq, Eq)]
 pub enum ReadFault {
     OutOfMemory,
@@ -230,8 +230,9 @@ pub fn start_text(
     Ok(text)
 }
 
-/// Returns the text of the file once the common start is loaded for an epoch, as long as the start
-/// has not talked. The text is valid only in the boot with this name, so it need not be synced.
+/// Returns the text of the file between the time when the common start is loaded for an epoch and
+/// the time when the start first talks. The text is valid only in the boot with this name, so it
+/// need not be synced.
 pub fn loaded_text(alloc: Global, node: u8, epoch: u64, boot: &str) -> Result<String, AllocError>
     ensures { IfOk result (λ text. string_bytes text ≡ loaded_text node epoch boot.now) }
 {

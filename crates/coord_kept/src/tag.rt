@@ -17,14 +17,15 @@ fn dash_in(tag: &[u8]) -> usize
     place
 }
 
-/// Returns the digest before the dash.
+/// Returns the part of a tag before the dash, the digest of the party with which its start first
+/// talked.
 fn run_of(tag: &[u8]) -> &[u8]
     ensures { result.now ≡ run_of tag.now }
 {
     tag.split_at(dash_in(tag)).0
 }
 
-/// Returns the digest after the dash.
+/// Returns the part of a tag after the dash, the digest of the party that its start saw last.
 fn shown_of(tag: &[u8]) -> &[u8]
     ensures { result.now ≡ shown_of tag.now }
 {

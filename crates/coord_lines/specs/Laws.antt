@@ -3,7 +3,7 @@ use Rattle.std.specs.Prelude.{◌≡◌, ℕ, List, [], ◌∷◌, ◌++◌, Som
 use Rattle.std.specs.List.{concat}
 use Rattle.coord_lines.specs.Lines.{Line, lines_of, lines_on}
 
--- all lines but the last one, which may still continue
+-- all lines but the last line, which may still continue
 abbrev pub ended : List Line → List Line
 ended [] = []
 ended (line ∷ []) = []

@@ -13,7 +13,7 @@ Line = Option (List ℕ)
 unfoldable pub line_of : List ℕ → Line
 line_of bytes = if nat_le (length bytes) MAX_LINE_BYTES then Some bytes else None
 
--- the line is no longer than the limit, or it is None, which stands for every longer line
+-- the line is no longer than the limit; None, which stands for every longer line, counts as within the limit
 abbrev pub IsWithin : Line → Type 0
 IsWithin line = IfSome line (λ bytes. length bytes ≤ MAX_LINE_BYTES)
 

@@ -1,4 +1,5 @@
-//! Limits on the calls of a stream, so that a loop over one ends whatever the stream returns.
+//! Limits on the calls of a stream, so that a loop over these calls ends whatever the stream
+//! returns.
 
 /// The maximum number of reads of one input, from its first line to its end.
 pub const MOST_READS: u64 = 1_048_576;

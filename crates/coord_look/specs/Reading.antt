@@ -44,11 +44,11 @@ is_ready_mode Ready = true
 is_ready_mode Abort = false
 is_ready_mode Converge = false
 
--- the node is in no reset, if it is one of these
+-- if the node is one of these nodes, it is in no reset
 abbrev pub is_quiet : NodeSet → NodeView → Bool
 is_quiet reached row = not (contains reached row.node) || is_ready_mode row.mode
 
--- the node is in no reset and has confirmed its epoch, if it is one of these
+-- if the node is one of these nodes, it is in no reset and has confirmed its epoch
 abbrev pub is_through : NodeSet → NodeView → Bool
 is_through reached row = not (contains reached row.node) || (is_ready_mode row.mode && (row.epoch == row.confirmed))
 
@@ -68,7 +68,8 @@ party_in reached view = flat_map (node_entries reached) view.nodes ++ flat_map (
 abbrev pub row_in : NodeSet → Shown → NodeView → Row
 row_in reached view row = record { epoch = row.epoch; confirmed = row.confirmed; through = list_all (is_through reached) view.nodes; quiet = list_all (is_quiet reached) view.nodes }
 
--- a look at this view: the member's row and its party, from the nodes that are connected with its node
+-- a member's look at this view: the row of the member's node, and the party of the nodes that are
+-- connected with it
 pub record IsReadOf (view : Shown) (node : ℕ) (own : NodeView) (row : Row) (party : List Entry) : Type 0 where
   pub reached : NodeSet
   pub connected : AreConnected view.links node reached

@@ -2,8 +2,8 @@
 
 ghost use Rattle.coord_look.specs.Worlds.{LookIsShown, NoLookIsAbsent};
 
-/// In the view of a world in its ranges, a member reads exactly what that world shows it: its node,
-/// all nodes that a path of links connects with it, and the links between them.
+/// In the view of a world in its ranges, a member reads exactly what that world shows the member:
+/// its node, all nodes that a path of links connects with its node, and the links between them.
 pub fn look_is_shown()
     ensures { LookIsShown }
 {}

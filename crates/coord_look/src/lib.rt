@@ -5,7 +5,7 @@
 //! a member, with the same `Connected` as the law of waves. `specs/Reading.antt` defines what is
 //! read in the rows of a view, which is the contract of [`look_of`]. The main theorem is the
 //! contract of [`laws::look_is_shown`]: in the view of a world, a member reads exactly what that
-//! world shows it. [`connected`] finds the nodes that links connect.
+//! world shows the member. [`connected`] finds the nodes that links connect.
 #![tactic(auto)]
 
 pub mod laws;

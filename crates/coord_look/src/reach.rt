@@ -14,7 +14,7 @@ fn crossing(links: &[LinkView], reached: NodeSet) -> Option<&LinkView>
     links.iter().find(|link| reached.contains(link.a) != reached.contains(link.b))
 }
 
-/// Returns the node and all nodes to which a path of links leads from it.
+/// Returns the set of this node and all nodes to which a path of links leads from it.
 #[tactic(auto, using(crate::proofs::Reached::all_reached, crate::proofs::Reached::reaches_itself, crate::proofs::Reached::reaches_more, crate::proofs::Reached::smaller))]
 pub fn connected(links: &[LinkView], node: NodeId) -> NodeSet
     ensures { AreConnected links.now node result }

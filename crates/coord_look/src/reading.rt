@@ -43,7 +43,7 @@ fn are_quiet(nodes: &[NodeView], reached: NodeSet) -> bool
     nodes.iter().all(|row| !reached.contains(row.node) || row.mode == Mode::Ready)
 }
 
-/// Appends the entry of a node, if it is one of these.
+/// Appends the entry of a node, if it is one of these nodes.
 fn push_node(party: &mut Vec<Entry>, reached: NodeSet, row: &NodeView) -> Result<(), AllocError>
     ensures { OnOk result (party.new.items ≡ party.old.items ++ node_entries reached row.now) }
 {

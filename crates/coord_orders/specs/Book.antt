@@ -28,7 +28,7 @@ abbrev pub line_with : ℕ → Option Command → Option Line
 line_with last None = None
 line_with last (Some x) = Some (record { number = last + 1; command = x })
 
--- the line of the order in hand: its number is the one after the last; None if no order is in hand
+-- the line of the order in hand, with the number after the last one; None if no order is in hand
 abbrev pub line_of : Kept → Option Line
 line_of kept = line_with kept.last kept.in_hand
 
@@ -49,8 +49,8 @@ kept_after kept NotDone = record { last = kept.last; in_hand = None }
 kept_after kept SendAgain = kept
 kept_after kept CountLost = kept
 
--- the book after an answer, and the meaning of the answer: an answer to a line other than the awaited one has no
--- meaning and changes nothing
+-- the book after an answer, and the meaning of the answer: an answer to a line other than the awaited line has
+-- no meaning and changes nothing
 abbrev pub heard : OrderBook → ℕ → Answer → Heard
 heard b serial a =
     if is_awaited b serial then record { book = opened (kept_after b.kept (meaning_of a)); meaning = Some (meaning_of a) }

@@ -8,7 +8,7 @@ use Rattle.coord_orders.specs.declared.meaning.Meaning.TheVariants.{CountLost}
 use Rattle.coord_orders.specs.Meanings.{meaning_of}
 use Rattle.coord_orders.specs.Exchange.{Event, Exchange, Given, begun, orders_of, run}
 
--- the list is empty, or has only the order in hand with its number
+-- the list is empty, or its only entry is the order in hand with that order's number
 abbrev pub IsInHand : Kept → List Session → Type 0
 IsInHand kept [] = Unit {0}
 IsInHand kept (s ∷ []) = (s.number ≡ kept.last + 1) × (kept.in_hand ≡ Some s.command)
@@ -20,8 +20,8 @@ Counts first last [] = last ≡ first
 Counts first last (s ∷ ss) = (s.number ≡ first + 1) × Counts s.number last ss
 
 pub record IsOnce (c : ℕ) (base : World) (first : ℕ) (e : Exchange) : Type 0 where
-  -- The client's orders in the trail are the orders that it noted as done, with their replies and in order, followed by
-  -- at most the order in hand. So no refused order is in the trail
+  -- The client's orders in the trail are the orders that the client noted as done, with their replies and in
+  -- order, followed by at most the order in hand. So no refused order is in the trail
   pub orders : (more : List Session) × ((orders_of c base e.trail ≡ e.done ++ more) × IsInHand e.book.kept more)
   -- the orders noted as done are settled, so no crash removes one
   pub settled : (more : List Session) × (orders_of c base (take e.settled e.trail) ≡ e.done ++ more)

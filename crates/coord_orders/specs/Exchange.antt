@@ -59,7 +59,7 @@ pub data Event : Type 0 where
   Release : (k : ℕ) → Event  -- the k-th waiting reply is given, if its step is settled
   Hear : (k : ℕ) → Event  -- the client receives the k-th answer ever given: late, again or for the first time
   Crash : Event  -- the client crashes: its stored book is kept
-  Fall : (n : ℕ) → Event  -- the server crashes: the first n steps survive, and all settled ones
+  Fall : (n : ℕ) → Event  -- the server crashes: the first n steps and all settled steps survive
 
 -- ---- the client
 

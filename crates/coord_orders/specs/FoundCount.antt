@@ -26,8 +26,9 @@ abbrev pub IsNoProbe : Option Session → Type 0
 IsNoProbe None = Unit {0}
 IsNoProbe (Some s) = (u : ℕ) → s.command ≢ probe u
 
--- If the world still takes steps and the client's last order is not a probe, then a probe is refused, whatever its
--- number is, and the refusal shows whether the number is the last one, the next one or another one
+-- If the world still takes steps and the client's last order is not a probe, then a probe is refused, whatever
+-- its number is. The refusal shows whether the number is the client's last number, its next number or another
+-- number
 abbrev pub CountIsFound : Type 0
 CountIsFound = (w settled : World) (c n u : ℕ) → is_exhausted w ≡ false → IsNoProbe (get w.sessions c) →
     accepts w settled (Order c n (probe u)) ≡ Err (answer_to_probe w (last_number (get w.sessions c)) n u)

@@ -35,7 +35,7 @@ pub struct OrderBook {
 #[derive(Clone, Copy, Debug, PartialEq, Eq)]
 pub struct Heard {
     pub book: OrderBook,
-    /// None if the answer belongs to a line other than the awaited one, and so has no meaning.
+    /// None if the answer belongs to a line other than the awaited line, and so has no meaning.
     pub meaning: Option<Meaning>,
 }
 

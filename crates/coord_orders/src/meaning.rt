@@ -22,8 +22,8 @@ pub enum Meaning {
     NotDone,
     /// The outcome is unknown: the same line must be sent again.
     SendAgain,
-    /// The number is not the client's last or next one, or it is the last one with another order:
-    /// the client and the server disagree on the client's numbers.
+    /// The number is not the client's last or next number, or it is the last number with another
+    /// order: the client and the server disagree on the client's numbers.
     CountLost,
 }
 

@@ -32,8 +32,8 @@ pub record IsLookAt (view : Shown) (node : ℕ) (row : Row) (party : List Entry)
   pub there : find (is_of node) view.nodes ≡ Some own
   pub read : IsReadOf view node own row party
 
--- Each look reads one of these answers, not before the one that the same member read last. Everything else is
--- arbitrary: files may be lost, and messages may arrive late, repeatedly or never.
+-- Each look reads one of these answers, and never an answer before the one that the same member read last.
+-- Everything else is arbitrary: files may be lost, and messages may arrive late, repeatedly or never.
 abbrev pub AreReadIn : List Returned → (ℕ → ℕ) → List member.Event → Type 0
 AreReadIn returned last [] = Unit {0}
 AreReadIn returned last (member.Look i row now ∷ looks) =

@@ -12,22 +12,22 @@ use Rattle.coord_starts.specs.Returned.{IsReplyTo, KeepsLast, led, outcomes, ste
 
 -- What holds for the starts of a store that begins with the world `w`.
 pub record IsHistoryOfStarts (w : World) (starts : List Start) : Type 0 where
-  -- The kept steps are one history: each is fresh over the world after the steps before it. The last start left the
-  -- world after all of them, which is legal.
+  -- The kept steps are one history: each is fresh over the world after the steps before it. The last start left
+  -- the world after all kept steps, and this world is legal.
   pub history : IsHistory w (turns_of w starts)
   pub left : left_by w starts ≡ led w (turns_of w starts)
   pub sound : IsSound (left_by w starts)
   -- Step numbers have no gap: the i-th kept step is answered with the number i, counted from 1.
   pub numbered : (i : ℕ) (o : StepOutcome) → slice_get (outcomes w (turns_of w starts)) i ≡ Some o → o.reply.step ≡ i + 1
   pub counted : (left_by w starts).count ≡ length (steps_of (turns_of w starts))
-  -- A returned number never names another step: each reply that was collected in any start is the reply of the kept
-  -- step with its number.
+  -- A returned number never names another step: each reply that was collected in any start is the reply to the
+  -- kept step with its number.
   pub replied : AllByRecursion (IsReplyTo 0 (outcomes w (turns_of w starts))) (replied_of w starts)
   -- The releases of all starts are a sublist of the outputs of the kept steps, in order, and none is released twice.
   pub released : IsPartOf (released_first (released_of w starts)) (releases_of (outcomes w (turns_of w starts)))
   -- The reply that the last world keeps for a client is the reply to its last order.
   pub kept : (c : ℕ) → KeepsLast w (turns_of w starts) c
 
--- For any starts of a store, from its creation on.
+-- All starts of a store, from its creation on, form one history, whatever the starts are.
 abbrev pub StartsAreOne : Type 0
 StartsAreOne = (version : ℕ) (starts : List Start) → 1 ≤ version → version ≤ MAX_VERSIONS → AreStarts (no_world version) starts → IsHistoryOfStarts (no_world version) starts

@@ -28,7 +28,8 @@ outcomes w [] = []
 outcomes w (Takes s ∷ turns) = record { reply = reply w s; outputs = outputs w s } ∷ outcomes (next w s) turns
 outcomes w (Raises ∷ turns) = outcomes (raised w) turns
 
--- The reply is that of the step with its number among these; `count` steps came before them.
+-- The reply is the reply in the outcome of the step with its number. These are the outcomes of the steps after
+-- the first `count` steps.
 pub record IsReplyTo (count : ℕ) (given : List StepOutcome) (r : Reply) : Type 0 where
   pub before : List StepOutcome
   pub outcome : StepOutcome

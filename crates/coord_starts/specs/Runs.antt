@@ -22,7 +22,7 @@ abbrev pub reported_as : RunFaultKind → StoreFault
 reported_as kind.OutOfMemory = OutOfMemory
 reported_as (kind.Store fault) = fault
 
--- a start without events, of which no step is kept
+-- a start without events; it keeps no step
 abbrev pub idle_start : Start
 idle_start = Serves [] [] 0
 
@@ -35,15 +35,16 @@ IsOf w Migrate Raised start = (start ≡ Raises) ⊎ ((start ≡ idle_start) × 
 IsOf w Migrate (Refused fault) start = RefusesMigration w fault × ((start ≡ idle_start) ⊎ ((start ≡ Raises) × (fault ≡ Device)))
 IsOf w task outcome start = ⊥
 
--- a start that serves these events with these answers and releases, after which the power is cut; the disk then has
--- these bytes
+-- a start served these events with these answers and releases, and then the power was cut, which left these
+-- bytes on the disk
 pub record ServesOnce (w : World) (events : List Event) (given : List Answer) (released : List Release) (bytes : List ℕ) : Type 0 where
   pub kept : ℕ
   pub may : MayServe w events given kept
   pub all : released ≡ (at_end w events given).released
   pub left : Recovered bytes (led w (turns_in w (Serves events given kept)))
 
--- a start from world w, after which the power is cut; the disk then has these bytes
+-- a start from world w carried out this task with this outcome, and then the power was cut, which left these
+-- bytes on the disk
 pub record StartsOnce (w : World) (task : Task) (outcome : Outcome) (bytes : List ℕ) : Type 0 where
   pub start : Start
   pub is_of : IsOf w task outcome start

@@ -1,10 +1,10 @@
 -- The starts of a store: what happens between one opening of the store and the next.
 --
--- In a start, the store is opened, and then either a ledger over it receives events, or the store is migrated to
--- version
--- 2. The start ends when its process ends or the power is cut. The next start opens what the disk has then: the world
--- after as many steps as a crash may keep. A start that is cut off during a commit is modelled as one whose commit was
--- answered by a failure of the device: both keep all steps of that commit, or none of them.
+-- In a start, the store is opened, and then either a ledger over it receives events, or the store is migrated
+-- to version 2. The start ends when its process ends or the power is cut. The next start opens what the disk
+-- has then: the world after as many steps as a crash may keep. A start that is cut off during a commit is
+-- modelled as a start in which the device failed during that commit: both keep all steps of that commit, or
+-- none of them.
 use Rattle.std.specs.Prelude.{◌≡◌, ℕ, List, [], ◌∷◌, ◌++◌, map, take}
 use Rattle.std.specs.List.{AllByRecursion}
 use Rattle.coord_types.specs.declared.steps.Reply.{Reply}

@@ -5,7 +5,7 @@ ghost use Rattle.coord_starts.specs.OneHistory.{StartsAreOne};
 ghost use Rattle.coord_starts.specs.Worked.{WorkedLife};
 
 /// Whatever the starts of a store are, from its creation on: the kept steps form one history, and
-/// every reply or output that was returned or released in any start belongs to it.
+/// every reply or output that was returned or released in any start belongs to that history.
 pub fn starts_are_one()
     ensures { StartsAreOne }
 {}

@@ -78,11 +78,11 @@ fn start<D: CrashDisk>(alloc: Global, disk: D, task: &Task) -> Result<(Outcome, 
 }
 
 /// Makes a store on an empty disk, and runs one start for each task. After each start the power is
-/// cut: the next start opens what the crash has left.
+/// cut, and the next start opens what the crash has left.
 ///
 /// The main theorem: all starts together are one history (`IsHistoryOfStarts`), and the disk holds
-/// the world after it. A fault ends the starts: the store was not made, memory ran out, or the
-/// device failed.
+/// the world after this history. A fault ends the starts: the store was not made, memory ran out,
+/// or the device failed.
 pub fn run_starts<D: CrashDisk>(
     alloc: Global,
     disk: D,

@@ -7,7 +7,7 @@ use Rattle.coord_view.specs.Shown.{Shown}
 use Rattle.coord_view.specs.declared.view.LinkView.{LinkView}
 use Rattle.coord_view.specs.declared.view.NodeView.{NodeView}
 
--- the line of a node; a parent 0 means that it has none
+-- the line of a node; a parent 0 means that the node has no parent
 abbrev pub node_line : NodeView → List ℕ
 node_line v =
     codes "node " ++ (decimal v.node ++ (codes " " ++ (decimal v.group ++ (codes " " ++ (mode_name v.mode ++ (codes " "

@@ -7,7 +7,7 @@ use crate::view::{LinkView, NodeView, View};
 use coord_world::{LinkRow, NodeRow, World};
 use std::alloc::{AllocError, Global};
 
-/// Returns the rows of the nodes.
+/// Returns the view's rows of these nodes.
 fn node_views(alloc: Global, rows: &[NodeRow]) -> Result<Vec<NodeView>, AllocError>
     ensures { IfOk result (λ views. views.items ≡ map node_view rows.now) }
 {
@@ -25,7 +25,7 @@ fn node_views(alloc: Global, rows: &[NodeRow]) -> Result<Vec<NodeView>, AllocErr
     Ok(views)
 }
 
-/// Returns the rows of the links.
+/// Returns the view's rows of these links.
 fn link_views(alloc: Global, rows: &[LinkRow]) -> Result<Vec<LinkView>, AllocError>
     ensures { IfOk result (λ views. views.items ≡ map link_view rows.now) }
 {

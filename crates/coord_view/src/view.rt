@@ -3,7 +3,7 @@
 use coord_types::{Group, Mode, NodeId};
 use std::marker::Model;
 
-/// A node's row in a view. A parent 0 means that the node has none.
+/// A node's row in a view. A parent 0 means that the node has no parent.
 #[derive(Clone, Copy, Debug, PartialEq, Eq)]
 pub struct NodeView {
     pub node: NodeId,

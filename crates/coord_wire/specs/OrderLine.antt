@@ -8,7 +8,7 @@ use Rattle.coord_orders.specs.declared.book.Line.{Line}
 unfoldable pub number_member : List ℕ → ℕ → List ℕ
 number_member name n = codes ",\"" ++ (name ++ (codes "\":" ++ decimal n))
 
--- the members that the line of every order begins with
+-- the members with which the line of every order begins
 unfoldable pub head : List ℕ → ℕ → ℕ → List ℕ
 head op c n = codes "{\"op\":\"" ++ (op ++ (codes "\",\"client\":" ++ (decimal c ++ (codes ",\"number\":" ++ decimal n))))
 

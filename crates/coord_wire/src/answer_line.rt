@@ -11,17 +11,18 @@ use coord_types::{Refusal, Reply};
 use serde_json::Value;
 use std::alloc::Global;
 
-/// The reason for which a line was not read.
+/// The reason why a line was not read.
 #[derive(Clone, Copy, Debug, PartialEq, Eq)]
 pub enum ReadFault {
     /// Memory ran out.
     OutOfMemory,
-    /// The line is not a reply to an order or a refusal of one: it is a fault, or not a line of the
-    /// server.
+    /// The line is not an answer of the kind that is read: it is a fault, another answer, or not a line
+    /// of the server.
     NoAnswer,
 }
 
-/// Returns the answer in a line. Other members of the JSON object are ignored.
+/// Returns the answer in a line. Other members of the JSON object are ignored. Errors: out of
+/// memory, or `NoAnswer`.
 #[tactic(auto, unfolding(crate::specs::AnswerLine::answer_in))]
 pub fn read_answer(alloc: Global, text: &str) -> Result<Answer, ReadFault>
     ensures { result ≢ Err OutOfMemory → result ≡ answer_in text.now }

@@ -22,7 +22,7 @@ pub fn print_order(text: &mut String, client: Client, line: &Line) -> Result<(),
     }
 }
 
-/// Appends the members that the line of every order begins with.
+/// Appends the members with which the line of every order begins.
 #[tactic(auto, unfolding(crate::specs::OrderLine::head))]
 fn print_head(text: &mut String, op: &str, client: Client, number: u64) -> Result<(), AllocError>
     ensures { OnOk result (string_bytes text.new ≡ string_bytes text.old ++ head op.now client number) }

@@ -38,8 +38,8 @@ fn id_at<const MOST: u8>(row: &Value, place: usize) -> Option<Identifier<MOST>>
     Identifier::new(u8::try_from(number).ok()?)
 }
 
-/// Returns the number of a parent at a place of a row; 0 means that there is no parent. None if it
-/// is not a number from 0 to 64.
+/// Returns the number of the parent at a place of a row; 0 means that there is no parent. Returns
+/// None if the value there is not a number from 0 to 64.
 fn parent_at(row: &Value, place: usize) -> Option<u8>
     ensures { result ≡ option_and_then (up_to MAX_NODES) (number_at place (view row.now)) }
 {
@@ -57,7 +57,7 @@ fn mode_at(row: &Value, place: usize) -> Option<Mode>
     mode_named(row.get(place).and_then(Value::as_str)?)
 }
 
-/// A node's row, with its parent as a number; 0 means that it has none.
+/// A node's row, with its parent as a number; 0 means that the node has no parent.
 #[derive(Clone, Copy, Debug, PartialEq, Eq)]
 pub struct NodeRow {
     node: NodeId,
@@ -132,7 +132,7 @@ fn links_of(alloc: Global, rows: &[Value]) -> Result<Option<Vec<LinkView>>, Allo
     Ok(Some(links))
 }
 
-/// Returns the rows at a name, or None if there is no array.
+/// Returns the rows in the array at a name, or None if there is no array at that name.
 fn rows_at<'a>(value: &'a Value, name: &str) -> Option<&'a [Value]>
     ensures { option_map (λ rows. items_view rows.now) result ≡ rows_at name.now (view value.now) }
 {
@@ -192,7 +192,7 @@ fn shown_of(alloc: Global, value: &Value) -> Result<Option<View>, AllocError>
     }
 }
 
-/// Returns the view in a line that answers `show`.
+/// Returns the view in a line that answers `show`. Errors: out of memory, or `NoAnswer`.
 #[tactic(auto, unfolding(crate::specs::ShowLine::shown_in))]
 pub fn read_show(alloc: Global, text: &str) -> Result<View, ReadFault>
     ensures { result ≢ Err OutOfMemory → result ≡ shown_in text.now }

@@ -1,4 +1,4 @@
-//! A test of all starts of a store, over a device in memory. What fails here fails its test.
+//! A test of all starts of a store, over a device in memory. A failed check here fails the test.
 #![tactic(auto)]
 
 #[cfg(test)]

@@ -7,18 +7,18 @@ use coord_types::{Client, Command, Group, NodeId, Step};
 use std::fmt::Debug;
 use std::process::Abort;
 
-// Compares the result with the expected one.
+// Compares a result with the expected result.
 fn same<T: PartialEq + Debug>(rt: &impl Abort, found: &T, wanted: &T) {
     assert_eq!(rt; found, wanted);
 }
 
-// Client 1's order of this number adds a node.
+// Returns the event in which client 1 submits its order with this number, which adds a node.
 fn add(number: u64, node: NodeId) -> Event {
     let command = Command::Add(node, Group::new(1).unwrap());
     Event::Submit(Step::Order(Client::new(1).unwrap(), number, command))
 }
 
-// A start that is asked these events.
+// Returns the task of a start that serves these events.
 fn asking(rt: &(impl Abort + AllocGlobal), events: &[Event]) -> Task {
     Task::Serve(events.to_vec(rt.alloc()).expect(rt, "no events"))
 }
@@ -40,7 +40,7 @@ fn losing(rt: &(impl Abort + AllocGlobal)) -> Task {
     )
 }
 
-// Order 1 comes again. Order 2 now adds node 3, and is committed: nobody hears of it.
+// Order 1 arrives again. Order 2 now adds node 3 and is committed, but its reply is not collected.
 fn unheard(rt: &(impl Abort + AllocGlobal)) -> Task {
     let first = add(1, NodeId::new(1).unwrap());
     let second = add(2, NodeId::new(3).unwrap());
@@ -56,7 +56,7 @@ fn unheard(rt: &(impl Abort + AllocGlobal)) -> Task {
     )
 }
 
-// That order comes again. Order 3 then resets node 1, which signals at once.
+// Order 2 arrives again. Order 3 then resets node 1, which signals at once.
 fn repeating(rt: &(impl Abort + AllocGlobal)) -> Task {
     let again = add(2, NodeId::new(3).unwrap());
     let command = Command::Reset(NodeId::new(1).unwrap());
@@ -74,12 +74,12 @@ fn repeating(rt: &(impl Abort + AllocGlobal)) -> Task {
     )
 }
 
-// Client 1's order of this number.
+// Returns the event in which client 1 submits its order with this number.
 fn order(number: u64, command: Command) -> Event {
     Event::Submit(Step::Order(Client::new(1).unwrap(), number, command))
 }
 
-// Two nodes are joined, and the first of them is reset: its packet is on its way.
+// Two nodes are joined, and the first node is reset. Its packet is in transit.
 fn in_a_reset(rt: &(impl Abort + AllocGlobal)) -> Task {
     let (first, second) = (NodeId::new(1).unwrap(), NodeId::new(2).unwrap());
     asking(
@@ -96,13 +96,13 @@ fn in_a_reset(rt: &(impl Abort + AllocGlobal)) -> Task {
     )
 }
 
-// The answers in a start, and the number of releases.
+// Returns the text of the answers in a start and of the number of releases.
 fn told_of(rt: &(impl Abort + AllocGlobal), trace: &Trace) -> String {
     let (answers, released) = (&trace.answers, trace.released.len());
     format!(in rt.alloc(); "{answers:?} {released}").expect(rt, "not printed")
 }
 
-// The result of a start.
+// Returns the text of the result of a start.
 fn told(rt: &(impl Abort + AllocGlobal), outcome: &Outcome) -> String {
     match outcome {
         Outcome::Served(trace) => told_of(rt, trace),
@@ -111,7 +111,7 @@ fn told(rt: &(impl Abort + AllocGlobal), outcome: &Outcome) -> String {
     }
 }
 
-// Each start was answered so.
+// Checks that each start has the expected result.
 fn tells(rt: &(impl Abort + AllocGlobal), outcomes: &[Outcome], wanted: &[&str]) {
     same(rt, &outcomes.len(), &wanted.len());
     for (at, (outcome, wanted)) in outcomes.iter().zip(wanted).enumerate() {
@@ -120,7 +120,7 @@ fn tells(rt: &(impl Abort + AllocGlobal), outcomes: &[Outcome], wanted: &[&str])
     }
 }
 
-// The results of all starts of a store of version 1.
+// Runs these starts of a store of version 1, and returns their results.
 fn ran(rt: &(impl Abort + AllocGlobal), tasks: &[Task]) -> Vec<Outcome> {
     match run_starts(rt.alloc(), MemDisk::new(rt.alloc()), 32_768, 1, tasks) {
         Ok((outcomes, disk)) => {
@@ -134,8 +134,8 @@ fn ran(rt: &(impl Abort + AllocGlobal), tasks: &[Task]) -> Vec<Outcome> {
     }
 }
 
-// The number of the order that was lost goes to another order, after the store was raised. The reply to that order,
-// of whose commit nobody heard, is still kept in the last start.
+// After the store was migrated, the number of the lost order goes to another order. The last start still has the reply
+// to that order, although the reply was not collected before.
 #[test]
 fn the_starts_of_a_store_are_one_history(rt: HostRuntime) {
     let tasks = [losing(&rt), Task::Migrate, unheard(&rt), repeating(&rt)];
@@ -152,7 +152,7 @@ fn the_starts_of_a_store_are_one_history(rt: HostRuntime) {
     );
 }
 
-// A store in a reset is not raised.
+// A store in a reset is not migrated.
 #[test]
 fn a_store_in_a_reset_stays_as_it_is(rt: HostRuntime) {
     let outcomes = ran(&rt, &[in_a_reset(&rt), Task::Migrate]);

@@ -36,7 +36,8 @@ pub record IsOver {D R : Type 0} (inner : D) (rule : R) (disk : FailingDisk D R)
   pub calls : calls_of disk ≡ 0
   pub failed : failed_of disk ≡ 0
 
--- A disk that fails by a rule has the model of the disk inside.
+-- the model of a disk that fails by a rule: it is the model of the disk inside, but also counts the failures by
+-- the rule
 abbrev pub failing : {D R : Type 0} → DiskModel D → DiskModel (FailingDisk D R)
 failing m = seen_through m inner_of (failures_of m)
 
@@ -45,15 +46,15 @@ pub record IsUnreached {D R : Type 0} (old new : FailingDisk D R) : Type 0 where
   pub same : inner_of new ≡ inner_of old
   pub counted : failed_of new ≡ failed_of old + 1
 
--- The effect of a write that the rule fails. If the rule tears it, its first bytes are written, unless the disk inside
--- fails too; otherwise the disk inside is unchanged.
+-- The effect of a write that the rule fails. If the rule tears the write, its first bytes are written, unless
+-- the disk inside fails too; otherwise the disk inside is unchanged.
 abbrev pub IsTorn : {D R : Type 0} → DiskModel D → Option ℕ → ℕ → List ℕ → FailingDisk D R → FailingDisk D R → Type 0
 IsTorn m None at bytes old new = IsUnreached old new
 IsTorn m (Some kept) at bytes old new =
     m.keeps_model (inner_of old) ≡ true → m.failures (inner_of new) ≡ m.failures (inner_of old) → m.present (inner_of new) ≡ written_at at (take kept bytes) (m.present (inner_of old))
 
--- Each call is counted, and the rule decides whether it fails. If it does, the effect is `leaves`. Otherwise the call
--- is passed on, and fails only if the disk inside fails.
+-- Each call is counted, and the rule decides whether the call fails. If the rule fails it, the effect is
+-- `leaves`. Otherwise the call is passed on, and fails only if the disk inside fails.
 pub record IsCounted {D R T : Type 0} (m : DiskModel D) (says : R → Call → Bool → R → Type 0) (call : Call) (old new : FailingDisk D R) (result : Result T DiskFault) (leaves : Type 0) : Type 0 where
   pub counted : calls_of new ≡ one_more (calls_of old)
   pub fails : Bool

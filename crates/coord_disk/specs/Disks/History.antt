@@ -38,7 +38,7 @@ recorded past failures = record {
   failures = failures;
 }
 
--- the past of a disk that reads as these bytes; without a history there were no writes and syncs
+-- the past of a disk whose reads give these bytes; without a history there were no writes and syncs
 abbrev pub past_with : List ℕ → Option History → Past
 past_with read None = record { first = read; entries = [] }
 past_with read (Some history) = record { first = history.first.items; entries = history.entries.items }

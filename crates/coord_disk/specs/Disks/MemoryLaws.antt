@@ -21,7 +21,8 @@ reads_image read None led = record { no_shorter = omega arith; no_longer = omega
 reads_image read (Some history) led =
     let here = led history refl in subst (λ (l : List ℕ). IsImage (present_after (past_with read (Some history))) l) (sym here.reads) here.image
 
--- a model computed from a recorded past is a model if the bytes that a read gives are always an image
+-- a model computed from a recorded past satisfies `IsModel` if the bytes that a read gives are always
+-- an image
 pub recorded_is_model : {D : Type 0} (past : D → Past) (failures : D → ℕ) → ((d : D) → IsImage (present_after (past d)) (present_after (past d)).read) → IsModel (recorded past failures)
 recorded_is_model past failures reads = record {
   counts_now = λ d t image _ le now. counts_now (past d) t image le now;

@@ -27,7 +27,7 @@ is_due None = false
 is_due (Some zero) = true
 is_due (Some (suc n)) = false
 
--- the number of calls to pass before the failing one, after one more call; None once that one has failed
+-- the number of calls to pass before the failing call, after one more call; None once the failing call was made
 abbrev pub one_less : Option ℕ → Option ℕ
 one_less None = None
 one_less (Some zero) = None
@@ -45,6 +45,6 @@ tear_at fails kept = record { blip = blip_at fails; kept = kept }
 abbrev pub TearSays : Tear → Call → Bool → Tear → Type 0
 TearSays old call fails new = BlipSays old.blip call fails new.blip × (new.kept ≡ old.kept)
 
--- the number of bytes that are still written of a failing write
+-- the number of bytes that a failing write still writes
 abbrev pub torn_by : Tear → Option ℕ
 torn_by tear = Some tear.kept

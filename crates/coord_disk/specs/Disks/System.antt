@@ -6,7 +6,7 @@ use Rattle.coord_disk.specs.Model.Present.{IsImage, whole}
 pub claims_nothing : {A : Type 0} → false ≡ true → A
 claims_nothing claim = absurd (cc claim)
 
--- the model of a file that claims none: no file keeps it
+-- the model of a file that claims no model: no file keeps it
 abbrev pub no_model : {F : Type 0} → DiskModel F
 no_model = record { keeps_model = λ _. false; present = λ _. whole []; clock = λ _. 0; left_since = λ _ _ image. IsImage (whole []) image; failures = λ _. 0 }
 

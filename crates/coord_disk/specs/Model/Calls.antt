@@ -16,17 +16,18 @@ pub record Acts (keeps keeps_on : Bool) (Time Change : Type 0) : Type 0 where
 abbrev pub Calls : {D : Type 0} → DiskModel D → D → D → (Present → Present → Type 0) → Type 0
 Calls m old new Changes = Acts (m.keeps_model old) (m.keeps_model new) (Passes m old new) (Changes (m.present old) (m.present new))
 
--- returns the number of bytes and changes nothing
+-- the call returns the number of bytes and changes nothing
 pub record Measured {E : Type 0} (result : Result ℕ E) (old new : Present) : Type 0 where
   pub value : IfOk result (λ n. n ≡ length old.read)
   pub same : new ≡ old
 
--- fills a buffer with the bytes from place `at` on, and changes nothing
+-- the call fills a buffer with the bytes from place `at` on, and changes nothing
 pub record HasRead {T E : Type 0} (at : ℕ) (buffer filled : List ℕ) (result : Result T E) (old new : Present) : Type 0 where
   pub value : OnOk result (filled ≡ take (length buffer) (drop at old.read))
   pub same : new ≡ old
 
--- Writes bytes at place `at`. Until the next sync, a crash may leave any bytes there, even if the write failed.
+-- The call writes bytes at place `at`. Until the next sync, a crash may leave any bytes there, even if the
+-- write failed.
 pub record Written {T E : Type 0} (at : ℕ) (bytes : List ℕ) (result : Result T E) (old new : Present) : Type 0 where
   pub written : OnOk result (new ≡ written_at at bytes old)
   pub crash : WritesWithin at bytes old new

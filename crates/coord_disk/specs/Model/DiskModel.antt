@@ -19,9 +19,10 @@ pub record DiskModel (D : Type 0) : Type 1 where
 
 -- `left_since` agrees with the images of the present content.
 pub record IsModel {D : Type 0} (m : DiskModel D) : Type 0 where
-  -- an image that a crash may leave now is one that it might have left since any earlier moment
+  -- each image that a crash may leave now counts as an image that a crash might have left since any earlier
+  -- moment
   pub counts_now : (disk : D) (t : ℕ) (image : List ℕ) → m.keeps_model disk ≡ true → t ≤ m.clock disk → IsImage (m.present disk) image → m.left_since disk t image
-  -- an image that a crash might have left since the present moment is one that it may leave now
+  -- each image that a crash might have left since the present moment is an image that a crash may leave now
   pub only_now : (disk : D) (image : List ℕ) → m.keeps_model disk ≡ true → m.left_since disk (m.clock disk) image → IsImage (m.present disk) image
   -- the bytes that a read gives are one of the disk's images
   pub reads_image : (disk : D) → m.keeps_model disk ≡ true → IsImage (m.present disk) (m.present disk).read

@@ -3,8 +3,8 @@ use Rattle.std.specs.Prelude.{◌≡◌, ◌⊎◌, ℕ, ◌+◌, ◌≤◌, Lis
 use Rattle.coord_disk.specs.Model.DiskModel.{DiskModel}
 use Rattle.coord_disk.specs.Model.Present.{IsImage}
 
--- Time advances. The bytes that a crash might have left since moment t are those that it might have left before, and
--- possibly those that it may leave now.
+-- Time advances. A crash since moment t might have left the bytes that a crash might have left before, and
+-- possibly the bytes that a crash may leave now.
 pub record Elapses (before now : ℕ) (past since : ℕ → List ℕ → Type 0) (may_leave : List ℕ → Type 0) : Type 0 where
   pub later : before ≤ now
   -- a call takes at most one moment
@@ -20,7 +20,8 @@ Passes m old new = Elapses (m.clock old) (m.clock new) (m.left_since old) (m.lef
 pub record LeavesOnly {D : Type 0} (m : DiskModel D) (old new : D) (P : List ℕ → Type 0) : Type 0 where
   pub later : m.clock old ≤ m.clock new
   pub each : (image : List ℕ) → m.left_since new (m.clock old) image → P image
-  -- since an earlier moment t, a crash can have left only what it could have left before `old`, or bytes with P
+  -- since an earlier moment t, a crash can have left only bytes that it could have left up to `old`, or bytes
+  -- with property P
   pub before : (t : ℕ) (image : List ℕ) → t ≤ m.clock old → m.left_since new t image → m.left_since old t image ⊎ P image
 
 -- A crash at any moment from `old` until `new` leaves only bytes that it could have left at `old`.

@@ -48,7 +48,7 @@ pub record WritesWithin (at : ℕ) (bytes : List ℕ) (old new : Present) : Type
   pub no_longer : length new.read ≤ length (overwritten old.read at bytes)
   pub elsewhere : (i : ℕ) → i < length old.read → (i < at) ⊎ (at + length bytes ≤ i) → slice_get new.read i ≡ slice_get old.read i
 
--- every image that a crash of `new` may leave is one that a crash of `old` may leave
+-- every image that a crash of `new` may leave is an image that a crash of `old` may leave
 abbrev pub FitsNoMore : Present → Present → Type 0
 FitsNoMore old new = (image : List ℕ) → IsImage new image → IsImage old image
 

@@ -21,7 +21,8 @@ use coord_disk::{CrashDisk, Disk};
 use std::io::Write;
 
 impl<D: CrashDisk> Console<D> {
-    /// Handles a piece of the input.
+    /// Handles a piece of the input: carries out the lines that the piece completes, and writes their
+    /// answers.
     pub(super) fn take<W: Write>(self, piece: &[u8], writer: &mut W) -> Result<Self, (Fault, D)>
         requires ready { IsReadyDrill self.drill }
         requires number { self.number + length piece.now < 2 ^ 64 - 1 }
@@ -67,7 +68,7 @@ impl<D: CrashDisk> Console<D> {
         }
     }
 
-    /// Carries out the complete line, stores its answer as the text, and begins the next line.
+    /// Carries out the complete line, stores its answer in the field `text`, and begins the next line.
     fn answer_line(self) -> Result<Self, (Fault, D)>
         requires ready { IsReadyDrill self.drill }
         requires number { self.number < 2 ^ 64 - 1 }

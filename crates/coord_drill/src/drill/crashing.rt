@@ -54,7 +54,7 @@ impl<D: CrashDisk> Drill<D> {
     }
 }
 
-/// Returns the fault of a crash after which the disk could not be opened.
+/// Returns the drill's fault for a disk that could not be opened after a crash.
 fn fault_of(kind: RunFaultKind) -> Fault
     ensures reported { result ≡ reopen_fault kind }
     ensures fault { IsOfDisk result }

@@ -198,7 +198,7 @@ fn take_back<D: CrashDisk>(mut driver: Driver<D>) -> Result<(Releases, Driver<D>
     }
 }
 
-/// Drops a driver because memory ran out, and returns its disk with that fault.
+/// Drops a driver because memory ran out. Returns its disk and the fault `OutOfMemory`.
 fn lost<D: CrashDisk>(driver: Driver<D>) -> (Fault, D)
     ensures fault { result.0 ≡ OutOfMemory }
     ensures disk { disk_held driver ≡ Some result.1 }
@@ -283,7 +283,7 @@ fn collected<D: CrashDisk>(ledger: &Ledger<D>, ticket: Ticket) -> Reply
     }
 }
 
-/// Prints the next releases, as long as they belong to one step.
+/// Prints the next releases, as long as they belong to this step.
 pub(super) fn print_released(
     text: &mut String,
     version: Version,

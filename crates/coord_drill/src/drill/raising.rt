@@ -48,8 +48,8 @@ impl<D: CrashDisk> Drill<D> {
     }
 }
 
-/// Migrates a ledger's store to version 2, and makes a driver over it. No flight may be out. Pending
-/// steps are lost.
+/// Migrates a ledger's store to version 2, and makes a driver over the store. No flight may be out.
+/// Pending steps are lost.
 fn raise<D: CrashDisk>(alloc: Global, driver: Driver<D>) -> Result<Driver<D>, (Fault, D)>
     requires home { driver.flight ≡ None }
     ensures home { IfOk result (λ new. new.flight ≡ None) }

@@ -42,7 +42,7 @@ impl<D: CrashDisk> Drill<D> {
         }
     }
 
-    /// Stops settling accepted steps at once.
+    /// Holds accepted steps from now on, instead of settling each at once.
     pub(super) fn hold(self) -> Self
         requires ready { IsReadyDrill self }
         ensures ready { IsReadyDrill result }
@@ -76,7 +76,7 @@ fn print_answer<D: CrashDisk>(
     }
 }
 
-/// Prints the packets that a ledger sends again, with 0 as their step's number.
+/// Prints the packets that a ledger sends again. Their releases have 0 as the step's number.
 #[tactic(auto, using(crate::proofs::does::Settled::resent_lines, crate::proofs::does::Settled::looked_at))]
 fn print_resent<D: CrashDisk>(ledger: &Ledger<D>, text: &mut String) -> Result<(), AllocError>
     ensures { OnOk result (string_bytes text.new ≡ string_bytes text.old ++ output_lines

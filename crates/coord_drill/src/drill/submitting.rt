@@ -71,8 +71,8 @@ fn hand_in<D: CrashDisk>(driver: &mut Driver<D>, step: Step) -> Result<Handed, R
     handed
 }
 
-/// Prints the kept reply of a repeat once its step is settled, and before that the line for a pending
-/// step.
+/// Prints the answer to a repeat: the kept reply if its step is settled, otherwise the line for a
+/// pending step.
 fn print_kept<D: CrashDisk>(
     ledger: &Ledger<D>,
     ticket: Ticket,
