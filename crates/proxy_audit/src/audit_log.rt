@@ -56,15 +56,15 @@ impl Audit {
         })
     }
 
-    /// Adds the line of an event, for the next `write`. Without room or memory, counts the line as lost.
+    /// Adds the line of an event, for the next `write`. Counts the line as lost if there is no room or memory for it.
     pub fn add(&mut self, time: SystemTime, event: &Event<'_>)
         ensures { AddsEvent (system_time_nanos time) event.now self.old self.new }
     {
         self.pending.add(time, event);
     }
 
-    /// Adds the line of an event if its principal's quota has room; otherwise counts the line as left out. Without room
-    /// or memory for the line, counts it as lost.
+    /// Adds the line of an event if its principal's quota admits the line; otherwise counts the line as left out.
+    /// Counts the line as lost if there is no room or memory for it.
     pub fn add_within_quota(
         &mut self,
         role: u32,

@@ -36,7 +36,7 @@ impl<G: Gateway> EventLoop<G> {
             if self.deliver_all(&mut server)? && is_good {
                 self.server = Some(server);
             } else if server.is_used && self.in_flight == 0 {
-                // The server ended a connection that was not in use, since others wait.
+                // The server ended the connection while nothing was in flight, since others wait.
                 self.let_go()?;
             } else {
                 self.lose_server()?;
@@ -97,7 +97,7 @@ impl<G: Gateway> EventLoop<G> {
         Ok(true)
     }
 
-    /// Copies the line that the next answer is to, unless the line is a query. Returns the kind of the answer. Errors:
+    /// Copies the line that the next answer is for, unless the line is a query. Returns the kind of the answer. Errors:
     /// out of memory.
     fn keep_order(&mut self) -> Result<ExchangeKind, AllocError> {
         match self.core.next_order() {

@@ -46,9 +46,9 @@ pub enum ExchangeKind {
     Query,
     /// The answer to anything else that the policy allows.
     Order,
-    /// The refusal of a line that the policy does not allow.
+    /// A refusal: the policy does not allow the line.
     Denied,
-    /// The fault of a line that is not a request, or that could not be read for lack of memory.
+    /// A fault: the line is not a request, or memory ran out.
     Fault,
 }
 
@@ -97,7 +97,8 @@ pub trait Gateway: Policy + Drop {
     /// Returns whether connections in this role may send this line. Errors: out of memory.
     fn may_send(&self, alloc: Global, role: u32, line: &[u8]) -> Result<bool, AllocError>;
 
-    /// Decides by a view what happens to a reset of this node that names this epoch. Errors: out of memory.
+    /// Decides, by the line of a view, what happens to a reset of this node that names this epoch. Errors: out of
+    /// memory.
     fn judge_reset(
         &self,
         alloc: Global,

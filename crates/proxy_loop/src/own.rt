@@ -35,7 +35,7 @@ pub(crate) struct Own {
     pub number: u64,
     pub asked: VecDeque<OwnLine>,
     pub search: Option<NumberSearch>,
-    /// The last number of the proxy's client, as last found.
+    /// The last number of the proxy's client when it was last found.
     pub last: u64,
     pub wants_view: bool,
     /// Whether a view was requested that has not arrived.
@@ -64,8 +64,8 @@ impl Own {
         }
     }
 
-    /// Begins again as a new connection, after an answer that left open what became of a line. Drops the unanswered
-    /// requests; a view that was requested is requested again.
+    /// Begins again as a new connection, after an answer that left open what became of a line. Drops all unanswered
+    /// requests; a requested view will be requested again.
     pub fn begin_again(&mut self, came: &mut u64)
         ensures number { came.old < 2 ^ 43 → (came.new ≡ came.old + 1) × (self.new.number ≡ came.old * 2 ^ 20) }
         ensures last { 2 ^ 43 ≤ came.old → (came.new ≡ came.old) × (self.new.number ≡ self.old.number) }
@@ -85,7 +85,8 @@ impl Own {
 }
 
 impl<G: Gateway> EventLoop<G> {
-    /// Sends the proxy's own requests that are due: probes for the last number, and a request for a view.
+    /// Makes the proxy's own requests that are due: probes for the last number, and a request for a view. Errors: out
+    /// of memory.
     pub(crate) fn ask_for_itself(&mut self) -> Result<(), AllocError> {
         if self.wants_number() && self.at.now >= self.own.probe_at {
             self.send_probes()?;
@@ -100,8 +101,8 @@ impl<G: Gateway> EventLoop<G> {
         Ok(())
     }
 
-    /// Returns whether the last number should be searched for: it is unknown, something waits that may need it, and no
-    /// request of the proxy is unanswered.
+    /// Returns whether the proxy should search for the last number: the number is unknown, some line, reset or unclear
+    /// order waits, and no request of the proxy is unanswered.
     pub(crate) fn wants_number(&self) -> bool {
         !self.core.is_counted()
             && self.own.asked.is_empty()

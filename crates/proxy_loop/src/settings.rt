@@ -12,7 +12,7 @@ pub(crate) const MOST_UNSENT: usize = 65_536;
 /// How long the server's connection is kept while no line waits for an answer, in milliseconds.
 pub(crate) const IDLE: u64 = 100;
 
-/// How long a connection to the server is used before the proxy gives way to others that may wait, in milliseconds.
+/// How long the proxy uses one connection to the server while others may wait for the server, in milliseconds.
 pub(crate) const MOST_USE: u64 = 1000;
 
 /// The time from a view to the request for the next view while a reset is in progress, in milliseconds.

@@ -43,9 +43,9 @@ impl<G: Gateway> EventLoop<G> {
         Ok(())
     }
 
-    /// Settles all unclear orders by the last number, which was just found. An order with a greater number was not
-    /// carried out: a reset that names an epoch is judged again, and any other order is sent again. The rest are
-    /// answered.
+    /// Decides all unclear orders by the last number, which was just found. Orders with a number up to it were carried
+    /// out, and are answered. The others were not: a reset that names an epoch is judged again, and any other order is
+    /// sent again. Errors: out of memory.
     pub(crate) fn clear_up(&mut self, last: u64) -> Result<(), AllocError> {
         for _ in 0..self.unclear.len() {
             let Some(unclear) = self.unclear.pop_front() else {

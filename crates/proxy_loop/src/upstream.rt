@@ -24,7 +24,7 @@ pub(crate) struct Server {
     pub is_connected: bool,
     /// Whether there may be bytes to read.
     pub is_readable: bool,
-    /// Whether the server sends no more bytes. The bytes that arrived are still read, to the end.
+    /// Whether the server sends no more bytes. The loop still reads all bytes that arrived.
     pub is_closing: bool,
     /// When the connection was established; until then, when the attempt began.
     pub since: Duration,
@@ -131,7 +131,7 @@ impl<G: Gateway> EventLoop<G> {
         Ok(())
     }
 
-    /// Closes the connection to the server, on which nothing is in flight, so that others can reach the server.
+    /// Closes the connection to the server so that others can reach the server. Nothing may be in flight.
     pub(crate) fn let_go(&mut self) -> Result<(), AllocError> {
         self.server = None;
         self.note_lost()
@@ -158,7 +158,7 @@ impl<G: Gateway> EventLoop<G> {
         self.retry_at = self.at.now.saturating_add(pause);
     }
 
-    /// Handles an event of the server's connection, which is ready for what `ready` says.
+    /// Handles an event of the server's connection.
     pub(crate) fn server_ready(&mut self, ready: Ready) -> io::Result<()> {
         let Some(server) = self.server.as_mut() else {
             return Ok(());
