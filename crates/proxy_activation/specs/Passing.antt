@@ -11,23 +11,23 @@ number_of text = if all_ascii_digits text && (nat_lt 0 (length text) && nat_lt (
     then Some (digits_value 10 text)
     else None
 
--- the same, if it is below 65,536
+-- the value of one or more decimal digits, if it is below 65,536
 abbrev pub count_of : List ℕ → Option ℕ
 count_of text = option_and_then (λ n. if nat_lt n (2 ^ 16) then Some n else None) (number_of text)
 
--- the number of sockets, by the values of LISTEN_PID and LISTEN_FDS, which are numbers or not
+-- the number of sockets passed to a process, given LISTEN_PID and LISTEN_FDS; None is a text that is not a number
 abbrev pub opened_for : ℕ → Option ℕ → Option ℕ → Result ℕ ActivationFault
 opened_for process (Some pid) (Some count) = if nat_eq pid process then Ok count else Err OtherProcess
 opened_for process (Some pid) None = if nat_eq pid process then Err NotACount else Err OtherProcess
 opened_for process None _ = Err OtherProcess
 
--- the same, by the texts of both variables
+-- the number of sockets passed to a process, given the texts of both variables; None is a missing variable
 abbrev pub opened : ℕ → Option (List ℕ) → Option (List ℕ) → Result ℕ ActivationFault
 opened process (Some pid) (Some count) = opened_for process (number_of pid) (count_of count)
 opened process (Some pid) None = Err NotActivated
 opened process None _ = Err NotActivated
 
--- this many numbers, the first of which is `first`
+-- the numbers from `first` on, this many of them, in increasing order
 unfoldable pub counted_from : ℕ → ℕ → List ℕ
 counted_from first zero = []
 counted_from first (suc more) = counted_from first more ++ (first + more) ∷ []

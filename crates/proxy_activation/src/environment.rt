@@ -1,4 +1,4 @@
-//! The variables in which the service manager says how many sockets it passes, and to which process.
+//! The environment variables that give the number of passed sockets and the process that they are for.
 
 ghost use Rattle.std.specs.Prelude.{◌≡◌};
 ghost use Rattle.std.specs.Option.{option_copied};
@@ -6,7 +6,9 @@ ghost use Rattle.proxy_activation.specs.Passing.{count_of, number_of, opened};
 
 use crate::fault::ActivationFault;
 
-/// Returns the number of sockets that were opened for a process, by the values of `LISTEN_PID` and `LISTEN_FDS`.
+/// Returns the number of sockets that the service manager opened for a process, given the values of `LISTEN_PID` and
+/// `LISTEN_FDS`. Errors: a variable is missing, `LISTEN_PID` is not this process, or `LISTEN_FDS` is not a number below
+/// 65,536.
 pub fn opened_sockets(
     process: u32,
     listen_pid: Option<&str>,
@@ -37,7 +39,7 @@ fn process_in(text: &str) -> Option<u32>
     text.parse().ok()
 }
 
-/// Returns the same value, if it is below 65,536.
+/// Returns the value of one or more decimal digits, if it is below 65,536.
 fn count_in(text: &str) -> Option<u16>
     ensures { result ≡ count_of text.now }
 {

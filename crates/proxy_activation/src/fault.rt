@@ -16,7 +16,7 @@ pub enum ActivationFault {
     OtherProcess,
     /// `LISTEN_FDS` is not a number below 65,536.
     NotACount,
-    /// There are more sockets than names, or fewer.
+    /// The number of passed sockets is not the number of names.
     OtherCount { opened: u16, named: usize },
 }
 

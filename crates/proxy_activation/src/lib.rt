@@ -1,7 +1,7 @@
-//! Sockets that the service manager opened, and passes to a service as descriptors from 3 on.
+//! The sockets that the service manager opened and passes to a service, as descriptors from 3 on.
 //!
-//! The environment has their number and the process that they are for. [`opened_sockets`] judges both, and
-//! [`name_sockets`] gives each name the descriptor at its place. `specs/Passing.antt` has the definitions.
+//! The environment gives the number of sockets and the process that they are for. [`opened_sockets`] checks both.
+//! [`name_sockets`] pairs each name with the descriptor at the same position. `specs/Passing.antt` has the definitions.
 #![tactic(auto)]
 
 mod environment;

@@ -17,8 +17,8 @@ pub struct PassedSocket<'n> {
     pub descriptor: u32,
 }
 
-/// Gives each name the descriptor at its place: the first name has the first descriptor. Errors: out of memory, or
-/// another number of names than sockets were opened.
+/// Pairs each name with the descriptor at the same position, beginning with `FIRST_DESCRIPTOR`. Errors: out of memory,
+/// or the number of names is not the number of opened sockets.
 pub fn name_sockets<'n>(
     alloc: Global,
     names: &'n [String],

@@ -17,7 +17,7 @@ use Rattle.proxy_audit.specs.declared.quota.TheConstants.{MOST_LINES}
 abbrev pub FitsSeconds : ℕ → Type 0
 FitsSeconds nanos = nanos < 2 ^ 64 * 1_000_000_000
 
--- the numbers of an event are those of its types
+-- the numbers in an event are in the range of their types
 abbrev pub IsInRange : Event → Type 0
 IsInRange Starts = Unit {0}
 IsInRange (Begins who) = Unit {0}
@@ -27,20 +27,21 @@ IsInRange (Denied who line answer waited) = FitsSeconds (as_nanos waited)
 IsInRange (Unanswered who line waited) = FitsSeconds (as_nanos waited)
 IsInRange (More who count) = count < 2 ^ 64
 
--- the text of an event is read as its object
+-- parsing the text of an event as JSON gives the event's object
 abbrev pub EventIsRead : Type 0
 EventIsRead = (time : List ℕ) (e : Event) → IsInRange e → depth (entry time e) ≤ max_depth → document (text_of time e) ≡ Some (entry time e)
 
 abbrev pub is_in_line : ℕ → Bool
 is_in_line byte = not (byte == 10)
 
--- a text has no line feed, so it is one line with the line feed that ends it
+-- the text of an event contains no line feed: with the line feed after it, it is exactly one line
 abbrev pub EventIsOneLine : Type 0
 EventIsOneLine = (time : List ℕ) (e : Event) → IsInRange e → list_all is_in_line (text_of time e) ≡ true
 
 -- ---- quotas
 
--- what happens to the quota of a principal: a line is asked for, or the lines that were left out
+-- a call on a principal's quota, with its time: `asks` asks to write a line of a kind, `looks` takes the count of
+-- left-out lines
 pub data Call : Type 0 where
   asks : LineKind → ℕ → Call
   looks : ℕ → Call
@@ -49,7 +50,7 @@ abbrev pub time_of : Call → ℕ
 time_of (asks kind now) = now
 time_of (looks now) = now
 
--- no call is earlier than the one before it
+-- the calls are in the order of their times, and none is before `from`
 abbrev pub AreInOrder : ℕ → List Call → Type 0
 AreInOrder from [] = Unit {0}
 AreInOrder from (c ∷ cs) = (from ≤ time_of c) × AreInOrder (time_of c) cs
@@ -68,12 +69,12 @@ is_kind Refusal Connection = false
 is_kind Connection Refusal = false
 is_kind Connection Connection = true
 
--- the time of the line of a kind that a call writes
+-- the call's time if the call writes a line of this kind, else nothing
 abbrev pub line_at : LineKind → Call → Quota → List ℕ
 line_at kind (asks other now) q = if is_kind kind other && has_room now (times_of other q) then now ∷ [] else []
 line_at kind (looks now) q = []
 
--- the times of the lines of a kind, over calls in turn
+-- the times of all lines of a kind that a list of calls writes
 abbrev pub lines_at : LineKind → List Call → Quota → List ℕ
 lines_at kind [] q = []
 lines_at kind (c ∷ cs) q = line_at kind c q ++ lines_at kind cs (after_call c q)
@@ -82,7 +83,7 @@ abbrev pub is_asked : Call → Bool
 is_asked (asks kind now) = true
 is_asked (looks now) = false
 
--- one if a call leaves a line out
+-- 1 if the call leaves a line out, else 0
 abbrev pub left_out_by : Call → Quota → ℕ
 left_out_by (asks kind now) q = if has_room now (times_of kind q) then 0 else 1
 left_out_by (looks now) q = 0
@@ -99,7 +100,7 @@ abbrev pub counted_by : Call → Quota → ℕ
 counted_by (asks kind now) q = 0
 counted_by (looks now) q = or_zero (more now q)
 
--- the sum of the counts that are written
+-- the sum of the counts of left-out lines that the calls take
 abbrev pub counted_in : List Call → Quota → ℕ
 counted_in [] q = 0
 counted_in (c ∷ cs) q = counted_by c q + counted_in cs (after_call c q)
@@ -108,9 +109,9 @@ abbrev pub is_in_second : ℕ → ℕ → Bool
 is_in_second begin time = nat_le begin time && nat_lt time (begin + second)
 
 pub record QuotaHolds : Type 0 where
-  -- in no second are there more lines of a kind than the most
+  -- no second has more than MOST_LINES lines of a kind
   pub rate : (calls : List Call) → AreInOrder 0 calls → (kind : LineKind) (begin : ℕ) → length (filter (is_in_second begin) (lines_at kind calls new_quota)) ≤ MOST_LINES
-  -- each line that was asked for is written or left out
+  -- each line that a call asks to write is either written or left out
   pub all : (calls : List Call) → length (lines_at Refusal calls new_quota) + length (lines_at Connection calls new_quota) + left_out_in calls new_quota ≡ length (filter is_asked calls)
-  -- each line that was left out is in one count that was written, or in the one that is kept
+  -- each left-out line is counted once: in a count that was taken, or in the count that the quota still has
   pub once : (calls : List Call) → length calls < 2 ^ 64 → counted_in calls new_quota + (after_calls calls new_quota).left_out ≡ left_out_in calls new_quota

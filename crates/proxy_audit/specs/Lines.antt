@@ -14,7 +14,7 @@ use Rattle.proxy_audit.specs.declared.event.ClientLine.{ClientLine}
 use Rattle.proxy_audit.specs.declared.event.ClientLine.TheVariants.{Request, Other, TooLong}
 use Rattle.proxy_audit.specs.declared.event.TheConstants.{MOST_TEXT_CHARS}
 
--- the first characters of bytes, which need not be UTF-8
+-- the first MOST_TEXT_CHARS characters of bytes that need not be valid UTF-8
 abbrev pub excerpt : List ℕ → List ℕ
 excerpt bytes = take_chars MOST_TEXT_CHARS (utf8_lossy bytes)
 
@@ -22,7 +22,7 @@ abbrev pub or_excerpt : List ℕ → Option Json → Json
 or_excerpt bytes None = string (excerpt bytes)
 or_excerpt bytes (Some j) = j
 
--- the JSON value that bytes are, or else their first characters
+-- the JSON value of the bytes, or a string of their first characters if they are not JSON
 abbrev pub value_or_excerpt : List ℕ → Json
 value_or_excerpt bytes = or_excerpt bytes (if is_utf8 bytes then document bytes else None)
 
@@ -40,7 +40,7 @@ who_member who ms = member (codes "who") (string who) ms
 abbrev pub line_member : ClientLine → Members → Members
 line_member line ms = member (codes "line") (line_value line) ms
 
--- nanoseconds, written as seconds
+-- the member `seconds`, for a duration in nanoseconds
 abbrev pub seconds_member : ℕ → Members
 seconds_member nanos = member (codes "seconds") (number (seconds_text nanos)) no_members
 
@@ -57,7 +57,7 @@ members_of (Denied who line answer waited) = event_member (codes "denied") (memb
 members_of (Unanswered who line waited) = event_member (codes "unanswered") (who_member who.now (line_member line (seconds_member (as_nanos waited))))
 members_of (More who count) = event_member (codes "more") (who_member who.now (member (codes "count") (number (decimal count)) no_members))
 
--- the object of an event at a time
+-- the JSON object of an event that happened at a time
 abbrev pub entry : List ℕ → Event → Json
 entry time e = object (member (codes "time") (string time) (members_of e))
 

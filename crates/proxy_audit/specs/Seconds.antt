@@ -1,7 +1,7 @@
--- Nanoseconds, written as seconds with six places.
+-- A duration in nanoseconds, written as seconds with six decimal places.
 use Rattle.std.specs.Prelude.{ℕ, ◌+◌, ◌/◌, ◌%◌, List, ◌∷◌, ◌++◌, drop, decimal}
 
--- the six digits of a number of microseconds below a second
+-- a number of microseconds below 1,000,000, written with six digits
 abbrev pub six_digits : ℕ → List ℕ
 six_digits micros = drop 1 (decimal (1_000_000 + micros))
 

@@ -10,11 +10,11 @@ use Rattle.proxy_audit.specs.declared.histogram.Bucket.{Bucket}
 use Rattle.proxy_audit.specs.declared.histogram.Histogram.{Histogram}
 use Rattle.proxy_audit.specs.declared.tally.TheConstants.{ANSWERS_HEAD, MOST_SERIES, TIMES_HEAD}
 
--- one more, up to the greatest number of 64 bits
+-- the count plus one, at most the greatest 64-bit number
 abbrev pub one_more : ℕ → ℕ
 one_more count = min (count + 1) (2 ^ 64 - 1)
 
--- a letter, a digit or a space
+-- whether the byte is an ASCII letter, a digit or a space
 abbrev pub is_plain : ℕ → Bool
 is_plain byte = nat_le 97 byte && nat_le byte 122 || nat_le 65 byte && nat_le byte 90 || nat_le 48 byte && nat_le byte 57 || byte == 32
 
@@ -25,7 +25,8 @@ module _ {Y : Type 0} where
   abbrev pub count_of : BTreeMap (String Y) ℕ → List ℕ → ℕ
   count_of counts labels = unwrap_or (get_by_text counts labels) 0
 
-  -- the series of these labels has one more, and each other one stays; or there would be one series too many
+  -- the series with these labels counts one more, and every other series stays; or this would be one series too many,
+  -- and all stay
   abbrev pub CountsOneMore : BTreeMap (String Y) ℕ → BTreeMap (String Y) ℕ → List ℕ → Type 0
   CountsOneMore old new labels =
       ((other : List ℕ) → get_by_text new other ≡ update bytes_eq (get_by_text old) labels (Some (one_more (count_of old labels))) other)

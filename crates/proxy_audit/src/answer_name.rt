@@ -7,10 +7,10 @@ ghost use Rattle.proxy_audit.specs.Tallies.{is_plain};
 use memchr::memchr;
 use std::str;
 
-/// The name of an answer that has no kind, name or fault.
+/// The name of an answer with no usable kind, name or fault.
 const OTHER: &str = "other";
 
-/// Returns the kind, the name or the fault of an answer, or that it is a view.
+/// Returns the kind, the name or the fault of an answer, `view` for a view, or else `other`.
 pub(crate) fn answer_name(answer: &[u8]) -> &str
     ensures { list_all is_plain result.now ≡ true }
 {
@@ -29,7 +29,7 @@ pub(crate) fn answer_name(answer: &[u8]) -> &str
     }
 }
 
-/// Returns the bytes before the first quotation mark, if they can be a label's value.
+/// Returns the text before the first quotation mark if it can be a label's value, else `other`.
 fn quoted(bytes: &[u8]) -> &str
     ensures { list_all is_plain result.now ≡ true }
 {
@@ -52,7 +52,7 @@ fn are_plain(bytes: &[u8]) -> bool
     bytes.iter().all(|byte| is_plain(*byte))
 }
 
-/// Returns whether a byte is a letter, a digit or a space.
+/// Returns whether a byte is an ASCII letter, a digit or a space.
 fn is_plain(byte: u8) -> bool
     ensures { result ≡ is_plain byte }
 {

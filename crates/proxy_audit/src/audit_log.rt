@@ -1,4 +1,4 @@
-//! The audit: lines within quotas, and the file or the output that they go to.
+//! The audit: it limits lines by quotas, and writes them to a file or to standard output.
 
 ghost use Rattle.std.specs.Prelude.{◌≡◌, ◌≢◌, ◌+◌, ◌++◌, ℕ, List, All, IfOk, IfSome, None, Some, false};
 ghost use Rattle.std.specs.BTreeMap.{get, values};
@@ -20,7 +20,7 @@ use std::fs::{File, Files};
 use std::io;
 use std::time::{Duration, SystemTime};
 
-/// How many seconds pass between two reports that lines can't be written.
+/// The least number of seconds between two reports that lines can't be written.
 const REPORT_PAUSE: u64 = 60;
 
 /// The argument that names standard output.
@@ -31,14 +31,15 @@ pub const STANDARD_OUTPUT: &str = "-";
 pub struct Audit {
     pending: Pending,
     quotas: Quotas,
-    /// None: the lines go to standard output.
+    /// The file that lines are written to, or None for standard output.
     file: Option<AuditFile>,
-    /// When it was last reported that lines can't be written.
+    /// The time of the last report that lines can't be written.
     reported: Option<Duration>,
 }
 
 impl Audit {
-    /// Opens the audit in a file; without one, or at `-`, its lines go to standard output.
+    /// Opens the audit's file at this path. If the path is None or `-`, lines go to standard output. Errors: the file
+    /// can't be opened.
     pub fn open<R: Files<File = File>>(
         rt: &R,
         alloc: Global,
@@ -55,14 +56,15 @@ impl Audit {
         })
     }
 
-    /// Adds the line of an event, which `write` writes.
+    /// Adds the line of an event, for the next `write`. Counts the line as lost if there is no room or memory for it.
     pub fn add(&mut self, time: SystemTime, event: &Event<'_>)
         ensures { AddsEvent (system_time_nanos time) event.now self.old self.new }
     {
         self.pending.add(time, event);
     }
 
-    /// Adds the line of an event, if the quota of its principal has room for it. If not, the line is counted.
+    /// Adds the line of an event if its principal's quota admits the line; otherwise counts the line as left out.
+    /// Counts the line as lost if there is no room or memory for it.
     pub fn add_within_quota(
         &mut self,
         role: u32,
@@ -80,8 +82,8 @@ impl Audit {
         }
     }
 
-    /// Returns a principal that lines were left out of, the first of them a second ago, and how many. Its count begins
-    /// again.
+    /// Returns the role of a principal whose first left-out line was at least a second ago, and the number of its
+    /// left-out lines. Resets that number to zero.
     pub fn take_more(&mut self, now: Duration) -> Option<(u32, u64)>
         ensures none { result ≡ None → All (λ quota. is_due (as_nanos now) quota ≡ false) (values self.old.quotas.all) }
         ensures some { IfSome result (λ found. more (as_nanos now) (audit_quota self.old found.0) ≡ Some found.1) }
@@ -94,7 +96,7 @@ impl Audit {
         self.quotas.take_more(now)
     }
 
-    /// Returns when the count of a principal is due.
+    /// Returns the time when the next number of left-out lines is due, or None if no lines are left out.
     pub fn more_at(&self) -> Option<Duration>
         ensures { option_map as_nanos result ≡ option_map a_second_after (earliest_since None (values self.now.quotas.all)) }
     {
@@ -102,8 +104,8 @@ impl Audit {
         Some(since.saturating_add(Duration::from_secs(1)))
     }
 
-    /// Writes the lines that were added. A failure is reported at most once a minute, and the next call writes the
-    /// rest.
+    /// Writes the lines that were added. Reports a failure at most once a minute; the next call writes the remaining
+    /// lines.
     pub fn write<R: Files<File = File> + Print + Eprint>(&mut self, rt: &R, now: Duration)
         ensures rest { (part : List ℕ) × (self.old.pending.unwritten ≡ part ++ self.new.pending.unwritten) }
         ensures lost { self.new.pending.lost ≡ self.old.pending.lost }
@@ -124,7 +126,7 @@ impl Audit {
         }
     }
 
-    /// Opens the file again if its name has another file, or none.
+    /// Reopens the audit's file if its path names another file, or none. Reports a failure at most once a minute.
     pub fn follow<R: Files<File = File> + Eprint>(&mut self, rt: &R, now: Duration)
         ensures pending { self.new.pending ≡ self.old.pending }
         ensures quotas { self.new.quotas ≡ self.old.quotas }
@@ -138,7 +140,7 @@ impl Audit {
         }
     }
 
-    /// Returns how many lines were lost.
+    /// Returns the number of lost lines.
     pub fn lost(&self) -> u64
         ensures { result ≡ self.now.pending.lost }
     {

@@ -1,8 +1,8 @@
-//! What the audit records.
+//! The events that the audit records.
 
 use std::time::Duration;
 
-/// The most characters of a text that is not a request.
+/// The maximum number of characters that are recorded of a text that is not recorded as JSON.
 pub const MOST_TEXT_CHARS: usize = 64;
 
 /// A client's line, without its line feed.
@@ -10,13 +10,13 @@ pub const MOST_TEXT_CHARS: usize = 64;
 pub enum ClientLine<'a> {
     /// A request.
     Request(&'a [u8]),
-    /// No request.
+    /// A line that is not a request.
     Other(&'a [u8]),
-    /// More bytes than a line may have, which are not kept.
+    /// A line over the length limit, whose bytes are not kept.
     TooLong,
 }
 
-/// What happened, and to whose connection.
+/// An event. `who` is the principal that it concerns.
 #[derive(Clone, Copy, Debug)]
 pub enum Event<'a> {
     /// The proxy started.
@@ -44,13 +44,13 @@ pub enum Event<'a> {
         answer: &'a [u8],
         waited: Duration,
     },
-    /// A line has no answer: its connection ended first.
+    /// A line got no answer, because its connection ended first.
     Unanswered {
         who: &'a str,
         line: ClientLine<'a>,
         waited: Duration,
     },
-    /// Lines of a principal were left out.
+    /// This number of a principal's lines was left out of the audit.
     More {
         who: &'a str,
         count: u64,

@@ -1,4 +1,4 @@
-//! The file of the audit.
+//! The file that the audit is written to.
 
 ghost use Rattle.std.specs.Prelude.{◌≡◌, ◌++◌, [], true, ℕ, List, IfOk, OnErr, string_bytes};
 
@@ -8,7 +8,7 @@ use std::io::ErrorKind;
 use std::os::unix::fs::{MetadataExt, OpenOptionsExt};
 use std::{fs, io};
 
-/// The file that has the audit's name. Its group may read it.
+/// The open file that the audit is written to, and its path. The file's group may read it.
 #[derive(Drop)]
 pub struct AuditFile {
     path: String,
@@ -17,7 +17,8 @@ pub struct AuditFile {
 }
 
 impl AuditFile {
-    /// Opens the file of a name to append to it, and makes it if there is none. A symbolic link is refused.
+    /// Opens the file at this path for appending, and creates the file if there is none. Errors: the path is a symbolic
+    /// link, or the file can't be opened.
     pub fn open<R: Files<File = File>>(rt: &R, path: String) -> io::Result<Self>
         ensures path { IfOk result (λ opened. opened.path ≡ path) }
     {
@@ -26,7 +27,7 @@ impl AuditFile {
         Ok(AuditFile { path, file, place })
     }
 
-    /// Opens the file again if its name has another file, or none. Errors: the file is unchanged.
+    /// Reopens the file if its path names another file, or none. On an error, the old file stays open.
     pub fn follow<R: Files<File = File>>(&mut self, rt: &R) -> io::Result<()>
         ensures path { self.new.path ≡ self.old.path }
         ensures err { OnErr result (self.new ≡ self.old) }
@@ -42,7 +43,7 @@ impl AuditFile {
         Ok(())
     }
 
-    /// Writes lines to the open file, and returns whether all are written.
+    /// Writes the pending lines to the open file. Returns whether all of them were written.
     pub fn write(&mut self, pending: &mut Pending) -> bool
         ensures path { self.new.path ≡ self.old.path }
         ensures rest { (part : List ℕ) × (pending.old.unwritten ≡ part ++ pending.new.unwritten) }
@@ -52,7 +53,7 @@ impl AuditFile {
         pending.write(&mut self.file)
     }
 
-    /// Returns the file's name.
+    /// Returns the file's path.
     pub fn path(&self) -> &str
         ensures { result.now ≡ string_bytes self.now.path }
     {
@@ -60,7 +61,7 @@ impl AuditFile {
     }
 }
 
-/// Returns the device and the inode of a file.
+/// Returns a file's device and inode numbers, which identify it.
 fn place_of(found: &Metadata) -> (u64, u64) {
     (found.dev(), found.ino())
 }

@@ -1,4 +1,4 @@
-//! How long answers took.
+//! A histogram of how long answers took.
 
 ghost use Rattle.std.specs.Prelude.{◌≡◌, ◌+◌, ◌-◌, ◌^◌, ◌++◌, All, IfOk, OnOk, min, string_bytes};
 ghost use Rattle.std.specs.Duration.{as_nanos, max_nanos};
@@ -10,19 +10,19 @@ use std::time::Duration;
 
 const BOUNDS: usize = 15;
 
-/// The upper bounds of the buckets in microseconds.
+/// The upper bounds of the buckets, in microseconds.
 const BOUND_MICROS: [u64; BOUNDS] = [
     500, 1_000, 2_500, 5_000, 10_000, 25_000, 50_000, 100_000, 250_000, 500_000, 1_000_000,
     2_500_000, 5_000_000, 10_000_000, 30_000_000,
 ];
 
-/// The same bounds in seconds, as the text has them.
+/// The same bounds in seconds, as they are printed.
 const BOUND_NAMES: [&str; BOUNDS] = [
     "0.0005", "0.001", "0.0025", "0.005", "0.01", "0.025", "0.05", "0.1", "0.25", "0.5", "1.0",
     "2.5", "5.0", "10.0", "30.0",
 ];
 
-/// The answers that took at most as long as a bound.
+/// The number of answers that took no longer than a bound.
 #[derive(Drop)]
 pub struct Bucket {
     pub(crate) bound: Duration,
@@ -30,7 +30,8 @@ pub struct Bucket {
     pub(crate) count: u64,
 }
 
-/// How many answers took at most as long as each bound.
+/// The number of answers that took no longer than each bound, the number of all answers, and the
+/// sum of their times.
 #[derive(Drop)]
 pub struct Histogram {
     pub(crate) buckets: Vec<Bucket>,
@@ -39,7 +40,7 @@ pub struct Histogram {
 }
 
 impl Histogram {
-    /// Returns a histogram of no answers. Errors: out of memory.
+    /// Returns an empty histogram. Errors: out of memory.
     pub fn new(alloc: Global) -> Result<Self, AllocError>
         ensures buckets { IfOk result (λ histogram. All (λ bucket. bucket.count ≡ 0) histogram.buckets.items) }
         ensures sums { IfOk result (λ histogram. (histogram.count ≡ 0) × (as_nanos histogram.sum ≡ 0)) }
@@ -69,7 +70,7 @@ impl Histogram {
         self.sum = self.sum.saturating_add(waited);
     }
 
-    /// Appends the series of an op.
+    /// Appends the histogram of an op as text for Prometheus. Errors: out of memory.
     pub fn push(&self, alloc: Global, text: &mut String, op: &str) -> Result<(), AllocError>
         ensures { OnOk result (string_bytes text.new ≡ string_bytes text.old ++ (bucket_lines op.now self.now.buckets.items ++ sum_lines op.now self.now.count (as_nanos self.now.sum))) }
     {

@@ -1,20 +1,20 @@
-//! Laws of the audit: functions that do nothing, whose contracts are the laws.
+//! The laws of the audit. Each is the contract of an empty function.
 
 ghost use Rattle.proxy_audit.specs.Laws.{EventIsOneLine, EventIsRead, QuotaHolds};
 
-/// The text of an event is read as its JSON object.
+/// Parsing the text of an event as JSON gives the event's object.
 #[tactic(auto, using(crate::proofs::Reading::event_is_read))]
 pub fn event_is_read()
     ensures { EventIsRead }
 {}
 
-/// The text of an event has no line feed.
+/// The text of an event contains no line feed.
 #[tactic(auto, using(crate::proofs::OneLine::event_is_one_line))]
 pub fn event_is_one_line()
     ensures { EventIsOneLine }
 {}
 
-/// In no second does a principal cause more lines of a kind than its quota, and each line that is left out is counted once.
+/// In any second a principal causes at most `MOST_LINES` lines of a kind. Each left-out line is counted once.
 #[tactic(auto, using(crate::proofs::QuotaLaws::quota_holds))]
 pub fn quota_holds()
     ensures { QuotaHolds }

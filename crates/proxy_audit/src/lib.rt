@@ -1,13 +1,13 @@
 //! The audit of the proxy, and its counts of answers.
 //!
-//! An [`Event`] has one line of JSON, which [`append_line`] appends to a text (`specs/Lines.antt`). [`Quotas`] limits
-//! the lines that a principal can cause, and counts those that are left out (`specs/Quotas.antt`). [`Pending`] has the
-//! lines until they are written, and counts those that are lost. An [`AuditFile`] is the file that has the audit's
-//! name. [`Audit`] is all of them together (`specs/Audits.antt`). A [`Tally`] counts answers and how long they took, as
-//! text for Prometheus (`specs/Tallies.antt`).
+//! [`append_line`] writes an [`Event`] as one line of JSON (`specs/Lines.antt`). [`Quotas`] limits the lines that a
+//! principal can cause, and counts left-out lines (`specs/Quotas.antt`). [`Pending`] holds lines until they are
+//! written, and counts lost lines. An [`AuditFile`] is the open file that the audit is written to. [`Audit`] combines
+//! these parts (`specs/Audits.antt`). A [`Tally`] counts answers and how long they took, and prints both as text for
+//! Prometheus (`specs/Tallies.antt`).
 //!
-//! The main theorems are those of [`laws`]: a line is read back as its event and has no other line feed than its last
-//! byte; in no second are there more lines of one principal and kind than its quota, and each line that is left out is
+//! The main theorems are in [`laws`]. Parsing the text of an event gives the event's object, and the text contains no
+//! line feed. In any second a principal causes at most its quota of lines of each kind, and each left-out line is
 //! counted once.
 #![tactic(auto)]
 

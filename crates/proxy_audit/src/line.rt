@@ -14,7 +14,8 @@ use std::alloc::{AllocError, Global};
 use std::mem;
 use std::time::Duration;
 
-/// Appends the line of an event at a time. Errors: out of memory; nothing changes.
+/// Appends the line of an event that happened at `time`. Errors: out of memory; `text` is
+/// unchanged.
 pub fn append_line(
     alloc: Global,
     scratch: &mut Scratch,
@@ -62,7 +63,7 @@ fn write_entry(
     write_members(alloc, scratch, writer, event)
 }
 
-/// Writes the members of an event after its time.
+/// Writes the members of an event that follow its time, and ends the object.
 fn write_members(
     alloc: Global,
     scratch: &mut Scratch,
@@ -169,7 +170,8 @@ fn write_line(
     }
 }
 
-/// Writes a member whose value is the JSON that bytes are, or else their first characters.
+/// Writes a member whose value is the bytes as JSON, or a string of their first characters if they
+/// are not JSON.
 #[tactic(auto, using(crate::proofs::Values::no_value))]
 fn write_value(
     alloc: Global,
@@ -204,7 +206,7 @@ fn write_excerpt(
     write_text(writer, name, text.as_str())
 }
 
-/// Returns the first characters of bytes, as text.
+/// Returns the first 64 characters of bytes that need not be valid UTF-8. Errors: out of memory.
 fn excerpt(alloc: Global, bytes: &[u8]) -> Result<String, AllocError>
     ensures { IfOk result (λ text. string_bytes text ≡ excerpt bytes.now) }
 {
@@ -220,7 +222,7 @@ fn write_text(writer: &mut Writer, name: &str, text: &str) -> Result<(), AllocEr
     writer.string(text)
 }
 
-/// Writes how long something took, and ends the object.
+/// Writes the member `seconds`, and ends the object.
 fn write_seconds(alloc: Global, writer: &mut Writer, duration: Duration) -> Result<(), AllocError>
     ensures ok { OnOk result (writer.new.tokens ≡ writer.old.tokens ++ members_tokens (seconds_member (as_nanos duration))) }
     ensures before { writer.new.before ≡ writer.old.before }

@@ -1,4 +1,4 @@
-//! Lines that are to be written.
+//! The audit lines that are not written yet.
 
 ghost use Rattle.std.specs.Prelude.{◌≡◌, ◌==◌, ◌++◌, ◌+◌, ◌-◌, ◌^◌, [], min, length, true, List, ℕ, IsTrue, MatchBool};
 ghost use Rattle.std.specs.Io.KnownBytes.{Appends};
@@ -16,10 +16,10 @@ use std::io::Write;
 use std::marker::Model;
 use std::time::SystemTime;
 
-/// The most bytes that wait to be written. Lines beyond them are lost.
+/// The maximum number of bytes that wait to be written. A line that would exceed it is lost.
 pub const MOST_PENDING_BYTES: usize = 1_048_576;
 
-/// The lines of the audit that are to be written, and how many lines were lost, since there was no room or no memory.
+/// The audit lines that are not written yet, and the number of lines lost because there was no room or no memory.
 #[derive(Drop)]
 pub struct Pending {
     alloc: Global,
@@ -38,7 +38,7 @@ impl Model for Pending {
 }
 
 impl Pending {
-    /// Returns no lines.
+    /// Returns an empty buffer with no lost lines.
     pub fn new(alloc: Global) -> Self
         ensures { result ≡ no_pending }
     {
@@ -58,7 +58,7 @@ impl Pending {
         self.unwritten.is_empty()
     }
 
-    /// Returns how many lines were lost.
+    /// Returns the number of lost lines.
     pub fn lost(&self) -> u64
         ensures { result ≡ self.now.lost }
     {
@@ -82,7 +82,7 @@ impl Pending {
         self.lost = self.lost.saturating_add(1);
     }
 
-    /// Adds the line of an event. Returns false if there is no memory or no room for it.
+    /// Adds the line of an event. Returns false if there is no memory or no room for the line.
     fn try_add(&mut self, time: &str, event: &Event<'_>) -> bool
         ensures unwritten { MatchBool result (self.new.unwritten ≡ self.old.unwritten ++ line_of time.now event.now) (self.new.unwritten ≡ self.old.unwritten) }
         ensures lost { self.new.lost ≡ self.old.lost }
@@ -96,8 +96,8 @@ impl Pending {
         self.line.len() <= room && self.unwritten.push(self.line.as_slice()).is_ok()
     }
 
-    /// Writes bytes until the writer takes no more, and returns whether all are written. The bytes that it wrote and
-    /// those that are left are all that there were.
+    /// Writes bytes until the writer accepts no more. Returns whether all were written. The written bytes, followed by
+    /// the bytes that remain, are the bytes that were there before.
     pub fn write<W: Write>(&mut self, writer: &mut W) -> bool
         ensures written { (part : List ℕ) × (self.old.unwritten ≡ part ++ self.new.unwritten) × Appends (W.contents writer.old) (W.contents writer.new) part }
         ensures whole { result ≡ true → self.new.unwritten ≡ [] }

@@ -1,4 +1,4 @@
-//! The lines that a principal can cause in a second.
+//! The quota of a principal: how many lines it can cause in a second.
 
 ghost use Rattle.std.specs.Prelude.{◌≡◌, ◌+◌, ◌<◌, IfSome, IsSome, ◌↔◌};
 ghost use Rattle.std.specs.Duration.{as_nanos};
@@ -8,22 +8,22 @@ use arrayvec::ArrayVec;
 use std::marker::Model;
 use std::time::Duration;
 
-/// The most lines of one principal and kind in a second.
+/// The maximum number of lines of one kind that a principal can cause in a second.
 pub const MOST_LINES: usize = 10;
 
-/// A second in nanoseconds.
+/// The number of nanoseconds in a second.
 const SECOND: u128 = 1_000_000_000;
 
-/// The kinds of lines that are counted apart.
+/// The kind of a line. Each kind has its own limit.
 #[derive(Clone, Copy, Debug, PartialEq, Eq)]
 pub enum LineKind {
-    /// Lines that are faults, or were denied.
+    /// A line that records a fault or a denial.
     Refusal,
-    /// Begins and ends of connections.
+    /// A line that records the beginning or the end of a connection.
     Connection,
 }
 
-/// What a principal has had of its lines, and how many were left out.
+/// The times of a principal's last lines of each kind, and the number of lines left out.
 #[derive(Drop)]
 pub struct Quota {
     refusals: ArrayVec<u128, MOST_LINES>,
@@ -47,7 +47,7 @@ impl Model for Quota {
 }
 
 impl Quota {
-    /// Returns the quota of a principal that has had no line.
+    /// Returns the quota of a principal that has caused no line yet.
     pub fn new() -> Self
         ensures { result ≡ new_quota }
     {
@@ -59,7 +59,8 @@ impl Quota {
         }
     }
 
-    /// Returns whether there may be a line of this kind now. If not, it is counted.
+    /// Returns whether there is room for a line of this kind now. If so, records the line's time; if not, counts the
+    /// line as left out.
     pub fn admit(&mut self, kind: LineKind, now: Duration) -> bool
         ensures room { result ≡ has_room (as_nanos now) (times_of kind self.old) }
         ensures after { self.new ≡ after_admission kind (as_nanos now) self.old }
@@ -78,14 +79,15 @@ impl Quota {
         has_room
     }
 
-    /// Returns whether lines were left out, the first of them a second ago.
+    /// Returns whether lines were left out, the first of them at least a second ago.
     pub fn is_due(&self, now: Duration) -> bool
         ensures { result ≡ is_due (as_nanos now) self.now }
     {
         self.left_out > 0 && now.saturating_sub(self.since).as_nanos() >= SECOND
     }
 
-    /// Returns how many lines were left out, if the first of them was a second ago. The count begins again.
+    /// Returns the number of left-out lines and resets it to zero, if the first of them was at least a second ago; else
+    /// None.
     pub fn take_more(&mut self, now: Duration) -> Option<u64>
         ensures count { result ≡ more (as_nanos now) self.old }
         ensures after { self.new ≡ after_more (as_nanos now) self.old }
@@ -99,7 +101,7 @@ impl Quota {
         }
     }
 
-    /// Returns since when lines are left out.
+    /// Returns the time of the first left-out line, or None if no line is left out.
     pub fn left_out_since(&self) -> Option<Duration>
         ensures some { IsSome result ↔ (0 < self.now.left_out) }
         ensures value { IfSome result (λ since. as_nanos since ≡ self.now.since) }
@@ -112,7 +114,7 @@ impl Quota {
     }
 }
 
-/// Returns whether there is room for one more line now, and keeps its time if there is.
+/// Returns whether there is room for one more line now. If so, records the line's time.
 fn admit_line(times: &mut ArrayVec<u128, MOST_LINES>, now: u128) -> bool
     ensures room { result ≡ has_room now times.old.items }
     ensures after { times.new.items ≡ with_moment now times.old.items }

@@ -12,14 +12,14 @@ use std::alloc::{AllocError, Global};
 use std::collections::BTreeMap;
 use std::time::Duration;
 
-/// The quotas of principals, by their roles.
+/// The quotas of principals, by role.
 #[derive(Drop)]
 pub struct Quotas {
     pub all: BTreeMap<u32, Quota>,
 }
 
 impl Quotas {
-    /// Returns the quotas of principals that have had no line.
+    /// Returns an empty map of quotas: no principal has caused a line yet.
     pub fn new(alloc: Global) -> Self
         ensures { (role : ℕ) → get nat_cmp result.all role ≡ None }
     {
@@ -28,8 +28,8 @@ impl Quotas {
         }
     }
 
-    /// Returns whether there may be a line of this kind of a principal now. If not, it is counted. Errors: out of
-    /// memory; nothing changes.
+    /// Returns whether a principal's quota has room for a line of this kind now. If so, records the line's time; if
+    /// not, counts the line as left out. Errors: out of memory; nothing changes.
     pub fn admit(&mut self, role: u32, kind: LineKind, now: Duration) -> Result<bool, AllocError>
         ensures room { IfOk result (λ is_admitted. is_admitted ≡ has_room (as_nanos now) (times_of kind (quota_in (get nat_cmp self.old.all role)))) }
         ensures after { OnOk result (get nat_cmp self.new.all role ≡ Some (after_admission kind (as_nanos now) (quota_in (get nat_cmp self.old.all role)))) }
@@ -40,8 +40,8 @@ impl Quotas {
         Ok(quota.admit(kind, now))
     }
 
-    /// Returns a principal that lines were left out of, the first of them a second ago, and how many. Its count begins
-    /// again.
+    /// Returns the role of a principal whose first left-out line was at least a second ago, and the number of its
+    /// left-out lines. Resets that number to zero.
     pub fn take_more(&mut self, now: Duration) -> Option<(u32, u64)>
         ensures none { result ≡ None → All (λ quota. is_due (as_nanos now) quota ≡ false) (values self.old.all) }
         ensures some { IfSome result (λ found. more (as_nanos now) (quota_in (get nat_cmp self.old.all found.0)) ≡ Some found.1) }
@@ -55,7 +55,7 @@ impl Quotas {
         Some((role, count))
     }
 
-    /// Returns a principal that lines were left out of, the first of them a second ago.
+    /// Returns the role of a principal whose first left-out line was at least a second ago.
     fn due_role(&self, now: Duration) -> Option<u32>
         ensures some { IfSome result (λ role. IsSome (get nat_cmp self.now.all role) × (is_due (as_nanos now) (quota_in (get nat_cmp self.now.all role)) ≡ true)) }
         ensures none { result ≡ None → All (λ quota. is_due (as_nanos now) quota ≡ false) (values self.now.all) }
@@ -68,7 +68,7 @@ impl Quotas {
         None
     }
 
-    /// Returns since when lines are left out that no line has counted.
+    /// Returns the time of the earliest left-out line that `take_more` has not counted, over all principals.
     pub fn left_out_since(&self) -> Option<Duration>
         ensures { option_map as_nanos result ≡ earliest_since None (values self.now.all) }
     {
@@ -80,7 +80,7 @@ impl Quotas {
     }
 }
 
-/// Returns the earlier of a time and the one since which lines of a principal are left out.
+/// Returns the earlier of a given time and the time of a quota's first left-out line; either may be absent.
 fn earlier(earliest: Option<Duration>, quota: &Quota) -> Option<Duration>
     ensures { option_map as_nanos result ≡ with_since (option_map as_nanos earliest) quota.now }
 {

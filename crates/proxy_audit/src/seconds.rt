@@ -9,7 +9,7 @@ use itoa::Buffer;
 use std::alloc::{AllocError, Global};
 use std::time::Duration;
 
-/// Returns a duration in seconds with six places, which is a number of JSON. Errors: out of memory.
+/// Returns a duration in seconds with six decimal places, as a JSON number. Errors: out of memory.
 pub(crate) fn seconds_text(alloc: Global, duration: Duration) -> Result<String, AllocError>
     ensures text { IfOk result (λ text. string_bytes text ≡ seconds_text (as_nanos duration)) }
     ensures number { IfOk result (λ text. IsNumber (string_bytes text)) }

@@ -11,29 +11,29 @@ use std::alloc::{AllocError, Global};
 use std::collections::BTreeMap;
 use std::time::Duration;
 
-/// The most series of answers: further ones are left out.
+/// The maximum number of series of answers. Answers that need a further series are not counted.
 pub const MOST_SERIES: usize = 256;
 
-/// The lines before the counts of answers.
+/// The lines printed before the counts of answers.
 const ANSWERS_HEAD: &str =
     "# HELP resetd_front_answers_total answers by op and by kind or name\n# TYPE resetd_front_answers_total counter\n";
 
-/// The lines before the times of answers.
+/// The lines printed before the times of answers.
 const TIMES_HEAD: &str =
     "# HELP resetd_front_answer_seconds from a line to its answer\n# TYPE resetd_front_answer_seconds histogram\n";
 
-/// The answers by op and by kind or name, and how long they took by op.
+/// The number of answers by op and by kind or name, and a histogram of their times by op.
 #[derive(Drop)]
 pub struct Tally {
     alloc: Global,
-    /// By the labels of its series.
+    /// The number of answers in each series, by the labels of the series.
     answers: BTreeMap<String, u64>,
-    /// By op.
+    /// The histogram of each op.
     times: BTreeMap<String, Histogram>,
 }
 
 impl Tally {
-    /// Returns a tally of no answers.
+    /// Returns an empty tally.
     pub fn new(alloc: Global) -> Self
         ensures answers { (labels : List ℕ) → get_by_text result.answers labels ≡ None }
         ensures times { (op : List ℕ) → get_by_text result.times op ≡ None }
@@ -45,7 +45,7 @@ impl Tally {
         }
     }
 
-    /// Counts an answer to a line of this op. Errors: out of memory.
+    /// Counts an answer to a line with this op, and how long it took. Errors: out of memory.
     pub fn count(&mut self, op: &str, answer: &[u8], waited: Duration) -> Result<(), AllocError>
         ensures { OnOk result ((name : List ℕ) × (list_all is_plain name ≡ true) × CountsOneMore self.old.answers self.new.answers (labels_of op.now name)) }
     {
@@ -55,7 +55,7 @@ impl Tally {
         self.observe(op, waited)
     }
 
-    /// Appends the text of the counts and the times. Errors: out of memory.
+    /// Appends the counts and the times as text for Prometheus. Errors: out of memory.
     pub fn push(&self, text: &mut String) -> Result<(), AllocError>
         ensures { OnOk result (string_bytes text.new ≡ string_bytes text.old ++ (answers_text self.now.answers.entries ++ times_text self.now.times.entries)) }
     {
@@ -63,7 +63,7 @@ impl Tally {
         push_times(self.alloc, text, &self.times)
     }
 
-    /// Counts how long an answer took.
+    /// Adds how long an answer took to the histogram of its op. Errors: out of memory.
     fn observe(&mut self, op: &str, waited: Duration) -> Result<(), AllocError>
         ensures { self.new.answers ≡ self.old.answers }
     {
@@ -79,7 +79,7 @@ impl Tally {
     }
 }
 
-/// Counts an answer with these labels; not if it would be one series too many. Errors: out of memory.
+/// Counts an answer with these labels, unless it needs one series more than `MOST_SERIES`. Errors: out of memory.
 fn count_one(answers: &mut BTreeMap<String, u64>, labels: String) -> Result<(), AllocError>
     ensures { OnOk result (CountsOneMore answers.old answers.new (string_bytes labels)) }
 {

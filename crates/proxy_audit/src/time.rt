@@ -10,7 +10,8 @@ use jiff::Timestamp;
 use jiff::fmt::temporal::DateTimePrinter;
 use std::time::SystemTime;
 
-/// Returns a time in UTC as RFC 3339 writes it, with milliseconds. After the year 9999 it returns the last one.
+/// Returns a time in UTC in the format of RFC 3339, with milliseconds. For a time that is too late for a `Timestamp`,
+/// returns the latest `Timestamp`.
 pub fn moment(time: SystemTime) -> ArrayString<33>
     ensures { IsTimestampNanos (pos (system_time_nanos time)) → IsMoment (system_time_nanos time) result.bytes }
 {

@@ -11,8 +11,8 @@ use Rattle.proxy_header.specs.Fields.{HasOne, length_in}
 abbrev pub signature : List ℕ
 signature = 13 ∷ 10 ∷ 13 ∷ 10 ∷ 0 ∷ 13 ∷ 10 ∷ 81 ∷ 85 ∷ 73 ∷ 84 ∷ 10 ∷ []
 
--- A header: the signature; one byte for the version and the command; one byte for the family and the
--- protocol; two bytes for the length of the rest; and the rest.
+-- A header consists of the signature, a byte for the version and the command, a byte for the family and the protocol,
+-- two bytes for the length of the rest, and the rest.
 pub record IsHeader (bytes : List ℕ) (command family : ℕ) (rest : List ℕ) : Type 0 where
   pub high : ℕ
   pub low : ℕ
@@ -22,7 +22,7 @@ pub record IsHeader (bytes : List ℕ) (command family : ℕ) (rest : List ℕ) 
 abbrev pub IsAnyHeader : List ℕ → Type 0
 IsAnyHeader bytes = (command family : ℕ) × (rest : List ℕ) × IsHeader bytes command family rest
 
--- The bytes received so far begin in this way.
+-- How the bytes received so far begin:
 abbrev pub BeginsWith : List ℕ → HeaderLength → Type 0
 -- with a whole header of this length
 BeginsWith bytes (Whole n) = (n ≤ length bytes) × (n ≤ MOST_HEADER_BYTES) × IsAnyHeader (take n bytes)
@@ -33,12 +33,12 @@ BeginsWith bytes Refused = (header more after : List ℕ) → IsAnyHeader header
 
 -- ---- the client
 
--- the number of bytes of the addresses: of no family, IPv4, IPv6 and Unix
+-- the number of bytes of the addresses, for no family (0), IPv4 (1), IPv6 (2) and Unix (3)
 abbrev pub family_length : ℕ → Option ℕ
 family_length family = if family == 0 then Some 0 else (if family == 1 then Some 12 else (if family == 2 then Some 36 else (if family == 3 then Some 216 else None)))
 
--- The number of bytes of the addresses, for the byte with the family in its upper half. Its lower half is the
--- protocol: none, a stream or datagrams.
+-- The number of bytes of the addresses, for a byte with the family in its upper half and the protocol in its lower
+-- half. The protocol is none, stream or datagram.
 abbrev pub address_length : ℕ → Option ℕ
 address_length family = if nat_lt 2 (family % 16) then None else family_length (family / 16)
 
@@ -46,15 +46,15 @@ address_length family = if nat_lt 2 (family % 16) then None else family_length (
 abbrev pub proxy_command : ℕ
 proxy_command = 33
 
--- the types of the SSL field, and of the field in it that has the common name
+-- the type of the SSL field; common_name_kind is the type of the field in it that contains the common name
 abbrev pub ssl_kind : ℕ
 ssl_kind = 32
 
 abbrev pub common_name_kind : ℕ
 common_name_kind = 34
 
--- The value of an SSL field of a verified client with this common name: it used TLS; it showed a certificate,
--- in this connection or in the session that it resumed; and the certificate was verified (result 0).
+-- The value is the SSL field of a verified client with this common name. The client used TLS and showed a certificate,
+-- in this connection or in the session that it resumed, and the certificate was verified (result 0).
 pub record IsVerified (value name : List ℕ) : Type 0 where
   pub client : ℕ
   pub fields : List ℕ

@@ -6,12 +6,12 @@ use Rattle.proxy_header.specs.Fields.{length_in}
 use Rattle.proxy_header.specs.Headers.{address_length, common_name_kind, proxy_command, signature, ssl_kind}
 use Rattle.proxy_header.specs.Names.{is_common_name}
 
--- the value, if none was found before; a second value makes the result None
+-- the value, if no value was found before; if one was found, the result is None
 abbrev pub if_first : Option (List ℕ) → Option (List ℕ) → Option (List ℕ)
 if_first None value = value
 if_first (Some found) value = None
 
--- the only value of this type in at most this many fields, if `found` is the value found in earlier bytes
+-- the only value of this type, in bytes of at most `most` fields; `found` is the value found in earlier bytes
 abbrev pub only_among : ℕ → ℕ → List ℕ → Option (List ℕ) → Option (List ℕ)
 only_among most kind [] found = found
 only_among (suc most) kind (of ∷ high ∷ low ∷ rest) found =
@@ -41,8 +41,7 @@ ssl_name value =
 abbrev pub name_after : List ℕ → ℕ → Option (List ℕ)
 name_after rest addresses = if nat_lt (length rest) addresses then None else option_and_then ssl_name (only_value ssl_kind (drop addresses rest) None)
 
--- the common name in the bytes after the signature, if they have the command PROXY and the length that they
--- state
+-- the common name in the bytes after the signature, if their command is PROXY and their stated length is right
 abbrev pub name_after_signature : List ℕ → Option (List ℕ)
 name_after_signature bytes =
     if nat_lt (length bytes) 4 then None

@@ -15,18 +15,19 @@ pub const MOST_HEADER_BYTES: usize = 2048;
 /// The first bytes of every header of version 2.
 const SIGNATURE: [u8; 12] = *b"\r\n\r\n\0\r\nQUIT\n";
 
-/// The kind of the first bytes of a connection.
+/// The result of a search for a header in the first bytes of a connection.
 #[derive(Clone, Copy, Debug, PartialEq, Eq)]
 pub enum HeaderLength {
-    /// A part of a header: more bytes have to arrive.
+    /// A part of a header. More bytes have to arrive.
     Unfinished,
     /// Not a header of version 2, or a header of more than `MOST_HEADER_BYTES`.
     Refused,
-    /// A whole header of this many bytes; more bytes may follow.
+    /// A whole header of this many bytes. More bytes may follow.
     Whole(usize),
 }
 
-/// Tests whether these bytes begin with a header, and returns its length.
+/// Returns the length of the header at the start of these bytes, `Unfinished` if more bytes have to arrive, or
+/// `Refused`.
 #[tactic(auto, using(crate::proofs::Lengths::refused_signature, crate::proofs::Lengths::refused_other, crate::proofs::Lengths::unfinished_signature, crate::proofs::Lengths::refused_long, crate::proofs::Lengths::unfinished, crate::proofs::Lengths::whole))]
 pub fn header_length(bytes: &[u8]) -> HeaderLength
     ensures { BeginsWith bytes.now result }
@@ -52,7 +53,8 @@ pub fn header_length(bytes: &[u8]) -> HeaderLength
     }
 }
 
-/// Returns the least length of a header whose signature is followed by these bytes.
+/// Returns the length of a header whose signature is followed by these bytes. A missing length byte counts as 0, so the
+/// result is then the least possible length.
 fn least_length(rest: &[u8]) -> usize
     ensures { result ≡ 16 + length_in (slice_index rest.now 2) (slice_index rest.now 3) }
 {
@@ -97,8 +99,8 @@ fn name_after_signature(bytes: &[u8]) -> Option<&[u8]>
     }
 }
 
-/// Returns the common name in the fields that follow the addresses. `addresses` is their number of
-/// bytes.
+/// Returns the common name in the fields that follow the addresses. `addresses` is the number of bytes of the
+/// addresses.
 fn name_after(rest: &[u8], addresses: usize) -> Option<&[u8]>
     ensures { option_copied result ≡ name_after rest.now addresses }
 {
@@ -108,7 +110,8 @@ fn name_after(rest: &[u8], addresses: usize) -> Option<&[u8]>
     ssl_name(only_value(&rest[addresses..], 0x20, None)?)
 }
 
-/// Returns the number of bytes of a family's addresses, or None for an unknown family or protocol.
+/// Returns the number of bytes of the addresses for a header's family byte, or None if the family or the protocol is
+/// unknown.
 fn address_length(family: u8) -> Option<usize>
     ensures { result ≡ address_length family }
 {
@@ -124,8 +127,8 @@ fn address_length(family: u8) -> Option<usize>
     }
 }
 
-/// Returns the common name in the value of an SSL field, or None unless the certificate was verified
-/// and has exactly one common name.
+/// Returns the common name in the value of an SSL field. Returns None unless the certificate was verified and the field
+/// has exactly one common name.
 fn ssl_name(value: &[u8]) -> Option<&[u8]>
     ensures { option_copied result ≡ ssl_name value.now }
 {
@@ -140,7 +143,7 @@ fn ssl_name(value: &[u8]) -> Option<&[u8]>
     }
 }
 
-/// Tests whether the client used TLS and showed a certificate that was verified.
+/// Tests whether the client used TLS and showed a certificate, and the certificate was verified.
 fn is_verified(client: u8, verify: &[u8]) -> bool
     ensures { result ≡ is_verified client verify.now }
 {

@@ -1,9 +1,9 @@
 //! The header of the PROXY protocol, version 2, by which HAProxy names the client of a connection.
 //!
-//! [`header_length`] finds the end of a header in the bytes that have arrived, and [`common_name`] the common name
-//! of the client's certificate in a whole header. `specs/Headers.antt` defines the headers that name a client: the
-//! command PROXY and one SSL field, which has the SSL bit, a bit of a client certificate, the verification result 0
-//! and one common name. Every other header is refused.
+//! [`header_length`] finds the end of a header in the bytes that have arrived. [`common_name`] finds the common name of
+//! the client's certificate in a whole header. `specs/Headers.antt` defines which headers name a client: those with the
+//! command PROXY and one SSL field with the SSL bit, a client certificate bit, the verification result 0 and one common
+//! name. Every other header is refused.
 #![tactic(auto)]
 
 mod fields;

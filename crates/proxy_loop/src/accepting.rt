@@ -1,4 +1,4 @@
-//! Connections that come.
+//! Accepts connections.
 
 use crate::connection::Connection;
 use crate::event_loop::EventLoop;
@@ -11,8 +11,8 @@ use std::io::ErrorKind;
 use std::time::Duration;
 
 impl<G: Gateway> EventLoop<G> {
-    /// Accepts connections of each listener that has some, up to a number of each: then others have their turn. It holds
-    /// descriptors in reserve meanwhile.
+    /// Accepts waiting connections from each listener, at most `MOST_AT_ONCE` from each so that all get their turn.
+    /// Keeps two descriptors in reserve meanwhile.
     pub(crate) fn accept_all(&mut self, registry: &Registry) -> io::Result<()> {
         if !self.has_waiting_connections() {
             return Ok(());
@@ -56,14 +56,14 @@ impl<G: Gateway> EventLoop<G> {
         self.accept_at = self.at.now.saturating_add(pause);
     }
 
-    /// Takes a connection in this role. One more than the limit is closed at once.
+    /// Takes a new connection in this role. If the role has reached its limit of connections, closes it at once.
     fn accepted(
         &mut self,
         registry: &Registry,
         stream: UnixStream,
         role: Option<u32>,
     ) -> io::Result<()> {
-        // Those whose header has not come have the limit of a principal together.
+        // Connections whose header has not arrived share the limit of one principal.
         if !self.open_one(role)? {
             return Ok(());
         }
@@ -91,8 +91,8 @@ impl<G: Gateway> EventLoop<G> {
     }
 }
 
-/// Takes two descriptors, so that clients leave one for the server's connection, and one for a file that is read or opened
-/// again.
+/// Takes two descriptors, so that clients can't use up those for the server's connection and for a file that is read or
+/// reopened.
 fn reserve(registry: &Registry) -> io::Result<(Registry, Registry)> {
     Ok((registry.try_clone()?, registry.try_clone()?))
 }

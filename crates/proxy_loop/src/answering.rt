@@ -1,4 +1,4 @@
-//! Answers of the server.
+//! The server's answers.
 
 ghost use Rattle.std.specs.Prelude.{◌≡◌, false, Ok};
 ghost use Rattle.proxy_loop.specs.Answers.{stopped};
@@ -17,11 +17,12 @@ use std::io::{ErrorKind, Read};
 
 const CHUNK_BYTES: usize = 16_384;
 
-/// The answer of a server whose disk failed, or that is ending.
+/// The answer of a server whose disk has failed or that is ending.
 const STOPPED: &[u8] = b"{\"name\":\"Stopped\",\"refused\":1}";
 
 impl<G: Gateway> EventLoop<G> {
-    /// Reads what the server has sent, and passes each answer on. Returns with more to read after some reads.
+    /// Reads what the server has sent, and passes on each whole answer. Stops after `MOST_AT_ONCE` reads, even if there
+    /// is more to read.
     pub(crate) fn hear(&mut self) -> Result<(), AllocError> {
         for _ in 0..MOST_AT_ONCE {
             let Some(mut server) = self.server.take() else {
@@ -35,7 +36,7 @@ impl<G: Gateway> EventLoop<G> {
             if self.deliver_all(&mut server)? && is_good {
                 self.server = Some(server);
             } else if server.is_used && self.in_flight == 0 {
-                // It ended a connection that nobody used, for others that wait.
+                // The server ended the connection while nothing was in flight, since others wait.
                 self.let_go()?;
             } else {
                 self.lose_server()?;
@@ -44,7 +45,7 @@ impl<G: Gateway> EventLoop<G> {
         Ok(())
     }
 
-    /// Passes on each whole answer. Returns false if the server's connection has to be left.
+    /// Passes on each whole answer. Returns false if the server's connection has to be closed.
     fn deliver_all(&mut self, server: &mut Server) -> Result<bool, AllocError> {
         for _ in 0..u32::MAX {
             let Some(answer) = server.lines.first() else {
@@ -60,8 +61,9 @@ impl<G: Gateway> EventLoop<G> {
         Ok(server.lines.len() <= MOST_ANSWER_BYTES)
     }
 
-    /// Passes an answer to the core, and to the connection whose it is. Returns false if the server's connection has
-    /// to be left. `Stopped` is passed to nobody: all lines from that one on are sent again.
+    /// Passes an answer to the core, and then to the connection that it is for. Returns false if the server's
+    /// connection has to be closed. `Stopped` is not passed on: the line that it answers and all later lines are sent
+    /// again.
     fn deliver(&mut self, answer: &[u8]) -> Result<bool, AllocError>
         ensures stopped { answer.now ≡ stopped → (result ≡ Ok false) × (self.new ≡ self.old) }
     {
@@ -91,7 +93,8 @@ impl<G: Gateway> EventLoop<G> {
         Ok(true)
     }
 
-    /// Keeps the line that the next answer is to, unless it is a query. Returns its kind. Errors: out of memory.
+    /// Copies the line that the next answer is for, unless the line is a query. Returns the kind of the answer. Errors:
+    /// out of memory.
     fn keep_order(&mut self) -> Result<ExchangeKind, AllocError> {
         match self.core.next_order() {
             Some(line) => {
@@ -103,7 +106,7 @@ impl<G: Gateway> EventLoop<G> {
         }
     }
 
-    /// Gives an answer to the connection of a number, after it was recorded. Errors: out of memory.
+    /// Records an answer, and then gives it to the connection with this number. Errors: out of memory.
     fn give(&mut self, number: u64, kind: ExchangeKind, answer: &[u8]) -> Result<(), AllocError> {
         if number == self.own.number {
             return self.hear_own(answer);
@@ -124,7 +127,7 @@ impl<G: Gateway> EventLoop<G> {
         }
     }
 
-    /// The line of a connection waits again, for another number: not if the connection has ended.
+    /// Lets a line of the connection with this number wait for another number, unless the connection has ended.
     fn keep_waiting(&mut self, number: u64) -> Result<(), AllocError> {
         if !self.is_at(place_of(number), number) && number != self.own.number {
             self.core.forget(number);
@@ -133,10 +136,10 @@ impl<G: Gateway> EventLoop<G> {
         Ok(())
     }
 
-    /// Ends the connection of a number, since the answer leaves open what became of its line, and records the answer: not
-    /// if the line is an order with a number of the proxy, and the only one of the connection. Then the last number shows
-    /// whether it was carried out. A reset that names an epoch is judged again: the answer refused its number. Errors: out
-    /// of memory.
+    /// Records an answer that leaves open what became of a line, and ends the connection with this number. But if the
+    /// answer is inconclusive, and the line is an order that the proxy numbered and the connection's only unanswered
+    /// line, keeps the order: the last number will show whether it was carried out. A reset that names an epoch is judged
+    /// again, since the answer refused its number. Errors: out of memory.
     fn end_unclear(
         &mut self,
         number: u64,
@@ -169,7 +172,7 @@ impl<G: Gateway> EventLoop<G> {
     }
 }
 
-/// Reads once. Returns false if the connection has ended.
+/// Reads from the server once. Returns false if the connection has ended or failed. Errors: out of memory.
 fn read_some(server: &mut Server) -> Result<bool, AllocError> {
     let mut chunk = [0u8; CHUNK_BYTES];
     match server.stream.read(&mut chunk) {

@@ -1,4 +1,4 @@
-//! Connections that end.
+//! Ends connections.
 
 use crate::connection::Connection;
 use crate::event_loop::EventLoop;
@@ -9,16 +9,16 @@ use std::alloc::AllocError;
 use std::collections::VecDeque;
 use std::time::Duration;
 
-/// A connection that has ended, some of whose lines are in flight.
+/// A connection that has ended while some of its lines are in flight.
 #[derive(Drop)]
 pub(crate) struct Departed {
     pub role: u32,
-    /// When each of these lines was taken.
+    /// When each unanswered line was taken, oldest first.
     pub asked: VecDeque<Duration>,
 }
 
 impl<G: Gateway> EventLoop<G> {
-    /// Ends the connection at a place. Errors: out of memory.
+    /// Ends the connection at a place, and records its end. Errors: out of memory.
     pub(crate) fn end(&mut self, place: usize) -> Result<(), AllocError> {
         let Some(connection) = self.connections.try_remove(place) else {
             return Ok(());
@@ -36,7 +36,8 @@ impl<G: Gateway> EventLoop<G> {
         self.depart(role, connection)
     }
 
-    /// Keeps what is recorded with the answers to the lines of a connection that are in flight.
+    /// Keeps what is needed to record the answers to a connection's lines in flight. Errors: out of
+    /// memory.
     fn depart(&mut self, role: u32, connection: Connection) -> Result<(), AllocError> {
         let number = connection.number;
         if !self.core.is_awaiting_nothing(number) {
@@ -46,7 +47,7 @@ impl<G: Gateway> EventLoop<G> {
         Ok(())
     }
 
-    /// Ends the connection of a number, if it is there. Errors: out of memory.
+    /// Ends the connection with this number, if it has not ended yet. Errors: out of memory.
     pub(crate) fn end_number(&mut self, number: u64) -> Result<(), AllocError> {
         let place = place_of(number);
         match self.connections.get(place) {
@@ -58,7 +59,7 @@ impl<G: Gateway> EventLoop<G> {
         }
     }
 
-    /// Records an answer to a connection that has ended. Errors: out of memory.
+    /// Records an answer to a line of a connection that has ended. Errors: out of memory.
     pub(crate) fn record_departed(
         &mut self,
         number: u64,
@@ -84,7 +85,7 @@ impl<G: Gateway> EventLoop<G> {
         Ok(())
     }
 
-    /// Forgets a connection that has ended once none of its lines is in flight.
+    /// Forgets a connection that has ended, if none of its lines is in flight any more.
     pub(crate) fn forget_departed(&mut self, number: u64) {
         if self.core.is_awaiting_nothing(number) {
             self.departed.remove(&number);
@@ -92,7 +93,7 @@ impl<G: Gateway> EventLoop<G> {
     }
 }
 
-/// Returns the line that an exchange has: a query's is not kept.
+/// Returns the line to record for an exchange, or None for a query, whose line is not kept.
 pub(crate) fn line_of(kind: ExchangeKind, line: &[u8]) -> Option<&[u8]> {
     match kind {
         ExchangeKind::Query => None,

@@ -1,4 +1,4 @@
-//! The state of the loop.
+//! The state of the event loop.
 
 ghost use Rattle.std.specs.Prelude.{◌≡◌, ◌==◌, [], false, None, MatchOption};
 ghost use Rattle.slab.specs.Slab.{get, slab_len};
@@ -30,7 +30,7 @@ pub(crate) const SERVER: usize = PLACES;
 
 pub(crate) const LISTENERS: usize = SERVER + 1;
 
-/// All connections, and the core between them.
+/// The event loop: all connections, and the core that passes lines and answers between them.
 #[derive(Drop)]
 pub struct EventLoop<G: Gateway> {
     pub(crate) alloc: Global,
@@ -38,9 +38,9 @@ pub struct EventLoop<G: Gateway> {
     pub(crate) gateway: G,
     pub(crate) listeners: Vec<Listener>,
     pub(crate) connections: Slab<Connection>,
-    /// How many connections each role has.
+    /// The number of connections of each role.
     pub(crate) open: BTreeMap<u32, usize>,
-    /// Those that have ended and have lines in flight, by number.
+    /// The connections that have ended but still have lines in flight, by number.
     pub(crate) departed: BTreeMap<u64, Departed>,
     pub(crate) core: Proxy,
     pub(crate) addresses: Addresses,
@@ -49,13 +49,13 @@ pub struct EventLoop<G: Gateway> {
     pub(crate) is_answering: Option<bool>,
     /// The last `is_answering` that was reported.
     pub(crate) reported: Option<bool>,
-    /// How many lines of the flight have no answer.
+    /// The number of lines of the flight that have no answer yet.
     pub(crate) in_flight: usize,
-    /// The order that the answer is to which is passed on now.
+    /// The order whose answer is being passed on.
     pub(crate) order: Vec<u8>,
     pub(crate) counts: Counts,
     pub(crate) own: Own,
-    /// How many connections came.
+    /// The number of connections that have arrived, including the proxy's own.
     pub(crate) came: u64,
     /// The places of connections that have something to do.
     pub(crate) active: VecDeque<usize>,
@@ -63,22 +63,23 @@ pub struct EventLoop<G: Gateway> {
     pub(crate) watchers: Vec<usize>,
     pub(crate) views: Views,
     pub(crate) resets: Resets,
-    /// The orders of which it is not known whether they were carried out.
+    /// The orders that may or may not have been carried out.
     pub(crate) unclear: VecDeque<Unclear>,
-    /// A client had not taken all its answers when the connections were last looked at.
+    /// Whether some client had not accepted all its answers when the connections were last checked.
     pub(crate) has_blocked: bool,
-    /// When the server is tried again.
+    /// When the proxy may try to connect to the server again.
     pub(crate) retry_at: Duration,
     /// When connections are accepted again, after a failure.
     pub(crate) accept_at: Duration,
-    /// When connections are looked at whose lines wait, or that take no answers.
+    /// When the connections are next checked for lines that wait too long and clients that accept no answers.
     pub(crate) sweep_at: Duration,
-    /// The moment of this turn.
+    /// The time of the current turn of the loop.
     pub(crate) at: Moment,
 }
 
 impl<G: Gateway> EventLoop<G> {
-    /// Returns a loop over listeners. `signals` is the path of the file that the server's signals are printed to.
+    /// Returns an event loop over these listeners. `signals` is the path of the file that the server's signals are
+    /// printed to.
     pub fn new(
         alloc: Global,
         settings: Settings,
@@ -132,7 +133,7 @@ impl<G: Gateway> EventLoop<G> {
         }
     }
 
-    /// Has each listener's connections reported.
+    /// Registers each listener, so that its connections are reported as events.
     pub(crate) fn register(&mut self, registry: &Registry) -> io::Result<()> {
         for index in 0..self.listeners.len() {
             if let Some(listener) = self.listeners.get_mut(index) {
@@ -143,7 +144,7 @@ impl<G: Gateway> EventLoop<G> {
         Ok(())
     }
 
-    /// Notes what a source was found ready for.
+    /// Records what an event's source is ready for.
     pub(crate) fn note(&mut self, ready: Ready) -> io::Result<()> {
         let token = ready.token;
         if token >= LISTENERS {
@@ -165,7 +166,7 @@ impl<G: Gateway> EventLoop<G> {
         Ok(())
     }
 
-    /// Puts the connection at a place among those that have something to do.
+    /// Adds the connection at a place to the active ones, which have something to do. Errors: out of memory.
     pub(crate) fn activate(&mut self, place: usize) -> Result<(), AllocError> {
         if let Some(connection) = self.connections.get_mut(place) {
             if !connection.is_active {
@@ -176,7 +177,8 @@ impl<G: Gateway> EventLoop<G> {
         Ok(())
     }
 
-    /// Counts one more connection of a role, and returns whether it may have one more. Errors: out of memory.
+    /// Counts one more connection of a role, unless the role has reached its limit. Returns whether the connection was
+    /// counted. Errors: out of memory.
     pub(crate) fn open_one(&mut self, role: Option<u32>) -> Result<bool, AllocError> {
         let role = counted_as(role);
         let open = self.open_in(role);
@@ -187,7 +189,7 @@ impl<G: Gateway> EventLoop<G> {
         Ok(true)
     }
 
-    /// Counts one connection of a role less.
+    /// Counts one connection fewer for a role.
     pub(crate) fn close_one(&mut self, role: Option<u32>) {
         let role = counted_as(role);
         let left = self.open_in(role).saturating_sub(1);
@@ -206,7 +208,7 @@ impl<G: Gateway> EventLoop<G> {
         }
     }
 
-    /// Returns whether the connection of a number is at a place.
+    /// Returns whether the connection at a place has this number.
     pub(crate) fn is_at(&self, place: usize, number: u64) -> bool
         ensures { MatchOption (get self.now.connections place) (result ≡ false) (λ connection. result ≡ (connection.number == number)) }
     {
@@ -216,7 +218,7 @@ impl<G: Gateway> EventLoop<G> {
         }
     }
 
-    /// Returns the number of the connection that comes to a place.
+    /// Returns the number for a new connection at a place, or None if the numbers or the places are used up.
     pub(crate) fn next_number(&mut self, place: usize) -> Option<u64> {
         if self.came >= 1 << 44 || place >= PLACES {
             return None;
@@ -227,7 +229,8 @@ impl<G: Gateway> EventLoop<G> {
     }
 }
 
-/// Returns the role that a connection is counted in: those without one are counted as the proxy's own.
+/// Returns the role that a connection is counted under. A connection without a role is counted under the proxy's own
+/// role.
 fn counted_as(role: Option<u32>) -> u32 {
     role.unwrap_or(0)
 }

@@ -1,4 +1,4 @@
-//! The header that says whose certificate a connection has.
+//! Reads the header that names the client's certificate.
 
 use crate::event_loop::EventLoop;
 use crate::gateway::Gateway;
@@ -7,8 +7,8 @@ use std::alloc::AllocError;
 use std::io::{ErrorKind, Read};
 
 impl<G: Gateway> EventLoop<G> {
-    /// Reads the header of the connection at a place. Returns whether there may be more to do for it. A connection
-    /// without a valid header is ended.
+    /// Reads bytes of the header of the connection at a place. Returns whether there may be more to do for the
+    /// connection. Ends a connection without a valid header. Errors: out of memory.
     pub(crate) fn take_header(&mut self, place: usize) -> Result<bool, AllocError> {
         let Some(connection) = self.connections.get_mut(place) else {
             return Ok(false);
@@ -39,7 +39,9 @@ impl<G: Gateway> EventLoop<G> {
         }
     }
 
-    /// Gives the connection at a place the role of the certificate that its header of this length names.
+    /// Gives the connection at a place the role of the certificate that its header names; the header has this length.
+    /// Ends the connection if there is no such role or the role has reached its limit. Returns whether the connection
+    /// remains.
     fn introduce(&mut self, place: usize, length: usize) -> Result<bool, AllocError> {
         let Some(connection) = self.connections.get_mut(place) else {
             return Ok(false);
@@ -64,7 +66,7 @@ impl<G: Gateway> EventLoop<G> {
             connection.role = Some(role);
         }
         if !self.open_one(Some(role))? {
-            // It is not counted in its role, so it is not taken out of it either. None of its lines was taken yet.
+            // The connection was not counted under its role, so the count stays. None of its lines was taken yet.
             let _ = self.connections.try_remove(place);
             return Ok(false);
         }

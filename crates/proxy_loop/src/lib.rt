@@ -1,8 +1,8 @@
-//! The proxy's event loop over sockets. It calls the core (`proxy_core`) at each event; the core chooses the
-//! lines of each flight, and finds the connection of each answer.
+//! The proxy's event loop over sockets. It calls the core (`proxy_core`) at each event. The core chooses the lines of
+//! each flight, and finds the connection that each answer is for.
 //!
-//! [`EventLoop`] has a method for each event: a connection is accepted, bytes arrive from a client, the server's
-//! connection stands, answers arrive, it breaks, and time passes. `serve` waits for events and calls them.
+//! [`EventLoop`] has methods for all events: a client connects or sends bytes, the connection to the server is
+//! established or breaks, the server answers, and time passes. [`serve`] waits for events and calls these methods.
 #![tactic(auto)]
 
 mod accepting;

@@ -17,14 +17,14 @@ use std::{fs, io};
 #[derive(Drop)]
 pub struct Listener {
     pub(crate) socket: UnixListener,
-    /// None if the client's certificate says who it is, in a header of the PROXY protocol.
+    /// The role of all its clients, or None if a header of the PROXY protocol names each client's certificate.
     pub(crate) role: Option<u32>,
     pub(crate) is_ready: bool,
 }
 
 impl Listener {
-    /// Makes a socket at a path, which its owner alone may open. A socket that was left there is removed. None: another
-    /// process listens there.
+    /// Makes a listening socket at a path, which only the socket's owner may open. Removes a socket that was left at
+    /// the path. Returns None if another process listens there. Errors: the system refuses a call.
     pub fn bind<R: Files + Net>(rt: &R, path: &str, role: Option<u32>) -> io::Result<Option<Self>>
         ensures { IfOk result (λ bound. IfSome bound (λ listener. (listener.role ≡ role) × (listener.is_ready ≡ true))) }
     {
@@ -45,8 +45,8 @@ impl Listener {
         }))
     }
 
-    /// Takes the listening socket that another process opened and passed as this descriptor. Nothing else may use
-    /// the descriptor. Errors: it is no Unix socket.
+    /// Takes the listening socket that another process opened and passed as this descriptor. Nothing else may use the
+    /// descriptor. Errors: the descriptor is not a Unix socket.
     pub fn take(descriptor: u32, role: Option<u32>) -> io::Result<Self>
         ensures role { IfOk result (λ listener. (listener.role ≡ role) × (listener.is_ready ≡ true)) }
         ensures descriptor { IfOk result (λ listener. unix_listener_fd listener.socket ≡ pos descriptor) }
@@ -58,7 +58,7 @@ impl Listener {
         socket.local_addr()?;
         socket.set_nonblocking(true)?;
         let socket = UnixListener::from_std(socket);
-        // The kit's call says nothing of the number.
+        // The contract of `from_std` does not say that the socket keeps its descriptor.
         if socket.as_raw_fd() != number {
             return Err(ErrorKind::InvalidInput.into());
         }
@@ -70,20 +70,20 @@ impl Listener {
     }
 }
 
-/// Returns whether a process listens at the socket of a path.
+/// Returns whether a process listens at the socket at a path.
 fn is_listened_at<R: Net>(rt: &R, path: &str) -> io::Result<bool> {
     match UnixStream::connect(rt, path) {
         Ok(_) => Ok(true),
         Err(error) => match error.kind() {
             ErrorKind::ConnectionRefused => Ok(false),
-            // It has no room for one more.
+            // The listener has no room for another connection.
             ErrorKind::WouldBlock => Ok(true),
             _ => Err(error),
         },
     }
 }
 
-/// Returns the socket of a descriptor.
+/// Returns the listening socket with this descriptor.
 fn socket_of(number: RawFd) -> unix::UnixListener
     requires { pos 0 ≤ℤ number }
 {

@@ -1,4 +1,4 @@
-//! What the proxy asks the server for itself: the last number of its client, and views.
+//! The proxy's own requests to the server, for the last number of its client and for views.
 
 ghost use Rattle.std.specs.Prelude.{◌≡◌, ◌+◌, ◌*◌, ◌^◌, ◌<◌, ◌≤◌, ◌||◌, [], false, None};
 ghost use Rattle.std.specs.Duration.{as_nanos};
@@ -13,19 +13,19 @@ use std::alloc::{AllocError, Global};
 use std::collections::VecDeque;
 use std::time::Duration;
 
-/// The most probes at once.
+/// The maximum number of probes that are sent at once.
 const MOST_PROBES: u32 = 32;
 
 const SHOW: &[u8] = b"{\"op\":\"show\"}";
 
 const NUMBER_REUSED: &[u8] = b"{\"name\":\"NumberReused\",\"refused\":5}";
 
-/// A line of the proxy that has no answer.
+/// A line of the proxy itself that has no answer yet.
 #[derive(Clone, Copy, Debug)]
 pub(crate) enum OwnLine {
-    /// An order with this number, which the server refuses.
+    /// An order with this number, which the server refuses in any case.
     Probe(u64),
-    /// A view.
+    /// A request for a view.
     Show,
 }
 
@@ -35,19 +35,19 @@ pub(crate) struct Own {
     pub number: u64,
     pub asked: VecDeque<OwnLine>,
     pub search: Option<NumberSearch>,
-    /// The last number that was found.
+    /// The last number of the proxy's client when it was last found.
     pub last: u64,
     pub wants_view: bool,
-    /// A view was asked for, and its answer has not come.
+    /// Whether a view was requested that has not arrived.
     pub awaits_view: bool,
-    /// How many views were asked for.
+    /// The number of views that were requested.
     pub views: u64,
-    /// When probes are sent again, after an answer that says nothing of the number.
+    /// When probes may be sent again, after an answer that implied nothing about the number.
     pub probe_at: Duration,
 }
 
 impl Own {
-    /// Returns the proxy's own connection, for which nothing was asked.
+    /// Returns the proxy's own connection before its first request.
     pub fn new(alloc: Global) -> Self
         ensures none { (result.number ≡ 0) × (result.asked.items ≡ []) × (result.search ≡ None) × (result.last ≡ 0) × (as_nanos result.probe_at ≡ 0) }
         ensures blind { (result.wants_view ≡ false) × (result.awaits_view ≡ false) × (result.views ≡ 0) }
@@ -64,7 +64,8 @@ impl Own {
         }
     }
 
-    /// Begins again as a new connection, after an answer that leaves open what became of a line.
+    /// Begins again as a new connection, after an answer that left open what became of a line. Drops all unanswered
+    /// requests; a requested view will be requested again.
     pub fn begin_again(&mut self, came: &mut u64)
         ensures number { came.old < 2 ^ 43 → (came.new ≡ came.old + 1) × (self.new.number ≡ came.old * 2 ^ 20) }
         ensures last { 2 ^ 43 ≤ came.old → (came.new ≡ came.old) × (self.new.number ≡ self.old.number) }
@@ -84,7 +85,8 @@ impl Own {
 }
 
 impl<G: Gateway> EventLoop<G> {
-    /// Asks for what the proxy itself wants to know.
+    /// Makes the proxy's own requests that are due: probes for the last number, and a request for a view. Errors: out
+    /// of memory.
     pub(crate) fn ask_for_itself(&mut self) -> Result<(), AllocError> {
         if self.wants_number() && self.at.now >= self.own.probe_at {
             self.send_probes()?;
@@ -99,14 +101,15 @@ impl<G: Gateway> EventLoop<G> {
         Ok(())
     }
 
-    /// Returns whether the last number is to be found: lines wait, perhaps unnumbered orders, and no probe is out.
+    /// Returns whether the proxy should search for the last number: the number is unknown, some line, reset or unclear
+    /// order waits, and no request of the proxy is unanswered.
     pub(crate) fn wants_number(&self) -> bool {
         !self.core.is_counted()
             && self.own.asked.is_empty()
             && !(self.core.is_idle() && self.has_nothing_to_settle())
     }
 
-    /// Returns whether no reset waits for a view, and no order for the last number.
+    /// Returns whether no reset waits for a view and no unclear order waits for the last number.
     pub(crate) fn has_nothing_to_settle(&self) -> bool {
         self.resets.waiting.is_empty() && self.unclear.is_empty()
     }
@@ -125,7 +128,7 @@ impl<G: Gateway> EventLoop<G> {
         Ok(())
     }
 
-    /// Gives the core a line of the proxy. Returns whether it was taken.
+    /// Passes a line of the proxy to the core. Returns whether the core took the line. Errors: out of memory.
     fn ask(&mut self, line: &[u8], own_line: OwnLine) -> Result<bool, AllocError> {
         self.own.asked.reserve(1)?;
         let role = self.gateway.own_role();
@@ -139,7 +142,7 @@ impl<G: Gateway> EventLoop<G> {
         Ok(false)
     }
 
-    /// Takes an answer to a line of the proxy.
+    /// Handles the answer to the oldest line of the proxy. Errors: out of memory.
     pub(crate) fn hear_own(&mut self, answer: &[u8]) -> Result<(), AllocError> {
         match self.own.asked.pop_front() {
             Some(OwnLine::Probe(number)) => self.hear_probe(number, answer),
@@ -151,7 +154,7 @@ impl<G: Gateway> EventLoop<G> {
         }
     }
 
-    /// Takes an answer to the order with this number that the server refuses in any case.
+    /// Handles the answer to the probe with this number. Errors: out of memory.
     fn hear_probe(&mut self, number: u64, answer: &[u8]) -> Result<(), AllocError> {
         if self.core.is_counted() {
             return Ok(());

@@ -1,22 +1,22 @@
-//! An event of a source.
+//! An event, and what its source is ready for.
 
 ghost use Rattle.std.specs.Prelude.{◌≡◌, ◌||◌};
 ghost use Rattle.mio.specs.Event.{event_token, is_error, is_read_closed, is_readable, is_writable};
 
 use mio::event::Event;
 
-/// What a source was found ready for.
+/// What an event's source is ready for.
 #[derive(Clone, Copy)]
 pub(crate) struct Ready {
     pub token: usize,
     pub is_readable: bool,
     pub is_writable: bool,
-    /// The other end sends no more, or the source has failed.
+    /// Whether the other end sends no more bytes or the source has failed.
     pub is_closing: bool,
 }
 
 impl Ready {
-    /// Returns what an event says.
+    /// Returns the token of an event, and what its source is ready for.
     pub fn of(event: &Event) -> Self
         ensures token { result.token ≡ (event_token event.now).0 }
         ensures ready { (result.is_readable ≡ is_readable event.now) × (result.is_writable ≡ is_writable event.now) }

@@ -1,4 +1,4 @@
-//! The audit: a client's answer is recorded before it is appended to what its client is sent, and what was recorded is
+//! The order of the audit: an answer is recorded before it is appended to the bytes for its client, and all records are
 //! written before anything is sent.
 
 ghost use Rattle.std.specs.Prelude.{◌≡◌, IfOk};
@@ -7,7 +7,7 @@ use crate::gateway::{Exchange, Gateway};
 use std::alloc::{AllocError, Global};
 use std::fs::{File, Files};
 
-/// An answer that was recorded. Only `record` makes one.
+/// An answer that was recorded. Only `record` makes such a value.
 #[derive(Drop)]
 pub(crate) struct Recorded<'a> {
     answer: &'a [u8],
@@ -35,13 +35,13 @@ pub(crate) fn record<'l, 'a, G: Gateway>(
     })
 }
 
-/// All that was recorded is written. Only `write` makes one, and nothing can be recorded as long as it is there.
+/// Shows that all records are written. Only `write` makes such a value, and nothing can be recorded while it exists.
 #[derive(Drop)]
 pub(crate) struct Written<'a, G: Gateway> {
     _gateway: &'a G,
 }
 
-/// Writes what was recorded.
+/// Writes all records.
 pub(crate) fn write<'a, R: Files<File = File> + AllocGlobal + Print + Eprint, G: Gateway>(
     rt: &R,
     gateway: &'a mut G,

@@ -1,4 +1,4 @@
-//! A policy that changes.
+//! Applies changes of the policy.
 
 use crate::event_loop::EventLoop;
 use crate::gateway::Gateway;
@@ -7,7 +7,8 @@ use std::fs::{File, Files};
 use std::time::Clock;
 
 impl<G: Gateway> EventLoop<G> {
-    /// Takes a new policy if there is one. Connections that lost a right that they use are ended.
+    /// Refreshes the gateway if that is due. If the policy has changed, ends the connections that
+    /// have lost a right that they use. Errors: out of memory.
     pub(crate) fn refresh<R: Files<File = File> + AllocGlobal + Clock + Print + Eprint>(
         &mut self,
         rt: &R,

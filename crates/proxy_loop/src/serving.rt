@@ -1,4 +1,4 @@
-//! The loop itself.
+//! Runs the event loop.
 
 ghost use Rattle.std.specs.Prelude.{IsErr};
 
@@ -15,12 +15,12 @@ use std::time::{Clock, Duration, SystemTime};
 
 const MOST_EVENTS: usize = 1024;
 
-/// Serves the connections of all listeners. It returns only if the system refuses a wait, or memory is out.
+/// Serves the connections of all listeners. Returns only with an error: the system refuses a call, or memory runs out.
 ///
-/// It has no contract for the time until then. The types ensure that an answer of the server is appended to the bytes for
-/// a client only as a `Recorded`, which `record` alone makes, and that bytes are sent to a client only beside a `Written`,
-/// which `write` alone makes, and during which nothing can be recorded. The flight is written to the server by `push_flight`
-/// alone.
+/// No contract describes the loop until then, but its types ensure the order of the audit. An answer of the server is
+/// appended to the bytes for a client only as a `Recorded`, which only `record` makes. Bytes are sent to a client only
+/// with a `Written`, which only `write` makes; while it exists, nothing can be recorded. Only `push_flight` writes the
+/// flight to the server.
 pub fn serve<R: Net + Files<File = File> + AllocGlobal + Clock + Wait + Print + Eprint, G: Gateway>(
     rt: &R,
     event_loop: &mut EventLoop<G>,
@@ -49,8 +49,8 @@ pub fn serve<R: Net + Files<File = File> + AllocGlobal + Clock + Wait + Print + 
 }
 
 impl<G: Gateway> EventLoop<G> {
-    /// Does what the events made possible, and then ends what is silent or late by the time of the events, however long
-    /// the turn takes. The time of a flight that it sends at last begins after all that.
+    /// Does the work that the events made possible, then ends whatever was silent or late when the events came, and last
+    /// sends the next flight. The time of that flight is read just before, so a long turn does not count against it.
     fn turn<R: Net + Files<File = File> + AllocGlobal + Clock + Print + Eprint>(
         &mut self,
         rt: &R,
@@ -66,7 +66,7 @@ impl<G: Gateway> EventLoop<G> {
         self.drive(rt, registry)
     }
 
-    /// Reports on standard error that the server answers or is away, when that changes.
+    /// Reports on standard error whether the server answers, each time this changes.
     fn report<R: Eprint>(&mut self, rt: &R) -> io::Result<()> {
         if self.reported == self.is_answering {
             return Ok(());
@@ -81,7 +81,7 @@ impl<G: Gateway> EventLoop<G> {
     }
 }
 
-/// Returns the moment that it is.
+/// Returns the present moment by both clocks.
 fn moment<R: Clock>(rt: &R) -> io::Result<Moment> {
     Ok(Moment {
         now: rt.monotonic()?,

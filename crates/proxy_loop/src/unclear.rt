@@ -1,5 +1,6 @@
-//! Orders of which nobody knows whether they were carried out, until the last number of the proxy's client is found: the
-//! number of each was used by that order alone, so the order was carried out if its number is at most the last one.
+//! Unclear orders: the proxy does not know whether they were carried out, until it finds the last number of its client.
+//! Each order's number was used for that order alone, so the order was carried out if its number is at most the last
+//! number.
 
 use crate::connection::NOT_ALLOWED;
 use crate::event_loop::EventLoop;
@@ -9,23 +10,23 @@ use crate::recording::record;
 use proxy_core::Admission;
 use std::alloc::AllocError;
 
-/// The answer to an order that was carried out, and whose reply was lost with the server's connection.
+/// The answer to an order that was carried out, but whose reply was lost with the connection to the server.
 const CARRIED_OUT: &[u8] = b"{\"kind\":\"carried out\",\"step\":0}";
 
-/// An order that was sent with a number of the proxy, and whose answer was lost.
+/// An order that was sent with a number of the proxy's client, and whose outcome is unknown.
 #[derive(Drop)]
 pub(crate) struct Unclear {
-    /// The number of its connection.
+    /// The number of the order's connection.
     pub connection: u64,
-    /// The number that it was sent with.
+    /// The number that the order was sent with.
     pub number: u64,
-    /// Its line; None: a reset that names an epoch, which is still the next line of its connection.
+    /// The order's line. None for a reset that names an epoch: its line is still the connection's next line.
     pub line: Option<Vec<u8>>,
 }
 
 impl<G: Gateway> EventLoop<G> {
-    /// Keeps the order that was just answered, which was sent with this number, the only line of the connection at a
-    /// place that has no answer.
+    /// Keeps the order that was just answered, and was sent with this number, as unclear. The order must be the only
+    /// unanswered line of the connection at the place. Errors: out of memory.
     pub(crate) fn keep_unclear(&mut self, place: usize, number: u64) -> Result<(), AllocError> {
         let line = Vec::from_slice(self.alloc, self.order.as_slice())?;
         let Some(connection) = self.renumber(place)? else {
@@ -42,8 +43,9 @@ impl<G: Gateway> EventLoop<G> {
         Ok(())
     }
 
-    /// Answers each such order whose number is at most the last one, which was just found. The others were not carried
-    /// out: they are sent, and resets that name an epoch are judged again.
+    /// Decides all unclear orders by the last number, which was just found. Orders with a number up to it were carried
+    /// out, and are answered. The others were not: a reset that names an epoch is judged again, and any other order is
+    /// sent again. Errors: out of memory.
     pub(crate) fn clear_up(&mut self, last: u64) -> Result<(), AllocError> {
         for _ in 0..self.unclear.len() {
             let Some(unclear) = self.unclear.pop_front() else {
@@ -84,7 +86,7 @@ impl<G: Gateway> EventLoop<G> {
         }
     }
 
-    /// Gives an order to the core again, which was not carried out.
+    /// Passes an order that was not carried out to the core again.
     fn ask_again(&mut self, place: usize, line: &[u8]) -> Result<(), AllocError> {
         let Some(connection) = self.connections.get_mut(place) else {
             return Ok(());
@@ -108,7 +110,8 @@ impl<G: Gateway> EventLoop<G> {
         }
     }
 
-    /// Answers the oldest line of the connection at a place that has no answer, after it was recorded.
+    /// Records an answer to the oldest unanswered line of the connection at a place, and then gives the connection the
+    /// answer.
     fn answer_itself(
         &mut self,
         place: usize,

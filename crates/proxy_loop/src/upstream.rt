@@ -22,17 +22,18 @@ pub(crate) struct Server {
     pub lines: ServerLines,
     pub outbox: Outbox,
     pub is_connected: bool,
-    /// There may be bytes to read.
+    /// Whether there may be bytes to read.
     pub is_readable: bool,
-    /// The server sends no more: what there is is read up to its end.
+    /// Whether the server sends no more bytes. The loop still reads all bytes that arrived.
     pub is_closing: bool,
-    /// When the connection stood.
+    /// When the connection was established; until then, when the attempt began.
     pub since: Duration,
-    /// A flight was sent.
+    /// Whether a flight was sent over this connection.
     pub is_used: bool,
-    /// When the flight was sent, or its last whole answer came; before that, when the connection began.
+    /// When the flight was sent, or when its last whole answer arrived; before the first flight, when the attempt to
+    /// connect began.
     pub heard: Duration,
-    /// Since when nobody asks.
+    /// Since when no line waits for an answer, or None if a line waits.
     pub idle_since: Option<Duration>,
 }
 
@@ -54,7 +55,7 @@ impl Server {
 }
 
 impl<G: Gateway> EventLoop<G> {
-    /// Connects to the server, or sends the next flight, if something waits.
+    /// Connects to the server or sends the next flight, if a line waits.
     pub(crate) fn drive<R: Net>(&mut self, rt: &R, registry: &Registry) -> io::Result<()> {
         self.drive_server(rt, registry)?;
         Ok(self.release()?)
@@ -111,7 +112,7 @@ impl<G: Gateway> EventLoop<G> {
         Ok(())
     }
 
-    /// Writes the flight as one text.
+    /// Writes the flight to the server as one text.
     fn write_flight(&mut self) -> Result<(), AllocError> {
         let Some(server) = self.server.as_mut() else {
             return Ok(());
@@ -122,7 +123,7 @@ impl<G: Gateway> EventLoop<G> {
         self.send_flight()
     }
 
-    /// Sends what the server has not taken yet.
+    /// Sends the bytes that the server has not accepted yet.
     fn send_flight(&mut self) -> Result<(), AllocError> {
         if let Some(server) = self.server.as_mut() {
             if server.outbox.send(&mut server.stream) == Sending::Failed {
@@ -132,13 +133,13 @@ impl<G: Gateway> EventLoop<G> {
         Ok(())
     }
 
-    /// Leaves the server's connection, on which nothing is in flight, so that others reach the server.
+    /// Closes the connection to the server so that others can reach the server. Nothing may be in flight.
     pub(crate) fn let_go(&mut self) -> Result<(), AllocError> {
         self.server = None;
         self.note_lost()
     }
 
-    /// Leaves the server's connection, which broke or is silent. The next address is tried after a pause.
+    /// Closes the connection to the server, which broke or is silent. The proxy tries the next address after a pause.
     pub(crate) fn lose_server(&mut self) -> Result<(), AllocError> {
         self.server = None;
         self.wait_for_next();
@@ -159,7 +160,7 @@ impl<G: Gateway> EventLoop<G> {
         self.retry_at = self.at.now.saturating_add(pause);
     }
 
-    /// Notes what the server's connection was found ready for.
+    /// Handles an event of the server's connection.
     pub(crate) fn server_ready(&mut self, ready: Ready) -> io::Result<()> {
         let Some(server) = self.server.as_mut() else {
             return Ok(());
@@ -200,7 +201,7 @@ impl<G: Gateway> EventLoop<G> {
         Ok(())
     }
 
-    /// Returns whether the server has given no whole answer for too long.
+    /// Returns the time from which the server counts as silent, or None if the proxy waits for nothing from it.
     pub(crate) fn silent_at(&self) -> Option<Duration> {
         match &self.server {
             Some(server) if !server.is_connected || self.in_flight > 0 => {
@@ -210,7 +211,8 @@ impl<G: Gateway> EventLoop<G> {
         }
     }
 
-    /// Returns when the server's connection has been idle for long enough.
+    /// Returns the time when the server's connection will have been idle for long enough to be closed, or None if it is
+    /// not idle.
     pub(crate) fn idle_at(&self) -> Option<Duration> {
         match &self.server {
             Some(server) if server.is_connected => match server.idle_since {
@@ -222,7 +224,7 @@ impl<G: Gateway> EventLoop<G> {
     }
 }
 
-/// Appends the flight to the bytes for the server. Errors: out of memory.
+/// Appends the flight to the bytes for the server. Errors: out of memory; nothing changes.
 fn push_flight<G: Gateway>(
     alloc: Global,
     gateway: &G,

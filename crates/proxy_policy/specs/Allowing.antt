@@ -16,8 +16,8 @@ abbrev pub is_proxy_client : Option ℕ → Bool
 is_proxy_client None = false
 is_proxy_client (Some c) = c == PROXY_CLIENT
 
--- whether a rule's list of clients or nodes permits this one; None permits all, and every list permits a
--- request without a client or a node
+-- whether a rule's list of clients permits the client of a request: None permits every client, and every list permits a
+-- request without a client; may_name is the same for nodes
 abbrev pub may_use : Option (Vec ℕ Global) → Option ℕ → Bool
 may_use None one = true
 may_use (Some all) None = true
@@ -41,7 +41,7 @@ rule_allows rule principal r =
 abbrev pub allows : List Rule → List ℕ → Request → Bool
 allows rules principal r = not (is_proxy_client (client_of r)) && list_any (λ rule. rule_allows rule principal r) rules
 
--- whether an op permits more than to see the nodes and links
+-- whether an op does more than show the nodes and links
 abbrev pub is_order_op : Op → Bool
 is_order_op Show = false
 is_order_op Watch = false
@@ -50,6 +50,6 @@ is_order_op op = true
 abbrev pub lets_order : Rule → List ℕ → Bool
 lets_order rule principal = list_any (λ name. bytes_eq (string_bytes name) principal) rule.principals.items && list_any is_order_op rule.ops.items
 
--- whether some rule lists the principal together with such an op
+-- whether some rule lists the principal and such an op
 abbrev pub may_order : List Rule → List ℕ → Bool
 may_order rules principal = list_any (λ rule. lets_order rule principal) rules

@@ -17,7 +17,7 @@ abbrev pub limit_text : List ℕ → Option (Vec ℕ Global) → List ℕ
 limit_text name None = []
 limit_text name (Some numbers) = name ++ numbers_text numbers.items
 
--- a rule's ops, and its clients and nodes if it lists any
+-- a rule's ops, followed by its clients and nodes if the rule lists any
 abbrev pub rule_text : Rule → List ℕ
 rule_text rule = op_texts rule.ops.items ++ (limit_text (codes ", as clients") rule.clients ++ limit_text (codes ", at nodes") rule.nodes)
 

@@ -12,7 +12,7 @@ abbrev pub or_bad_value : Option (List Content) → Result (List Content) Policy
 or_bad_value None = Err BadValue
 or_bad_value (Some rules) = Ok rules
 
--- the rules of a table; its keys are checked before its values
+-- the rules in a table, or a fault; the table's keys are checked before its values
 abbrev pub rules_of : Members → Result (List Content) PolicyFault
 rules_of ms = if has_right_keys ms then or_bad_value (rules_in (get_member (codes "allow") ms)) else Err BadKey
 
@@ -20,6 +20,6 @@ abbrev pub rules_if : Option Members → Result (List Content) PolicyFault
 rules_if None = Err NotToml
 rules_if (Some ms) = rules_of ms
 
--- the rules of a text; a text that is too long has none
+-- the rules in a text, or a fault; a text longer than MAX_POLICY_BYTES is a fault
 abbrev pub reading : List ℕ → Result (List Content) PolicyFault
 reading text = if nat_le (length text) MAX_POLICY_BYTES then rules_if (parse_document text) else Err NotToml

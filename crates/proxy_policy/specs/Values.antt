@@ -45,7 +45,7 @@ abbrev pub in_front : {X : Type 0} → Option X → Option (List X) → Option (
 in_front (Some x) (Some xs) = Some (x ∷ xs)
 in_front x xs = None
 
--- the values of the items, if each item has one
+-- the values that `read` finds in the items, if it finds one in every item
 abbrev pub each : {X : Type 0} → (Data → Option X) → Items → Option (List X)
 each read no_items = Some []
 each read (item d ds) = in_front (read d) (each read ds)
@@ -66,7 +66,7 @@ abbrev pub limit_in : {X : Type 0} → (Data → Option X) → Option Data → O
 limit_in read None = Some None
 limit_in read (Some d) = option_map Some (list_in read d)
 
--- the list at a key that may be absent; an inner None means that everything is permitted
+-- the list at a key that may be absent; the inner None means that the key is absent, so everything is permitted
 unfoldable pub limit_at : {X : Type 0} → (Data → Option X) → List ℕ → Members → Option (Option (List X))
 limit_at read key ms = limit_in read (get_member key ms)
 
@@ -80,7 +80,7 @@ rule_in (table ms) =
     rule_with (list_at name_in (codes "principals") ms) (list_at op_in (codes "ops") ms) (limit_at client_in (codes "clients") ms) (limit_at node_in (codes "nodes") ms)
 rule_in other = None
 
--- the rules at the key `rules`; a policy without rules allows nothing
+-- the rules in the value at the key `allow`; a policy without this key has no rules, and allows nothing
 unfoldable pub rules_in : Option Data → Option (List Content)
 rules_in None = Some []
 rules_in (Some (array ds)) = each rule_in ds

@@ -19,7 +19,7 @@ impl Policy {
             && some_rule_allows(self.rules.as_slice(), principal, request)
     }
 
-    /// Tests whether a rule allows a principal more than to show and to watch.
+    /// Tests whether some rule allows a principal an op other than `show` and `watch`.
     pub fn may_order(&self, principal: &str) -> bool
         ensures { result ≡ may_order self.now.rules.items principal.now }
     {

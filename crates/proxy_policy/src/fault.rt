@@ -16,7 +16,7 @@ pub enum PolicyFault {
     NotToml,
     /// A key is missing or unknown.
     BadKey,
-    /// A value has the wrong type, or is out of its limits.
+    /// A value has the wrong type or is outside its limits.
     BadValue,
 }
 

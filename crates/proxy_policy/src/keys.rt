@@ -28,7 +28,7 @@ fn is_among(names: &[&str], key: &str) -> bool
     false
 }
 
-/// Tests whether the table has no other keys than these.
+/// Tests whether the table has only these keys.
 fn has_only(names: &[&str], table: &Table) -> bool
     ensures { result ≡ has_only (map (λ name. name.now) names.now) (table_view table.now) }
 {
@@ -52,7 +52,7 @@ fn has_all(names: &[&str], table: &Table) -> bool
     true
 }
 
-/// Tests whether the value, if it is a table, has only known keys, and all the needed ones.
+/// Tests whether the value, if it is a table, has only known keys and all needed keys.
 fn has_keys(known: &[&str], needed: &[&str], value: &Value) -> bool
     ensures { result ≡ has_keys (map (λ name. name.now) known.now) (map (λ name. name.now) needed.now) (view value.now) }
 {
@@ -62,7 +62,7 @@ fn has_keys(known: &[&str], needed: &[&str], value: &Value) -> bool
     }
 }
 
-/// Tests whether each table in an array has only known keys, and all the needed ones.
+/// Tests whether each table in an array has only known keys and all needed keys.
 fn items_have_keys(known: &[&str], needed: &[&str], array: &Array) -> bool
     ensures { result ≡ items_have_keys (map (λ name. name.now) known.now) (map (λ name. name.now) needed.now) (array_view array.now) }
 {
@@ -74,8 +74,8 @@ fn items_have_keys(known: &[&str], needed: &[&str], array: &Array) -> bool
     true
 }
 
-/// Tests whether each table in the array at this key, if there is one, has only known keys, and all the
-/// needed ones.
+/// Tests whether each table in the array at this key has only known keys and all needed keys. Returns true if there is
+/// no array at the key.
 fn entries_have_keys(known: &[&str], needed: &[&str], table: &Table, key: &str) -> bool
     ensures { result ≡ entries_have_keys (map (λ name. name.now) known.now) (map (λ name. name.now) needed.now)
         (get_member key.now (table_view table.now)) }

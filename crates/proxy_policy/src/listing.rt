@@ -9,8 +9,8 @@ use proxy_request::Op;
 use std::alloc::AllocError;
 
 impl Policy {
-    /// Appends a line for each principal of each rule: its ops, and the rule's clients and nodes if it
-    /// lists any. Returns an error if memory runs out.
+    /// Appends a line for each principal of each rule: the principal, and the rule's ops, clients and nodes. Clients
+    /// and nodes appear only if the rule lists any. Errors: out of memory.
     pub fn print(&self, text: &mut String) -> Result<(), AllocError>
         ensures { OnOk result (string_bytes text.new ≡ string_bytes text.old ++ listed self.now.rules.items) }
     {

@@ -5,8 +5,8 @@ ghost use Rattle.proxy_policy.specs.Names.{is_principal, is_socket_byte, is_sock
 
 use proxy_header::{MOST_NAME_BYTES, is_common_name};
 
-/// Tests whether these bytes are the name of a principal: the name of a socket, or `certificate:` and
-/// the common name of a certificate.
+/// Tests whether these bytes are the name of a principal: either the name of a socket, or `certificate:` followed by a
+/// certificate's common name.
 #[tactic(auto, unfolding(crate::specs::Names::is_principal))]
 pub fn is_principal(name: &[u8]) -> bool
     ensures { result ≡ is_principal name.now }

@@ -16,9 +16,9 @@ pub const MAX_POLICY_BYTES: usize = 1_048_576;
 
 /// Returns the rules of a policy's text.
 ///
-/// Errors: `NotToml` if the text has more than `MAX_POLICY_BYTES` or the crate `toml` does not accept
-/// it as a table; `BadKey` if a key is missing or unknown; `BadValue` if all keys are right and some
-/// value is wrong; `OutOfMemory`, except for a text that is too long.
+/// Errors: `NotToml` if the text has more than `MAX_POLICY_BYTES` bytes, or the crate `toml` does not accept it as a
+/// table; `BadKey` if a key is missing or unknown; `BadValue` if all keys are right and some value is wrong;
+/// `OutOfMemory`, but never for a text that is too long.
 pub fn read_policy(alloc: Global, text: &str) -> Result<Policy, PolicyFault>
     ensures ok { IfOk result (λ policy. reading text.now ≡ Ok (map content policy.rules.items)) }
     ensures refused { IfErr result (λ fault. fault ≢ OutOfMemory → reading text.now ≡ Err fault) }

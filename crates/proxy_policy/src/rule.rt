@@ -3,16 +3,16 @@
 use coord_types::{Client, NodeId};
 use proxy_request::Op;
 
-/// A rule: its principals, and the requests that it allows them.
+/// A rule: some principals, and the requests that the rule allows them.
 #[derive(Debug, Drop)]
 pub struct Rule {
-    /// The principals, at least one. Each is the name of a socket, or `certificate:` and a common name.
+    /// The principals, at least one. Each is the name of a socket, or `certificate:` followed by a common name.
     pub principals: Vec<String>,
     /// The allowed ops, at least one.
     pub ops: Vec<Op>,
-    /// The clients whose orders are allowed, at least one, or None for all.
+    /// The clients whose orders are allowed, at least one; None allows all clients.
     pub clients: Option<Vec<Client>>,
-    /// The nodes that a request may name, at least one, or None for all.
+    /// The nodes that a request may name, at least one; None allows all nodes.
     pub nodes: Option<Vec<NodeId>>,
 }
 

@@ -1,8 +1,8 @@
-//! Worked examples of texts: each is the contract of an empty function, computed from the definitions.
+//! Worked examples of policy texts. Each is the contract of an empty function, computed from the definitions.
 
 ghost use Rattle.proxy_policy.specs.WorkedTexts.{GoodTexts, WrongKeys, WrongTexts, WrongValues};
 
-/// Texts that are policies.
+/// Texts that are valid policies.
 #[tactic(auto, using(crate::proofs::Computes::good_compute))]
 pub fn good_texts()
     ensures { GoodTexts }

@@ -20,7 +20,7 @@ use toml::{Table, Value};
 trait Entry: Drop {
     ghost reads: { Data → Option Self };
 
-    /// Returns the entry that a value contains, or None if it contains none.
+    /// Returns the entry that a value contains, or None if the value is not an entry.
     fn of(value: &Value) -> Option<Self>
         ensures { result ≡ reads (view value.now) };
 }
@@ -49,7 +49,8 @@ impl Entry for NodeId {
     }
 }
 
-/// Returns the entries of an array. Each item must be an entry.
+/// Returns the entries of an array. Errors: out of memory, or `BadValue` if an item is not an
+/// entry.
 fn each<E: Entry>(alloc: Global, array: &Array) -> Result<Vec<E>, PolicyFault>
     ensures ok { IfOk result (λ entries. each E.reads (array_view array.now) ≡ Some entries.items) }
     ensures bad { IfErr result (λ fault. fault ≢ OutOfMemory →
@@ -65,7 +66,8 @@ fn each<E: Entry>(alloc: Global, array: &Array) -> Result<Vec<E>, PolicyFault>
     Ok(entries)
 }
 
-/// Returns the entries of an array, which must have at least one.
+/// Returns the entries of a nonempty array. Errors: out of memory, or `BadValue` if the value is no
+/// such array.
 fn list_of<E: Entry>(alloc: Global, value: &Value) -> Result<Vec<E>, PolicyFault>
     ensures ok { IfOk result (λ entries. list_in E.reads (view value.now) ≡ Some entries.items) }
     ensures bad { IfErr result (λ fault. fault ≢ OutOfMemory →
@@ -81,7 +83,7 @@ fn list_of<E: Entry>(alloc: Global, value: &Value) -> Result<Vec<E>, PolicyFault
     Ok(entries)
 }
 
-/// Returns the entries at a key, at least one.
+/// Returns the entries at a key, at least one. Errors: out of memory, or `BadValue`.
 #[tactic(auto, unfolding(crate::specs::Values::list_at))]
 fn list_at<E: Entry>(alloc: Global, table: &Table, key: &str) -> Result<Vec<E>, PolicyFault>
     ensures ok { IfOk result (λ entries. list_at E.reads key.now (table_view table.now) ≡ Some entries.items) }
@@ -94,7 +96,8 @@ fn list_at<E: Entry>(alloc: Global, table: &Table, key: &str) -> Result<Vec<E>, 
     }
 }
 
-/// Returns the entries at a key, or None if the key is absent.
+/// Returns the entries at a key, at least one, or None if the key is absent. Errors: out of memory,
+/// or `BadValue`.
 #[tactic(auto, unfolding(crate::specs::Values::limit_at))]
 fn limit_at<E: Entry>(
     alloc: Global,
@@ -114,7 +117,7 @@ fn limit_at<E: Entry>(
     }
 }
 
-/// Returns the name of the principal that a value contains.
+/// Returns the principal's name that a value contains. Errors: out of memory, or `BadValue`.
 fn name_of(alloc: Global, value: &Value) -> Result<String, PolicyFault>
     ensures ok { IfOk result (λ name. name_in (view value.now) ≡ Some (string_bytes name)) }
     ensures bad { IfErr result (λ fault. fault ≢ OutOfMemory →
@@ -143,7 +146,7 @@ fn each_name(alloc: Global, array: &Array) -> Result<Vec<String>, PolicyFault>
     Ok(names)
 }
 
-/// Returns the principals of a rule, at least one.
+/// Returns the principals of a rule, at least one. Errors: out of memory, or `BadValue`.
 #[tactic(auto, unfolding(crate::specs::Values::list_at))]
 fn names_at(alloc: Global, table: &Table) -> Result<Vec<String>, PolicyFault>
     ensures ok { IfOk result (λ names. list_at name_in (codes "principals") (table_view table.now) ≡ Some (map string_bytes names.items)) }
@@ -191,7 +194,8 @@ fn each_rule(alloc: Global, array: &Array) -> Result<Vec<Rule>, PolicyFault>
     Ok(rules)
 }
 
-/// Returns the rules of a policy, in order, or an empty list if the key `rules` is absent.
+/// Returns the rules of a policy, in order, or an empty list if the key `allow` is absent. Errors:
+/// out of memory, or `BadValue`.
 #[tactic(auto, unfolding(crate::specs::Values::rules_in))]
 pub fn rules_of(alloc: Global, table: &Table) -> Result<Vec<Rule>, PolicyFault>
     ensures ok { IfOk result (λ rules. rules_in (get_member (codes "allow") (table_view table.now)) ≡ Some (map content rules.items)) }

@@ -41,7 +41,7 @@ is_of_order NumberReused = false
 is_of_order PendingFull = false
 is_of_order r = true
 
--- The bytes of each reply to an order, and of each refusal, are classified by its meaning.
+-- The tests on an answer's bytes classify each reply to an order and each refusal by its meaning.
 pub record AnswersAreClassified : Type 0 where
   pub replies : AllByRecursion (λ row. (step : ℕ) → is_reply (compact_text (reply (Replied (record { step = step; kind = row.1 })))) ≡ true) kinds
   pub refusals : AllByRecursion (λ row. (is_reply (compact_text (reply (Refused row.1))) ≡ false) × (refuses_number (compact_text (reply (Refused row.1))) ≡ is_of_number row.1) × (is_refusal (compact_text (reply (Refused row.1))) ≡ is_of_order row.1)) refusals

@@ -43,8 +43,8 @@ reset_of d = option_and_then (λ u. Some (Reset u)) (admin.node_at (codes "node"
 abbrev pub reset_at_of : Data → Option Request
 reset_at_of d = admin.with_both (λ u e. ResetAt u e) (admin.node_at (codes "node") d) (admin.number_at (codes "epoch") d)
 
--- The request of an op with this number of members. The number distinguishes the forms that only the proxy
--- has from those of the server.
+-- The request in a JSON object with this op and this number of members. The number distinguishes the forms that only
+-- the proxy accepts from the server's forms.
 abbrev pub request_by : List ℕ → ℕ → Data → Result Request LineFault
 request_by name members d =
     if bytes_eq name (codes "watch") then (if members == 1 then Ok Watch else Err BadRequest)
@@ -57,7 +57,7 @@ abbrev pub request_named : Data → Option (List ℕ) → Result Request LineFau
 request_named d None = Err BadRequest
 request_named d (Some name) = request_by name (admin.member_count d) d
 
--- the request of a JSON value; a value that is not an object has no `op`, and so makes no request
+-- the request in a JSON value; a value that is not an object has no `op`, so it is no request
 abbrev pub request_of : Data → Result Request LineFault
 request_of d = request_named d (option_and_then as_str (get (codes "op") d))
 
@@ -68,7 +68,7 @@ request_if (Some d) = request_of d
 unfoldable pub asked_in : List ℕ → Result Request LineFault
 asked_in text = request_if (read text)
 
--- the request of a line, or the first fault that applies
+-- the request in a line, or the first fault that applies
 abbrev pub asked_by : Line → Result Request LineFault
 asked_by None = Err TooLong
 asked_by (Some bytes) = if is_utf8 bytes then asked_in bytes else Err BadText
@@ -107,7 +107,7 @@ command_node (command.Drop a b) = a
 command_node (command.Reset u) = u
 command_node (command.Confirm u e) = u
 
--- the nodes that a request names: the first, and for a link the second
+-- the first node that a request names; second_node_of is the other end of a link
 abbrev pub first_node_of : Request → Option ℕ
 first_node_of (Order c n x) = Some (command_node x)
 first_node_of (Confirm u e) = Some u
@@ -135,7 +135,7 @@ abbrev pub is_once : Request → Bool
 is_once Close = true
 is_once r = false
 
--- the command of an order without a client and a number; only the proxy uses the epoch of a reset
+-- the command of an order that names no client and no number; the epoch of a reset is not part of the command
 abbrev pub unnumbered_command : Request → Option Command
 unnumbered_command (Confirm u e) = Some (command.Confirm u e)
 unnumbered_command (Reset u) = Some (command.Reset u)

@@ -7,6 +7,6 @@ use Rattle.proxy_request.specs.declared.request.TheConstants.{PROXY_CLIENT}
 abbrev pub without_last : List ℕ → List ℕ
 without_last bytes = take (length bytes - 1) bytes
 
--- the line that a client prints for this order of the proxy's client, without its line feed
+-- the line, without its line feed, that a client prints for an order of the proxy's client with this number and command
 abbrev pub spelled : ℕ → Command → List ℕ
 spelled n x = without_last (command_line PROXY_CLIENT n x)

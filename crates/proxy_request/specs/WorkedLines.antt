@@ -1,4 +1,4 @@
--- Worked examples: lines and their requests.
+-- Worked examples: lines and the requests or faults that they give.
 use Rattle.std.specs.Prelude.{◌≡◌, codes, Some, None, Ok, Err}
 use Rattle.coord_types.specs.declared.steps.Command.TheVariants as command
 use Rattle.coord_admin.specs.declared.fault.LineFault.TheVariants.{TooLong, BadJson, BadRequest, UnknownOp}

@@ -1,10 +1,10 @@
-//! Classifies an answer by the fate of its order's number.
+//! Classifies an answer by what became of its order's number.
 
 ghost use Rattle.std.specs.Prelude.{◌≡◌};
 ghost use Rattle.proxy_request.specs.Answers.{is_out_of_turn, is_reply, is_refusal, refuses_number};
 
-/// Tests whether the answer, without its line feed, is OutOfTurn: the order's number is not the next
-/// one, and may have been used before.
+/// Tests whether the answer, without its line feed, is OutOfTurn: the order's number is not the next number, and may
+/// have been used before.
 pub fn is_out_of_turn(answer: &[u8]) -> bool
     ensures { result ≡ is_out_of_turn answer.now }
 {
@@ -25,8 +25,8 @@ pub fn is_reply(answer: &[u8]) -> bool
     answer.starts_with(b"{\"kind\":\"")
 }
 
-/// Tests whether the answer refuses the order itself, for example with BadEpoch: the number was the
-/// next one, and is still unused. Stopped, OutOfMemory and PendingFull imply nothing about the number.
+/// Tests whether the answer refuses the order itself, for example with BadEpoch: the number was the next number, and is
+/// still unused. Stopped, OutOfMemory and PendingFull imply nothing about the number.
 pub fn is_refusal(answer: &[u8]) -> bool
     ensures { result ≡ is_refusal answer.now }
 {

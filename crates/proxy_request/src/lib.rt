@@ -1,11 +1,10 @@
-//! The requests to the proxy, and the spelling of the orders that it numbers.
+//! The requests to the proxy, and the lines of the orders that the proxy numbers.
 //!
-//! A line is parsed as the server parses it (coord_admin). In addition to the server's requests the
-//! proxy has `watch`, and `confirm` and `reset` without a client and a number, which it sends as client
-//! 15; `specs/Requests.antt` defines the request of each line. The main theorem is the contract of
-//! [`spell`]: the server reads the line that the proxy sends as that order, of client 15, with that
-//! number. [`laws`] states that a request of the server keeps its meaning. [`is_reply`], [`is_refusal`]
-//! and [`refuses_number`] classify the answers to an order by the fate of its number.
+//! The proxy parses a line as the server does (coord_admin). It also accepts `watch`, and it accepts `confirm` and
+//! `reset` without a client and a number, which it sends as client 15. `specs/Requests.antt` defines the request in
+//! each line. The main theorem is the contract of [`spell`]: the server reads the line that the proxy sends as this
+//! order of client 15 with this number. [`laws`] states that a request of the server keeps its meaning. [`is_reply`],
+//! [`is_refusal`] and [`refuses_number`] classify the answers to an order by what became of the order's number.
 #![tactic(auto)]
 
 mod answers;

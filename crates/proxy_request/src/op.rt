@@ -19,7 +19,7 @@ pub enum Op {
 }
 
 impl Op {
-    /// Returns the op with this name.
+    /// Returns the op with this name, or None if no op has it.
     pub fn named(name: &str) -> Option<Op>
         ensures { result ≡ op_named name.now }
     {
@@ -56,7 +56,7 @@ impl Op {
         }
     }
 
-    /// Returns the op's place in the order above, counted from 0.
+    /// Returns the op's position in the list above, counted from 0.
     pub fn number(self) -> u8
         ensures { result ≡ op_number self }
     {

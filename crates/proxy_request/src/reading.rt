@@ -1,4 +1,4 @@
-//! Parses a line.
+//! Parses a client's line.
 
 ghost use Rattle.std.specs.Prelude.{◌≡◌, ◌≢◌, Err, Some};
 ghost use Rattle.std.specs.Option.{option_copied};
@@ -15,8 +15,8 @@ use serde_json::Value;
 use std::alloc::Global;
 use std::str;
 
-/// Returns the request of a line, or its fault (docs/FORMATS.md, "Administration lines"). `line` is
-/// None if it was over the limit.
+/// Returns the request in a line, or the line's fault (docs/FORMATS.md, "Administration lines").
+/// `line` is None if the line was over the length limit.
 pub fn read_line(alloc: Global, line: Option<&[u8]>) -> Result<Request, LineFault>
     ensures value { result ≢ Err OutOfMemory → result ≡ asked_by (option_copied line.entry) }
     ensures memory { result ≡ Err OutOfMemory → IsText (option_copied line.entry) }

@@ -6,7 +6,7 @@ ghost use Rattle.proxy_request.specs.Requests.{client_of, command_node, command_
 use crate::op::Op;
 use coord_types::{Client, Command, NodeId};
 
-/// The client of the orders that the proxy numbers. No request over a connection may use it.
+/// The client of the orders that the proxy numbers. No request over a connection may use this client.
 pub const PROXY_CLIENT: u8 = 15;
 
 /// A request to the proxy.
@@ -18,7 +18,7 @@ pub enum Request {
     Confirm(NodeId, u64),
     /// Reset a node. The proxy chooses the number.
     Reset(NodeId),
-    /// Reset a node if it has this epoch and no reset is under way.
+    /// Reset a node if it has this epoch and no reset is in progress.
     ResetAt(NodeId, u64),
     /// Show the settled world once.
     Show,
@@ -46,7 +46,7 @@ impl Request {
         }
     }
 
-    /// Returns the client that the request names.
+    /// Returns the client that the request names, or None if it names none.
     pub fn client(&self) -> Option<Client>
         ensures { result ≡ client_of self.now }
     {
@@ -56,7 +56,7 @@ impl Request {
         }
     }
 
-    /// Returns the first node that the request names.
+    /// Returns the first node that the request names, or None if it names none.
     pub fn first_node(&self) -> Option<NodeId>
         ensures { result ≡ first_node_of self.now }
     {
@@ -69,7 +69,7 @@ impl Request {
         }
     }
 
-    /// Returns the second node of a request that names two nodes.
+    /// Returns the second node of a request that names two nodes, or None for any other request.
     pub fn second_node(&self) -> Option<NodeId>
         ensures { result ≡ second_node_of self.now }
     {
@@ -93,7 +93,7 @@ impl Request {
         matches!(self, Request::Close)
     }
 
-    /// Returns the command of an order without a client and a number, or None for any other request.
+    /// Returns the command of an order that names no client and no number, or None for any other request.
     pub fn unnumbered_command(&self) -> Option<Command>
         ensures { result ≡ unnumbered_command self.now }
     {

@@ -12,8 +12,8 @@ use coord_types::{Client, Command};
 use coord_wire::print_order;
 use std::alloc::{AllocError, Global};
 
-/// Returns the line of an order of the proxy's client with this number, without its line feed. The
-/// server reads the line as that order. Returns an error if memory runs out.
+/// Returns the line, without its line feed, of an order of the proxy's client with this number. The
+/// server reads the line as that order. Errors: out of memory.
 pub fn spell(alloc: Global, number: u64, command: Command) -> Result<Vec<u8>, AllocError>
     ensures text { IfOk result (λ text. text.items ≡ spelled number command) }
     ensures read { IfOk result (λ text. asked_by (Some text.items) ≡

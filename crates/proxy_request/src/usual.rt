@@ -1,4 +1,4 @@
-//! Reads confirms and resets that are spelled as clients print them, without a JSON parser.
+//! Reads `confirm` and `reset` lines in the spelling that clients print, without a JSON parser.
 
 ghost use Rattle.std.specs.Prelude.{◌≡◌, ◌≤◌, ◌++◌, ◌<◌, ◌^◌, IfSome, Ok, Some, codes, decimal, true};
 ghost use Rattle.proxy_request.specs.Requests.{asked_by};
@@ -7,8 +7,8 @@ use crate::request::Request;
 use coord_types::{Command, Identifier};
 use itoa::Buffer;
 
-/// Returns the request of a line that is spelled as clients print it. None implies nothing: the line may be a
-/// request in another spelling.
+/// Returns the request in a line that is spelled as clients print it. None implies nothing: the line may be a request
+/// in another spelling.
 pub(crate) fn read_usual(line: &[u8]) -> Option<Request>
     ensures { IfSome result (λ request. asked_by (Some line.now) ≡ Ok request) }
 {
@@ -105,7 +105,7 @@ fn identifier<const MOST: u8>(number: u64) -> Option<Identifier<MOST>>
     Identifier::new(u8::try_from(number).ok()?)
 }
 
-/// Returns the number that follows this text at the beginning of the bytes, and what follows the number.
+/// Returns the number that follows this text at the start of the bytes, and the bytes after the number.
 fn number_behind<'b>(bytes: &'b [u8], text: &[u8]) -> Option<(u64, &'b [u8])>
     ensures text { IfSome result (λ found. bytes.now ≡ text.now ++ (decimal found.0 ++ found.1.now)) }
     ensures word { IfSome result (λ found. found.0 < 2 ^ 64) }
@@ -117,7 +117,7 @@ fn number_behind<'b>(bytes: &'b [u8], text: &[u8]) -> Option<(u64, &'b [u8])>
     Some((number, rest))
 }
 
-/// Returns the number whose digits the bytes begin with, if they are its digits as they are printed.
+/// Returns the number that the digits at the start of the bytes spell, modulo 2^64.
 fn first_number(bytes: &[u8]) -> u64 {
     let mut number = 0u64;
     for byte in bytes {
@@ -129,7 +129,7 @@ fn first_number(bytes: &[u8]) -> u64 {
     number
 }
 
-/// Returns what follows this text, if the bytes begin with it.
+/// Returns the bytes after this text, if the bytes begin with it.
 fn behind<'b>(bytes: &'b [u8], text: &[u8]) -> Option<&'b [u8]>
     ensures { IfSome result (λ rest. bytes.now ≡ text.now ++ rest.now) }
 {

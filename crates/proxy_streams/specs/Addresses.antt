@@ -1,7 +1,7 @@
 -- The server's address that is tried next, and the pause before the attempt.
 use Rattle.std.specs.Prelude.{ℕ, ◌+◌, ◌*◌, min, if◌then◌else◌, nat_lt}
 
--- the index after this one among `count` addresses; after the last index, the first
+-- the index that follows this one among `count` addresses; the first index follows the last
 abbrev pub following : ℕ → ℕ → ℕ
 following count index = if nat_lt (index + 1) count then index + 1 else 0
 

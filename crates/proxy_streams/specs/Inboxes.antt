@@ -18,7 +18,7 @@ abbrev pub behind : Option (List ℕ) → List ℕ
 behind None = []
 behind (Some more) = more
 
--- the inbox after the line has taken the bytes up to the next line feed, or all bytes if there is none
+-- the inbox after the bytes up to the next line feed, or all bytes if there is none, have moved into the line
 abbrev pub with_line : Inbox → Inbox
 with_line i =
     if i.is_whole then i
@@ -28,7 +28,7 @@ with_line i =
 abbrev pub after_line : Inbox → Inbox
 after_line i = record { line = Some []; is_whole = false; rest = i.rest }
 
--- All bytes that arrived belong to the line, which is not complete.
+-- All bytes that arrived are in the line, and the line is not complete.
 abbrev pub IsDrained : Inbox → Type 0
 IsDrained i = (i.is_whole ≡ false) × (i.rest ≡ [])
 

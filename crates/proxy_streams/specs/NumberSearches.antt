@@ -6,7 +6,7 @@ pub record Search : Type 0 where
   pub below : ℕ  -- the next number below, or 0 if there is none
   pub is_below_next : Bool
 
--- the search whose first numbers are the one after `near`, and `near`
+-- the search that tries first the number after `near`, then `near`
 abbrev pub search_from : ℕ → Search
 search_from near = record { above = min (near + 1) 18446744073709551615; below = near; is_below_next = false }
 

@@ -13,7 +13,7 @@ pub const FIRST_PAUSE: u64 = 20;
 /// The longest pause, in milliseconds.
 pub const LONGEST_PAUSE: u64 = 1000;
 
-/// The addresses of the server, the one that is in use, and the pause before the next attempt.
+/// The addresses of the server, the index of the address in use, and the pause before the next attempt.
 #[derive(Drop)]
 pub struct Addresses {
     all: Vec<SocketAddr>,
@@ -23,7 +23,7 @@ pub struct Addresses {
 }
 
 impl Addresses {
-    /// Makes a list of addresses, the first of which is in use; None if the list is empty.
+    /// Returns these addresses with the first in use, or None if the list is empty.
     pub fn new(all: Vec<SocketAddr>) -> Option<Self>
         ensures { MatchOption result (all.items ≡ []) (λ a. (a.all ≡ all) × (a.index ≡ 0) × (a.pause ≡ FIRST_PAUSE)) }
     {
@@ -37,15 +37,15 @@ impl Addresses {
         })
     }
 
-    /// Returns the address that is in use.
+    /// Returns the address in use.
     pub fn used(&self) -> SocketAddr
         ensures { slice_get self.now.all.items self.now.index ≡ Some result }
     {
         self.all[self.index]
     }
 
-    /// Changes to the next address, and returns the pause before it is tried. Each pause is twice as
-    /// long as the one before, from 20 milliseconds to one second.
+    /// Changes to the next address, and returns the pause before the proxy tries it. Each pause is twice as long as the
+    /// last, from 20 milliseconds up to one second.
     pub fn leave(&mut self) -> Duration
         ensures pause { as_nanos result ≡ self.old.pause * 1000000 }
         ensures next { self.new.index ≡ following (length self.old.all.items) self.old.index }
@@ -62,7 +62,7 @@ impl Addresses {
         pause
     }
 
-    /// Records that the server answered: the next pause is the shortest one.
+    /// Records that the server answered: the next pause is the shortest.
     pub fn answered(&mut self)
         ensures pause { self.new.pause ≡ FIRST_PAUSE }
         ensures index { self.new.index ≡ self.old.index }

@@ -82,8 +82,8 @@ impl Inbox {
         self.is_whole = false;
     }
 
-    /// Tests whether all bytes that arrived are in the line, and the line is not complete: then more
-    /// bytes can be accepted.
+    /// Tests whether the inbox can accept more bytes: all bytes that arrived are in the line, and the line is not
+    /// complete.
     pub fn is_drained(&self) -> bool
         ensures { IsTrue result ↔ IsDrained self.now }
     {
@@ -103,8 +103,8 @@ impl Inbox {
         }
     }
 
-    /// Accepts more bytes. All earlier bytes must be in the line. If memory runs out, returns an error
-    /// and changes nothing.
+    /// Accepts more bytes. The inbox must be drained: all earlier bytes are in the line, which is not complete. Errors:
+    /// out of memory; nothing changes.
     pub fn fill(&mut self, bytes: &[u8]) -> Result<(), AllocError>
         requires { IsDrained self.old }
         ensures ok { OnOk result (self.new ≡ filled bytes.now self.old) }

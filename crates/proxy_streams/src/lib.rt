@@ -1,9 +1,8 @@
-//! The buffers and counters of the proxy's loop, which read and write through the traits of `std::io`.
+//! The buffers and counters of the proxy's event loop, which reads and writes through the traits of `std::io`.
 //!
-//! An [`Inbox`] splits the bytes of a client into lines, like the server. An [`Outbox`] holds bytes
-//! until the stream accepts them. [`ServerLines`] splits the bytes of the server into lines.
-//! [`Addresses`] determines which address of the server is tried next, and after which pause. A
-//! [`NumberSearch`] finds the last number of the proxy's client.
+//! An [`Inbox`] splits the bytes of a client into lines, like the server. An [`Outbox`] holds bytes until the stream
+//! accepts them. [`ServerLines`] splits the bytes of the server into lines. [`Addresses`] selects the server's address
+//! to try next, and the pause before the attempt. A [`NumberSearch`] finds the last number of the proxy's client.
 #![tactic(auto)]
 
 mod addresses;

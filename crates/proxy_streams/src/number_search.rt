@@ -5,9 +5,9 @@ ghost use Rattle.proxy_streams.specs.NumberSearches.{after_try, search_from, tri
 
 use std::marker::Model;
 
-/// The numbers to try, at growing distance from a starting point that is probably near the last number.
-/// The server refuses an order with epoch 0 for every number, and its refusal distinguishes the last
-/// number, the next one, and all others.
+/// A search that tries numbers at growing distance from a starting point, which is probably near the last number. The
+/// server refuses an order with epoch 0 whatever its number is, and the refusal shows whether the number is the last
+/// number, the next number or another one.
 #[derive(Debug, Drop)]
 pub struct NumberSearch {
     above: u64,
@@ -24,7 +24,7 @@ impl Model for NumberSearch {
 }
 
 impl NumberSearch {
-    /// Returns a search that begins with the number after `near`.
+    /// Returns a search that starts with the number after `near`.
     pub fn new(near: u64) -> Self
         ensures { result ≡ search_from near }
     {

@@ -1,4 +1,4 @@
-//! Bytes that are still to be sent.
+//! The bytes that are still to be sent.
 
 ghost use Rattle.std.specs.Prelude.{◌≡◌, ◌==◌, ◌≤◌, ◌++◌, ◌∷◌, [], length, take, List, ℕ, OnErr, OnOk};
 ghost use Rattle.std.specs.Io.KnownBytes.{Appends};
@@ -50,7 +50,7 @@ impl Outbox {
         }
     }
 
-    /// Returns the number of bytes to be sent.
+    /// Returns the number of bytes still to be sent.
     pub fn len(&self) -> usize
         ensures { result ≡ length self.now }
     {
@@ -64,7 +64,7 @@ impl Outbox {
         self.len() == 0
     }
 
-    /// Appends a text. If memory runs out, returns an error and changes nothing.
+    /// Appends a text. Errors: out of memory; nothing changes.
     pub fn push(&mut self, text: &[u8]) -> Result<(), AllocError>
         ensures ok { OnOk result (self.new ≡ self.old ++ text.now) }
         ensures err { OnErr result (self.new ≡ self.old) }
@@ -72,7 +72,7 @@ impl Outbox {
         self.bytes.extend_from_slice(text)
     }
 
-    /// Appends a line and its line feed. If memory runs out, returns an error and changes nothing.
+    /// Appends a line and a line feed. Errors: out of memory; nothing changes.
     pub fn push_line(&mut self, line: &[u8]) -> Result<(), AllocError>
         ensures ok { OnOk result (self.new ≡ self.old ++ (line.now ++ 10 ∷ [])) }
         ensures err { OnErr result (self.new ≡ self.old) }
@@ -88,8 +88,8 @@ impl Outbox {
         }
     }
 
-    /// Sends bytes until the stream accepts no more. The bytes that were sent, followed by those that
-    /// remain, are the bytes that were there before.
+    /// Sends bytes until the stream accepts no more. The sent bytes, followed by the bytes that remain, are the bytes
+    /// that were there before.
     pub fn send<W: Write>(&mut self, stream: &mut W) -> Sending
         ensures sent { (part : List ℕ) × (self.old ≡ part ++ self.new) × Appends (W.contents stream.old) (W.contents stream.new) part }
         ensures whole { result ≡ Whole → self.new ≡ [] }

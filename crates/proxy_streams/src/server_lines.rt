@@ -47,7 +47,7 @@ impl ServerLines {
         self.bytes.len() - self.begin
     }
 
-    /// Appends bytes that arrived. Returns an error if memory runs out.
+    /// Appends bytes that arrived. Errors: out of memory.
     pub fn fill(&mut self, bytes: &[u8]) -> Result<(), AllocError>
         ensures ok { OnOk result (self.new ≡ self.old ++ bytes.now) }
     {
@@ -67,7 +67,7 @@ impl ServerLines {
         }
     }
 
-    /// Drops the first line, of this length, and its line feed; if there are fewer bytes, drops all.
+    /// Drops the first line, which has this length, and its line feed. If there are fewer bytes, drops all bytes.
     pub fn drop_first(&mut self, length: usize)
         ensures { self.new ≡ drop (length + 1) self.old }
     {
