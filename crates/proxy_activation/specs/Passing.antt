@@ -15,13 +15,13 @@ number_of text = if all_ascii_digits text && (nat_lt 0 (length text) && nat_lt (
 abbrev pub count_of : List ℕ → Option ℕ
 count_of text = option_and_then (λ n. if nat_lt n (2 ^ 16) then Some n else None) (number_of text)
 
--- the number of sockets passed to a process, given LISTEN_PID and LISTEN_FDS; None is a text that is not a number
+-- the number of sockets passed to a process, given LISTEN_PID and LISTEN_FDS, each None if it is not a number
 abbrev pub opened_for : ℕ → Option ℕ → Option ℕ → Result ℕ ActivationFault
 opened_for process (Some pid) (Some count) = if nat_eq pid process then Ok count else Err OtherProcess
 opened_for process (Some pid) None = if nat_eq pid process then Err NotACount else Err OtherProcess
 opened_for process None _ = Err OtherProcess
 
--- the number of sockets passed to a process, given the texts of both variables; None is a missing variable
+-- the number of sockets passed to a process, given the texts of both variables, each None if the variable is missing
 abbrev pub opened : ℕ → Option (List ℕ) → Option (List ℕ) → Result ℕ ActivationFault
 opened process (Some pid) (Some count) = opened_for process (number_of pid) (count_of count)
 opened process (Some pid) None = Err NotActivated

@@ -82,8 +82,8 @@ impl Audit {
         }
     }
 
-    /// Returns the role of a principal whose first left-out line was at least a second ago, and the number of its
-    /// left-out lines. Resets that number to zero.
+    /// Returns the role of a principal whose first left-out line came at least a second ago, and the number of its
+    /// left-out lines, or None if there is no such principal. Resets that number to zero.
     pub fn take_more(&mut self, now: Duration) -> Option<(u32, u64)>
         ensures none { result ≡ None → All (λ quota. is_due (as_nanos now) quota ≡ false) (values self.old.quotas.all) }
         ensures some { IfSome result (λ found. more (as_nanos now) (audit_quota self.old found.0) ≡ Some found.1) }

@@ -40,8 +40,8 @@ impl Quotas {
         Ok(quota.admit(kind, now))
     }
 
-    /// Returns the role of a principal whose first left-out line was at least a second ago, and the number of its
-    /// left-out lines. Resets that number to zero.
+    /// Returns the role of a principal whose first left-out line came at least a second ago, and the number of its
+    /// left-out lines, or None if there is no such principal. Resets that number to zero.
     pub fn take_more(&mut self, now: Duration) -> Option<(u32, u64)>
         ensures none { result ≡ None → All (λ quota. is_due (as_nanos now) quota ≡ false) (values self.old.all) }
         ensures some { IfSome result (λ found. more (as_nanos now) (quota_in (get nat_cmp self.old.all found.0)) ≡ Some found.1) }
@@ -55,7 +55,7 @@ impl Quotas {
         Some((role, count))
     }
 
-    /// Returns the role of a principal whose first left-out line was at least a second ago.
+    /// Returns the role of a principal whose first left-out line came at least a second ago, or None.
     fn due_role(&self, now: Duration) -> Option<u32>
         ensures some { IfSome result (λ role. IsSome (get nat_cmp self.now.all role) × (is_due (as_nanos now) (quota_in (get nat_cmp self.now.all role)) ≡ true)) }
         ensures none { result ≡ None → All (λ quota. is_due (as_nanos now) quota ≡ false) (values self.now.all) }

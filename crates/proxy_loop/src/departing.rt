@@ -36,8 +36,8 @@ impl<G: Gateway> EventLoop<G> {
         self.depart(role, connection)
     }
 
-    /// Keeps what is needed to record the answers to a connection's lines in flight. Errors: out of
-    /// memory.
+    /// Keeps the role and the times needed to record the answers to a connection's lines in flight.
+    /// Errors: out of memory.
     fn depart(&mut self, role: u32, connection: Connection) -> Result<(), AllocError> {
         let number = connection.number;
         if !self.core.is_awaiting_nothing(number) {

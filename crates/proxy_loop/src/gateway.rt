@@ -131,11 +131,11 @@ pub trait Gateway: Policy + Drop {
         at: Moment,
     ) -> Result<(), AllocError>;
 
-    /// Writes what was recorded since the last call. The loop calls this before it sends anything to a client.
+    /// Writes all records made since the last call. The loop calls this before it sends anything to a client.
     fn write_records<R: Files<File = File> + AllocGlobal + Print + Eprint>(&mut self, rt: &R);
 
-    /// Does the work that is due now: checks the policy's file for a change, and writes what is due of the audit and
-    /// the metrics. Returns whether the policy has changed.
+    /// Does the work that is due now: checks the policy's file for a change, and writes the audit lines and metrics
+    /// that are due. Returns whether the policy has changed.
     fn refresh<R: Files<File = File> + AllocGlobal + Clock + Print + Eprint>(
         &mut self,
         rt: &R,

@@ -28,7 +28,8 @@ may_name None one = true
 may_name (Some all) None = true
 may_name (Some all) (Some u) = list_any (λ each. each == u) all.items
 
--- whether a rule lists the principal, the request's op, its client, and each node that it names
+-- whether a rule lists the principal and the request's op, and permits the request's client and each node that the
+-- request names
 abbrev pub rule_allows : Rule → List ℕ → Request → Bool
 rule_allows rule principal r =
     list_any (λ name. bytes_eq (string_bytes name) principal) rule.principals.items

@@ -117,7 +117,7 @@ fn limit_at<E: Entry>(
     }
 }
 
-/// Returns the principal's name that a value contains. Errors: out of memory, or `BadValue`.
+/// Returns the principal name that a value contains. Errors: out of memory, or `BadValue`.
 fn name_of(alloc: Global, value: &Value) -> Result<String, PolicyFault>
     ensures ok { IfOk result (λ name. name_in (view value.now) ≡ Some (string_bytes name)) }
     ensures bad { IfErr result (λ fault. fault ≢ OutOfMemory →
