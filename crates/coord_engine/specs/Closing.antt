@@ -21,8 +21,8 @@ fault_name SharesMissing = codes "SharesMissing"
 fault_name NotNamed = codes "NotNamed"
 fault_name NotSettled = codes "NotSettled"
 
--- The remaining ledger still has this base. After these earlier steps it accepted exactly the steps that the
--- shares noted: each of them once, with the kind of its reply, and the steps of each share in order.
+-- The remaining ledger still has this base. After the steps `before` it accepted exactly the steps that the
+-- shares noted, each once and with the kind of its reply. Each share noted its steps in order.
 pub record IsSince (base : World) (before : List Step) (shares : List (List Note)) (left : World) (trail : List Step) : Type 0 where
   pub same_base : left ≡ base
   pub begins : take (length before) trail ≡ before

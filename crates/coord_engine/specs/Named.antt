@@ -6,7 +6,7 @@ use Rattle.coord_types.specs.declared.steps.Kind.{Kind}
 use Rattle.coord_types.specs.declared.steps.Step.{Step}
 use Rattle.coord_ledger.specs.declared.ticket.Note.{Note}
 
--- the notes of steps that follow n others and have replies of these kinds
+-- the notes of these steps, which follow n other steps and have replies of these kinds
 abbrev pub notes_of : ℕ → List Step → List Kind → List Note
 notes_of n [] kinds = []
 notes_of n (s ∷ steps) [] = []
@@ -20,19 +20,20 @@ all_notes shares = flat_map (λ notes. notes) shares
 abbrev pub IsAscending : List Note → Type 0
 IsAscending notes = AllAdjacentBelow (λ a b. a.step < b.step) notes (length notes)
 
--- Each share noted its steps in order. Each of these steps, which follow n others, was noted by some share
--- with the kind of its reply.
+-- Each share noted its steps in order. Some share noted each of these steps, with the kind of its reply. The
+-- steps follow n other steps.
 pub record AreNoted (shares : List (List Note)) (n : ℕ) (steps : List Step) (kinds : List Kind) : Type 0 where
   pub ascending : All IsAscending shares
   pub noted : All (Contains (all_notes shares)) (notes_of n steps kinds)
 
--- The shares noted exactly these steps, which follow n others, with the kinds of their replies: each step
--- once, and the steps of each share in order.
+-- The shares noted exactly these steps, each once and with the kind of its reply. Each share noted its steps
+-- in order. The steps follow n other steps.
 pub record IsNamed (shares : List (List Note)) (n : ℕ) (steps : List Step) (kinds : List Kind) : Type 0 where
   pub ascending : All IsAscending shares
   pub each_once : IsPermutation (all_notes shares) (notes_of n steps kinds)
 
--- The note's step is one of the steps, at the place of its number; the steps follow `base` others.
+-- The list `steps`, which follows `base` other steps, has the note's step at the place that the note's number
+-- gives.
 pub record IsAmong (base : ℕ) (steps : List Step) (note : Note) : Type 0 where
   pub newer : base < note.step
   pub there : slice_get steps (note.step - base - 1) ≡ Some note.what

@@ -8,7 +8,7 @@ use Rattle.coord_types.specs.declared.steps.Step.TheVariants.{Order}
 use Rattle.coord_ledger.specs.declared.ticket.Note.{Note}
 use Rattle.coord_engine.specs.Named.{IsAmong, IsNamed}
 
--- two steps that follow two others, the kinds of their replies, and their notes
+-- two steps that follow two other steps, the kinds of their replies, and their notes
 abbrev pub first : Step
 first = Order 1 3 (Reset 1)
 
@@ -28,19 +28,19 @@ fourth_note = record { step = 4; what = second; kind = Joined }
 abbrev pub NamedByTwo : Type 0
 NamedByTwo = IsNamed ((fourth_note ∷ []) ∷ (third_note ∷ []) ∷ []) 2 (first ∷ second ∷ []) both_kinds
 
--- A share with both notes in the wrong order does not.
+-- One share with both notes in the wrong order does not name the two steps.
 abbrev pub NotInOrder : Type 0
 NotInOrder = ¬ IsNamed ((fourth_note ∷ third_note ∷ []) ∷ []) 2 (first ∷ second ∷ []) both_kinds
 
--- One missing note is noticed.
+-- Without one of the notes, the two steps are not named.
 abbrev pub NotOneShort : Type 0
 NotOneShort = ¬ IsNamed ((third_note ∷ []) ∷ []) 2 (first ∷ second ∷ []) both_kinds
 
--- A note with another kind of reply is noticed.
+-- A note with another kind of reply does not name its step.
 abbrev pub NotOfAnotherKind : Type 0
 NotOfAnotherKind = ¬ IsNamed ((record third_note { kind = Joined } ∷ []) ∷ []) 2 (first ∷ []) (Started ∷ [])
 
--- After a base of two steps, the fourth step is the second one of the list, and a note with another number
--- isn't among the steps.
+-- After a base of two steps, the fourth step is the second of this list. A note of the same step with another
+-- number isn't among the steps.
 abbrev pub NamesInPlace : Type 0
 NamesInPlace = IsAmong 2 (first ∷ second ∷ []) fourth_note × ¬ IsAmong 2 (first ∷ second ∷ []) (record { step = 2; what = second; kind = Joined })

@@ -60,8 +60,9 @@ pub struct Closed<D: Disk> {
     pub settled: u64,
 }
 
-/// The parts of an engine that was taken apart in any case, with the authority of its history. If the
-/// engine could not be closed, also the reason; then it is unknown which caller submitted which step.
+/// The parts of an engine that was taken apart whether or not it could be closed, with the
+/// authority of its history. If it could not be closed, `refused` has the reason, and it is unknown
+/// which caller submitted which step.
 #[derive(Drop)]
 pub struct Retired<D: Disk> {
     pub closed: Closed<D>,
@@ -69,8 +70,8 @@ pub struct Retired<D: Disk> {
     pub refused: Option<CloseFault>,
 }
 
-/// Tests whether the note's step is one of the steps, at the place of its number; the steps follow
-/// `base` others.
+/// Tests whether the note's step is among the steps, at the place of the note's number. The steps
+/// follow `base` other steps.
 fn is_among(base: u64, steps: &[Step], note: &Note) -> bool
     ensures { IsTrue result ↔ IsAmong base steps.now note.now }
 {
@@ -85,7 +86,7 @@ fn is_among(base: u64, steps: &[Step], note: &Note) -> bool
 }
 
 impl<D: Disk> Closed<D> {
-    /// Tests whether the trail has the note's step at the note's number.
+    /// Tests whether the trail has the note's step under the note's number.
     pub fn names(&self, note: &Note) -> bool
         ensures { IsTrue result ↔ IsAmong self.now.base.count self.now.trail.items note.now }
     {

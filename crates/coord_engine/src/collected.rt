@@ -3,7 +3,7 @@
 use coord_ledger::Ticket;
 use coord_types::{Refusal, Reply};
 
-/// The answer to a ticket in the state under the lock.
+/// The answer to a ticket, given the state under the lock.
 pub enum Collected {
     /// The ticket's step is settled, with this reply.
     Settled(Reply),

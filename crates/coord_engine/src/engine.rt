@@ -27,8 +27,8 @@ use std::sync::ledger::Blank;
 use std::sync::{Condvar, Mutex, MutexGuard, Wait};
 use std::time::Clock;
 
-/// Returns the result of a flush from the result of the commit and the releases of the returned flight.
-/// A flight that was not settled has no releases.
+/// Returns the result of a flush, given the result of its commit and the releases of the returned
+/// flight. A flight that was not settled has no releases.
 fn answer_of<L: Origin>(
     committed: Result<(), CommitFault>,
     releases: Released<L>,
@@ -44,12 +44,12 @@ fn answer_of<L: Origin>(
     }
 }
 
-/// A ledger that threads share. Each call except `collect`, `flush_once` and `close` takes the lock
+/// A ledger that threads share. Every call but `collect`, `flush_once` and `close` takes the lock
 /// once.
 #[derive(Drop)]
 pub struct Engine<D: Disk, L: Origin> {
     pub(crate) guarded: Mutex<Guarded<D, L>>,
-    /// The history: the value under the lock writes it, and flights read it.
+    /// The history. The value under the lock writes it, and flights read it.
     pub(crate) history: MonotoneLog,
     /// The condition on which callers wait for their replies.
     pub(crate) changed: Condvar,
@@ -59,10 +59,10 @@ pub struct Engine<D: Disk, L: Origin> {
 }
 
 impl<D: Disk, L: Origin> Engine<D, L> {
-    /// Makes an engine over a ledger that has no flight out. `L` names the history, in which the steps
-    /// of earlier instances are written, and that ledger: its base, its accepted steps and its disk.
-    /// The blank has 65,536 parts. No clause can describe the value under a lock; so the contract of
-    /// `Guarded::new` has the promises, and `close` states its result in terms of `L`.
+    /// Makes an engine over a ledger that has no flight out. `L` names the history, which has the steps
+    /// of earlier instances, and the ledger's base, accepted steps and disk. The blank has 65,536
+    /// parts. No clause can describe the value under a lock. So the contract of `Guarded::new` states
+    /// the promises, and `close` states its result in terms of `L`.
     pub fn new(
         alloc: Global,
         blank: Blank,
@@ -88,7 +88,7 @@ impl<D: Disk, L: Origin> Engine<D, L> {
         }
     }
 
-    /// Returns a share without notes, or None if all 65,535 are taken.
+    /// Returns a share without notes, or None if all 65,535 shares are taken.
     pub fn share<R: Wait>(&self, rt: &R) -> Option<Share<L>>
         ensures given { IfSome result (λ share. (share ≡ []) ×
             AtSomeMoment (based_on D.model L.base L.before) (λ g. g.given < most_shares)) }
@@ -100,8 +100,8 @@ impl<D: Disk, L: Origin> Engine<D, L> {
         guarded.share()
     }
 
-    /// Accepts a step like the ledger, and appends its note to the caller's share. A repeat is not
-    /// noted. A finishing engine refuses every step as `Stopped`.
+    /// Accepts a step, like `Ledger::submit`, and appends its note to the caller's share. A repeat is
+    /// not noted. A finishing engine refuses every step as `Stopped`.
     pub fn submit<R: Wait>(
         &self,
         rt: &R,
@@ -118,8 +118,8 @@ impl<D: Disk, L: Origin> Engine<D, L> {
         answer
     }
 
-    /// Accepts a step like `submit`, but does not wake the flusher. A caller that posts several steps
-    /// wakes it after the last one, so that one flight takes them all.
+    /// Accepts a step, like `submit`, but does not wake the flusher. A caller that posts several steps
+    /// wakes the flusher after the last one, so that one flight takes all of them.
     pub fn post<R: Wait>(&self, rt: &R, step: Step, mine: &mut Share<L>) -> Result<Ticket, Refusal>
         ensures { AtSomeMoment (based_on D.model L.base L.before)
             (Submits {D = D} step result mine.old mine.new) }
@@ -137,9 +137,10 @@ impl<D: Disk, L: Origin> Engine<D, L> {
         }
     }
 
-    /// Waits until the ticket's step is settled, and returns its reply. `Stranger` refuses a ticket of
-    /// another ledger, and `Stopped` a ticket whose step will never be settled; both return the ticket.
-    /// The reader reads on: the answer is true in a state whose settled steps it has read.
+    /// Waits until the ticket's step is settled, and returns its reply. Refuses a ticket of another
+    /// ledger as `Stranger`, and a ticket whose step will never be settled as `Stopped`; both refusals
+    /// return the ticket. The reader's token reads on: the answer holds in a state whose settled steps
+    /// the token has read.
     pub fn collect<R: Wait>(
         &self,
         rt: &R,
@@ -157,8 +158,8 @@ impl<D: Disk, L: Origin> Engine<D, L> {
         answer
     }
 
-    /// Waits until a ticket can be answered, and returns the lock. As long as the lock is held, a
-    /// reply's step is settled in the ledger under it.
+    /// Waits until a ticket can be answered, and returns the lock with the answer. If the answer is a
+    /// reply, the ticket's step is settled in the ledger under the lock.
     fn lock_to_answer<'g, R: Wait>(
         &'g self,
         rt: &R,
@@ -182,8 +183,9 @@ impl<D: Disk, L: Origin> Engine<D, L> {
         unreachable!()
     }
 
-    /// Returns a view of the settled world, unless the caller has seen a later one. The token reads on:
-    /// the view shows the world after exactly the settled steps that the token has then read.
+    /// Returns a view of the settled world, unless the caller has seen a later world. The reader's
+    /// token reads on: the view shows the world after exactly the settled steps that the token has then
+    /// read.
     pub fn show<R: Wait>(
         &self,
         rt: &R,
@@ -201,8 +203,8 @@ impl<D: Disk, L: Origin> Engine<D, L> {
         guarded.ledger().show(seen)
     }
 
-    /// Returns the number of steps in the trail: those that the ledger had accepted when the engine was
-    /// created, and all since.
+    /// Returns the number of steps in the trail: the steps that the ledger had accepted when the engine
+    /// was created, and all steps accepted since.
     pub fn kept<R: Wait>(&self, rt: &R) -> usize
         ensures { AtSomeMoment (based_on D.model L.base L.before) (λ g. result ≡
             length g.ledger.log.trail) }
@@ -212,8 +214,8 @@ impl<D: Disk, L: Origin> Engine<D, L> {
         guarded.ledger().trail().len()
     }
 
-    /// Returns the packets to be sent again because they may have been lost, with 0 as their step's
-    /// number.
+    /// Returns the packets to be sent again because they may have been lost. Their step number is 0.
+    /// Errors: out of memory.
     pub fn resend<R: Wait>(&self, rt: &R) -> Result<Released<L>, AllocError>
         ensures { IfOk result (λ releases. AtSomeMoment (based_on D.model L.base L.before)
             (SendsAgain {D = D} releases)) }
@@ -224,7 +226,7 @@ impl<D: Disk, L: Origin> Engine<D, L> {
     }
 
     /// Sends a flight out under the lock, commits it outside the lock, and takes it back under the
-    /// lock. Returns None if nothing is pending, a flight is out, or the ledger has stopped.
+    /// lock. Returns None if nothing is pending, a flight is already out, or the ledger has stopped.
     ///
     /// After `OutOfMemory` the caller may try again. After `Device` the ledger has stopped.
     pub fn flush_once<R: Wait + Clock>(&self, rt: &R) -> Result<Option<Released<L>>, CommitFault>
@@ -240,7 +242,7 @@ impl<D: Disk, L: Origin> Engine<D, L> {
         answer_of(committed, releases)
     }
 
-    /// Sends the next flight out.
+    /// Sends the next flight out, or returns None if no flight can leave. Errors: out of memory.
     pub(crate) fn begin<R: Wait>(&self, rt: &R) -> Result<Option<OwnFlight<D, L>>, AllocError>
         ensures { AnswersBegin (based_on D.model L.base L.before) result }
     {
@@ -250,7 +252,7 @@ impl<D: Disk, L: Origin> Engine<D, L> {
         guarded.begin(&self.history)
     }
 
-    /// Takes a flight back, committed or not, and wakes all waiting threads. If memory for that runs
+    /// Takes a flight back, whether committed or not, and wakes all waiting threads. If memory runs
     /// out, it pauses and tries again.
     pub(crate) fn end<R: Wait + Clock>(&self, rt: &R, flight: OwnFlight<D, L>) -> Released<L>
         ensures released { result ≡ releases_in flight flight.mark }
@@ -276,18 +278,19 @@ impl<D: Disk, L: Origin> Engine<D, L> {
     }
 
     /// Stops accepting steps. Pending steps are still settled. No clause can describe the effect of a
-    /// call under a lock: the contract of `Guarded::finish` does.
+    /// call under a lock; the contract of `Guarded::finish` describes it.
     pub fn finish<R: Wait>(&self, rt: &R) {
         let due = self.guarded.lock(rt).finish();
         due.wake_all(&self.changed, &self.work);
     }
 
-    /// Takes the engine apart. It refuses unless no flight is out, all shares are returned, everything
+    /// Takes the engine apart. Refuses unless no flight is out, all shares are returned, everything
     /// that callers have seen is settled, and the shares' notes are exactly the steps accepted since
-    /// the engine was created. The result has the base of the ledger that the engine was created over,
-    /// and a trail that begins with that ledger's trail. A crash at any moment since then left only
-    /// worlds after a prefix of that trail. The authority of the history is returned too: it has
-    /// written the settled steps of the trail after those of earlier instances. Allocates nothing.
+    /// the engine was created. The result has the base of the ledger over which the engine was created,
+    /// and a trail that begins with that ledger's trail. A crash at any moment since the engine was
+    /// created has left only worlds after a prefix of the returned trail. The authority of the history
+    /// is returned too: it has written the steps of earlier instances and then the settled steps of the
+    /// trail. Allocates nothing.
     pub fn close(
         self,
         shares: Vec<Share<L>>,
@@ -331,10 +334,10 @@ impl<D: Disk, L: Origin> Engine<D, L> {
         }
     }
 
-    /// Takes the engine apart in any case. If `close` would refuse these shares, the result has the
-    /// reason instead of the shares. In either case the promises of `close` about the disk and about
-    /// the authority of the history hold; only the callers of the steps are unknown after a refusal. A
-    /// flight that is out would be awaited forever, but no call of this crate keeps one. Allocates
+    /// Takes the engine apart, whether or not it can be closed. If `close` would refuse these shares,
+    /// the result has the reason, and it is unknown which caller submitted which step. The promises of
+    /// `close` about the disk and about the authority of the history hold in either case. A flight that
+    /// is out would be awaited forever, but no call of this crate leaves a flight out. Allocates
     /// nothing.
     pub fn retire<R: Wait + Clock>(self, rt: &R, shares: Vec<Share<L>>, seen: &Seen) -> Retired<D>
         requires { L.parts ≡ 65536 }

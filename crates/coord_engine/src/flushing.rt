@@ -1,4 +1,4 @@
-//! The flusher: flushes on demand, and passes the releases to a port.
+//! The flusher, which flushes on demand and passes the releases to a port.
 
 ghost use Rattle.std.specs.Prelude.{◌≡◌, false, true, length};
 ghost use Rattle.std.specs.Sync.Mutex.{mutex_guard_value};
@@ -22,20 +22,21 @@ use std::{io, thread};
 /// The number of milliseconds that a flight waits for packets in hand.
 const TIMEOUT: u64 = 5;
 
-/// A flight waits for returning callers for at most one such part of the last flight's time. An
-/// unnecessary wait costs a sixteenth of a flight; a caller who returns in time saves a whole flight.
+/// A flight waits for returning callers for at most the last flight's time divided by this number.
+/// An unnecessary wait costs a sixteenth of a flight; a caller who returns in time saves a whole
+/// flight.
 const CALLERS_PART: u32 = 16;
 
 /// The number of milliseconds that a flusher pauses after it ran out of memory.
 const REST: u64 = 1;
 
-/// Waits for this many milliseconds.
+/// Waits for `REST` milliseconds.
 pub(crate) fn rest<R: Clock>(rt: &R) {
     thread::sleep(rt, Duration::from_millis(REST));
 }
 
-/// Returns how long to wait for callers after a flight that left at `start`; zero if the clock can't be
-/// read.
+/// Returns how long the next flight waits for callers, after a flight that left at `start`: zero if
+/// the clock can't be read.
 fn timeout_since<R: Clock>(rt: &R, start: io::Result<Instant>) -> Duration {
     let Ok(start) = start else {
         return Duration::ZERO;
@@ -48,12 +49,12 @@ fn timeout_since<R: Clock>(rt: &R, start: io::Result<Instant>) -> Duration {
 
 impl<D: Disk, L: Origin> Engine<D, L> {
     /// Counts packets that are about to be passed to a port. They are counted first because a worker
-    /// may finish one before this call returns.
+    /// may handle a packet before the port's call returns.
     fn take_in_hand<R: Wait>(&self, rt: &R, count: u64) {
         self.guarded.lock(rt).raise_in_hand(count);
     }
 
-    /// Subtracts packets that no port or worker has in hand any more.
+    /// Subtracts from the count the packets that no port or worker has in hand any more.
     fn let_go<R: Wait>(&self, rt: &R, count: u64) {
         if count == 0 {
             return;
@@ -63,7 +64,8 @@ impl<D: Disk, L: Origin> Engine<D, L> {
         lock.unlock();
     }
 
-    /// Takes the lock once something can be flushed, or once nothing will ever be flushed.
+    /// Takes the lock once something can be flushed, or once it is certain that nothing will ever be
+    /// flushed.
     fn lock_for_flight<'g, R: Wait>(&'g self, rt: &R) -> MutexGuard<'g, Guarded<D, L>>
         ensures { is_idle (mutex_guard_value result) ≡ false }
     {
@@ -77,9 +79,9 @@ impl<D: Disk, L: Origin> Engine<D, L> {
         unreachable!()
     }
 
-    /// Waits until a flight can start. Then waits, for at most `for_callers`, for callers that may
-    /// order again, and briefly for packets that are being handled. Returns false once no flight will
-    /// ever start again.
+    /// Waits until a flight can start. Then waits briefly for packets that are being handled and, for
+    /// at most `for_callers`, for callers that may order again. Returns false once no flight will ever
+    /// start again.
     fn waits_for_flight<R: Wait + Clock>(&self, rt: &R, for_callers: Duration) -> bool
         ensures starts { result ≡ true → AtSomeMoment (based_on D.model L.base L.before) (λ g.
             is_idle g ≡ false) }
@@ -110,8 +112,8 @@ impl<D: Disk, L: Origin> Engine<D, L> {
     }
 }
 
-/// Requests a delivery from a port. Returns whether the port now has a packet in hand: a signal is not
-/// a packet, and the port may report that a packet is lost.
+/// Requests a delivery from a port. Returns whether the port now has a packet in hand: false for a
+/// signal, and for a packet that the port reports as lost.
 fn ask<P: Port>(
     port: &mut P,
     history: &MonotoneLog,
@@ -159,9 +161,9 @@ fn ask_for_all<P: Port>(
     in_hand
 }
 
-/// Requests each delivery of these releases from a port, once and in order, makes the port hand on its
-/// packets, and returns the number of releases. Packets that the port reports as lost are not tried
-/// again here.
+/// Requests each delivery of these releases from a port, once and in order, and makes the port hand
+/// on its packets. Returns the number of releases. Packets that the port reports as lost are not
+/// tried again here.
 pub fn hand_over<D: Disk, L: Origin, P: Port, R: Wait>(
     rt: &R,
     engine: &Engine<D, L>,
@@ -186,8 +188,8 @@ pub fn hand_over<D: Disk, L: Origin, P: Port, R: Wait>(
     count
 }
 
-/// The outcome of a flusher's last flush: how long the next flight waits for answered callers, and
-/// whether memory ran out, so that a pause is due.
+/// The outcome of a flusher's last flush: how long the next flight waits for the answered callers,
+/// and whether a pause is due because memory ran out.
 #[derive(Drop)]
 struct Pace {
     timeout: Duration,
@@ -214,7 +216,7 @@ impl Pace {
     }
 }
 
-/// Flushes, unless a pause is due, and records how the flusher continues.
+/// Flushes, and records how the flusher continues. No pause may be due.
 fn flush<D: Disk, L: Origin, R: Wait + Clock>(
     rt: &R,
     engine: &Engine<D, L>,
@@ -231,10 +233,10 @@ fn flush<D: Disk, L: Origin, R: Wait + Clock>(
     flushed
 }
 
-/// Flushes accepted steps as long as flights start, and passes the releases of each to the port. Before
-/// a flight it waits for two things. Callers that the last flight answered may order again: if they are
-/// few, it waits up to a sixteenth of that flight's time. Packets that the last flight released may
-/// come back as steps: it waits some milliseconds.
+/// Flushes accepted steps as long as flights start, and passes the releases of each flight to the
+/// port. Before a flight it waits for two things. Callers that the last flight answered may order
+/// again: if they are few, it waits up to a sixteenth of that flight's time. Packets that the last
+/// flight released may come back as steps: it waits some milliseconds.
 ///
 /// The port must accept a request for each signal of a settled step. The flusher ends after a fault of
 /// the device, and after `Engine::finish` once nothing is pending. If memory runs out, it pauses and

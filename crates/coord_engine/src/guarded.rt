@@ -1,6 +1,7 @@
-//! The value under an engine's lock: the ledger, and a count of the callers' accepted steps.
+//! The value under an engine's lock: the ledger, and the count of the callers' accepted steps.
 //!
-//! Each call of an engine takes the lock and calls a method here, whose contract states its effect.
+//! Each call of an engine takes the lock and calls a method of this module. The method's contract
+//! states the effect of the call.
 
 ghost use Rattle.std.specs.Prelude.{◌≡◌, ◌<◌, [], IfNone, IfSome, None};
 ghost use Rattle.coord_engine.specs.MonotoneLog.{Beginning};
@@ -24,15 +25,16 @@ use std::alloc::Global;
 use std::marker::Model;
 use std::sync::ledger::{Blank, Book, Share as Part};
 
-/// The maximum number of shares of an engine. The count has one more part, which stays with the engine.
+/// The maximum number of shares of an engine. The count of accepted steps has one part for each
+/// share and one more part, which stays with the engine.
 const MOST_SHARES: u32 = 65_535;
 
 /// The value under the lock. Contracts see `GuardedState` (`specs/State.antt`).
 ///
-/// In addition to the ledger's invariant, the type guarantees the following. The trail is that of the
-/// ledger that `L` names, grown by as many steps as all shares have noted. Once the ledger has stopped,
-/// no flight is out. A crash at any moment since the engine was created left only worlds after a prefix
-/// of its steps (`specs/Past.antt`).
+/// In addition to the ledger's invariant, the type guarantees the following. The trail begins with
+/// the trail of the ledger that `L` names, and has grown by as many steps as all shares have noted.
+/// Once the ledger has stopped, no flight is out. A crash at any moment since the engine was
+/// created has left only worlds after a prefix of the accepted steps (`specs/Past.antt`).
 #[derive(Drop)]
 pub struct Guarded<D: Disk, L: Origin> {
     alloc: Global,
@@ -41,7 +43,7 @@ pub struct Guarded<D: Disk, L: Origin> {
     book: Book<L>,
     /// The token that has written the steps of earlier instances and then the settled steps.
     writer: LogAuthority,
-    /// The parts of the count that no share has.
+    /// The parts of the count that are in no share.
     rest: Part<L>,
     given: u32,
     start: usize,
@@ -80,7 +82,7 @@ impl<D: Disk, L: Origin> Model for Guarded<D, L> {
 }
 
 impl<D: Disk, L: Origin> Guarded<D, L> {
-    /// Wraps a ledger that `L` names and that has no flight out. The blank has 65,536 parts, and the
+    /// Wraps a ledger that `L` names and that has no flight out. The blank has 65,536 parts. The
     /// history has the steps of earlier instances.
     pub fn new(
         alloc: Global,
@@ -119,7 +121,7 @@ impl<D: Disk, L: Origin> Guarded<D, L> {
         }
     }
 
-    /// Returns a share without notes, or None if all 65,535 are taken.
+    /// Returns a share without notes, or None if all 65,535 shares are taken.
     pub fn share(&mut self) -> Option<Share<L>>
         ensures some { IfSome result (λ share. (share ≡ []) × (self.old.given < most_shares) ×
             (self.new ≡ with_share self.old)) }

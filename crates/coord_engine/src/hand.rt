@@ -29,7 +29,7 @@ impl Hand {
         }
     }
 
-    /// Keeps a packet that has to wait. If memory runs out, the packet is lost; the server sends it
+    /// Keeps the packet if it has to wait. If memory runs out, the packet is lost; the server sends it
     /// again later.
     pub(crate) fn keep(&mut self, packet: &Packet, has_to_wait: bool)
         ensures { Keeps has_to_wait self.old packet.now self.new }

@@ -1,10 +1,10 @@
 //! The settled steps of all instances as one history that grows. It exists only in the proofs.
 //!
-//! Only the invariant of its type is known of the value under a lock. So a flight that leaves takes a
-//! [`LogPrefix`] along, while the [`LogAuthority`] stays under the lock. When the flight returns, the
-//! authority shows that its history begins with the token's prefix. The releases of a flight have a
-//! token too, which has read their steps. Neither takes up a byte; each call loads one word of the
-//! [`MonotoneLog`], which is 0.
+//! A thread that takes a lock knows only that the value under it satisfies the invariant of its
+//! type. So a flight that leaves takes a [`LogPrefix`] along, while the [`LogAuthority`] stays
+//! under the lock. When the flight returns, the authority shows that its history begins with the
+//! token's prefix. The releases of a flight also have a token, which has read their steps. No token
+//! takes up a byte; each call loads one word of the [`MonotoneLog`], which is 0.
 
 use crate::Origin;
 use atomic_table::{Join, Play, Seat, Split, Table, TableRule};
@@ -21,8 +21,8 @@ pub struct Known {
     pub returned: LinkedList<Step>,
 }
 
-/// The rule of all tokens: the prefix of each is a prefix of one history, and the first token has read
-/// the whole history.
+/// The rule for all tokens: the prefixes that a token knows are prefixes of one history, and the
+/// first token has read the whole history.
 pub struct OneHistory;
 
 impl TableRule<(), Known, ()> for OneHistory {
@@ -34,7 +34,7 @@ impl TableRule<(), Known, ()> for OneHistory {
     ghost first = { λ _. knows [] [] };
 }
 
-/// Returns a token for a part of the known steps.
+/// A token with the steps that it knows.
 type Pass = Seat<(), Known>;
 
 /// Names a list of steps: steps to be written to a history, or steps that a token has read.
@@ -62,7 +62,7 @@ impl<G: NamedSteps> Play<(), Known> for WritesOn<G> {
     ghost then = { IsWrittenOn G.steps };
 }
 
-/// The update that compares the prefix of another token with the first token's.
+/// The update that compares another token's prefix with the first token's prefix.
 struct Compares;
 
 impl Play<(), Known> for Compares {
@@ -92,7 +92,7 @@ impl Split<Known> for ReadsAlong {
     ghost right = { λ v. knows v.read [] };
 }
 
-/// The update that joins another token; `G` names the steps of its prefix.
+/// The update that joins another token. `G` names the steps of the other token's prefix.
 struct ComparesTokens<G: NamedSteps> {
     of: PhantomData<G>,
 }
@@ -171,7 +171,7 @@ impl MonotoneLog {
         Ok((MonotoneLog { table }, LogAuthority { token }))
     }
 
-    /// Returns another handle of the same history. Allocates nothing, and fails only if the number of
+    /// Returns another handle of the same history. Allocates nothing. Fails only if the number of
     /// handles has reached its maximum.
     pub fn another(&self) -> Result<MonotoneLog, AllocError>
         ensures { IfOk result (λ other. other ≡ self.now) }
@@ -186,7 +186,7 @@ impl LogAuthority {
     ghost use Rattle.coord_engine.specs.MonotoneLog.{StartsWith};
 
     /// Extends the history: afterwards it has the steps of earlier instances, which `L` names, and then
-    /// these steps.
+    /// the steps `steps`.
     pub(crate) fn write_on<L: Origin>(&mut self, history: &MonotoneLog, steps: &[Step])
         requires here { history.now ≡ self.old.history }
         requires on { StartsWith (L.earlier ++ steps.now) self.old.steps }
@@ -195,7 +195,7 @@ impl LogAuthority {
         self.write_as::<Brand>(history, steps);
     }
 
-    /// Extends the history to exactly the steps that `G` names, which end with the given ones.
+    /// Extends the history to exactly the steps that `G` names, which end with `_last`.
     fn write_as<G: NamedSteps>(&mut self, history: &MonotoneLog, _last: &[Step])
         requires here { history.now ≡ self.old.history }
         requires on { StartsWith G.steps self.old.steps }
@@ -217,7 +217,7 @@ impl LogAuthority {
         LogPrefix { token }
     }
 
-    /// Takes a token back, and shows that the written history begins with its prefix.
+    /// Takes a token back, and shows that the written history begins with the token's prefix.
     pub fn take_back(&mut self, history: &MonotoneLog, reader: LogPrefix)
         requires here { history.now ≡ self.old.history }
         requires theirs { reader.history ≡ self.old.history }
@@ -227,7 +227,7 @@ impl LogAuthority {
         self.take_back_as::<Brand>(history, reader);
     }
 
-    /// Like `take_back`, for a token whose prefix `G` names.
+    /// Takes a token back, like `take_back`, for a token whose prefix `G` names.
     fn take_back_as<G: NamedSteps>(&mut self, history: &MonotoneLog, reader: LogPrefix)
         requires here { history.now ≡ self.old.history }
         requires theirs { reader.history ≡ self.old.history }
@@ -262,7 +262,7 @@ impl LogPrefix {
     }
 
     /// Joins another token of the history, and reads everything that was written: the new prefix
-    /// extends the old one and that of the other token.
+    /// extends the old prefixes of both tokens.
     pub fn join(&mut self, history: &MonotoneLog, other: LogPrefix)
         requires here { history.now ≡ self.old.history }
         requires theirs { other.history ≡ self.old.history }
@@ -273,7 +273,7 @@ impl LogPrefix {
         self.join_as::<Brand>(history, other);
     }
 
-    /// Like `join`, for a token whose prefix `G` names.
+    /// Joins another token, like `join`, for a token whose prefix `G` names.
     fn join_as<G: NamedSteps>(&mut self, history: &MonotoneLog, other: LogPrefix)
         requires here { history.now ≡ self.old.history }
         requires theirs { other.history ≡ self.old.history }

@@ -1,13 +1,14 @@
 //! An engine: one ledger that many threads share, with one history.
 //!
-//! An [`Engine`] is a lock around a [`Guarded`], with conditions on which callers and flushers wait.
-//! The effect of each call is stated by the contract of a method of `Guarded`, a module without
-//! handles; the engine takes the lock and calls that method. A flight is committed by the caller of
-//! `flush_once`, outside the lock.
+//! An [`Engine`] is a lock around a [`Guarded`], with conditions on which callers and flushers
+//! wait. A call of the engine takes the lock and calls a method of `Guarded`, which is in a module
+//! without handles. The contract of that method states the effect of the call. A flight is
+//! committed by the caller of `flush_once`, outside the lock.
 //!
 //! A caller holds a [`Share`] with the notes of its accepted steps. `Engine::close` collects all
-//! shares, and takes the engine apart only if the notes are exactly the steps accepted since the engine
-//! was created (`specs/Named.antt`): one history, which consists of the callers' steps alone.
+//! shares. It takes the engine apart only if the notes are exactly the steps accepted since the
+//! engine was created (`specs/Named.antt`): one history, which consists of the callers' steps
+//! alone.
 //!
 //! `specs/State.antt` defines how contracts see the value under the lock, `specs/Calls.antt` and
 //! `specs/Closing.antt` the answers of its methods, and `specs/Threads.antt` the answers of the

@@ -12,7 +12,7 @@ pub fn not_in_order()
     ensures { NotInOrder }
 {}
 
-/// If one of two steps was not noted, the notes do not name the steps.
+/// If one of two steps was not noted, the notes do not name both steps.
 pub fn not_one_short()
     ensures { NotOneShort }
 {}

@@ -11,11 +11,12 @@ use std::marker::Brand;
 use std::sync::ledger::Ledger as Count;
 
 /// Names an engine: the count of its shares, its history, and the ledger over which it was created.
-/// `Engine::new` and `Engine::close` both have it as a type parameter, because no clause can describe
-/// the value under a lock.
+/// `Engine::new` and `Engine::close` both have this name as a type parameter, because no clause can
+/// describe the value under a lock.
 ///
-/// The code that creates an engine is generic over this name, and is called with `Brand`. That picks
-/// the history with its written steps, and the base, the steps and the disk's past of the given ledger.
+/// The code that creates an engine is generic over this name, and is called with `Brand`. The call
+/// fixes the name's history, its earlier steps, and the base, the accepted steps and the disk's
+/// past of the given ledger.
 pub trait Origin: Count {
     /// The history that the engine writes.
     ghost history: { TableId };
@@ -29,7 +30,7 @@ pub trait Origin: Count {
     /// The steps that the ledger had accepted when the engine was created.
     ghost before: { List Step };
 
-    /// The ledger's disk at that time.
+    /// The past of the ledger's disk at that time.
     ghost disk: { Past };
 }
 

@@ -11,10 +11,11 @@ use coord_ledger::Flight;
 use coord_store::CommitFault;
 use std::marker::{Model, PhantomData};
 
-/// A flight of the engine that `L` names, with a prefix of the engine's history: the steps of earlier
-/// instances, and the steps that were settled when the flight left. Contracts see the flight. The type
-/// guarantees that it left after these steps, and that a crash at any moment since the engine was
-/// created left only worlds after a prefix of these steps and the flight's own.
+/// A flight of the engine that `L` names, with a token that has read the steps of earlier instances
+/// and the steps that were settled when the flight left. Contracts see the flight. The type
+/// guarantees that the flight left after these steps. It also guarantees that a crash at any moment
+/// since the engine was created has left only worlds after a prefix of these steps and the flight's
+/// own steps.
 pub struct OwnFlight<D: Disk, L: Origin> {
     pub(crate) flight: Flight<D>,
     pub(crate) reader: LogPrefix,
@@ -32,8 +33,8 @@ impl<D: Disk, L: Origin> Model for OwnFlight<D, L> {
     ghost invariant = { λ f. FliesBehind D.model L.history L.earlier L.disk L.base f.reader f.flight };
 }
 
-/// Commits a flight. A crash at any moment of the call leaves the world before its steps or the world
-/// after them. A flight that is not new is left as it is.
+/// Commits a flight. A crash at any moment of the call leaves the world before the flight's steps
+/// or the world after them. A flight that is not new is left unchanged.
 fn commit<D: Disk>(flight: &mut Flight<D>) -> Result<(), CommitFault>
     ensures commits { flight.old.mark ≡ New → CommitsFlight D.model.failures flight.old result flight.new }
     ensures moments { flight.old.mark ≡ New → LeavesFlown D.model flight.old flight.new result }

@@ -1,4 +1,4 @@
-//! The share of a worker.
+//! A worker's share.
 
 ghost use Rattle.std.specs.Prelude.{◌≡◌, [], All};
 ghost use Rattle.coord_engine.specs.Working.{IsOfPacket};
@@ -7,8 +7,8 @@ use crate::Share;
 use std::marker::Model;
 use std::sync::ledger::Ledger as Count;
 
-/// A share with notes of packets' steps alone. The type guarantees this, because of a finished thread's
-/// result only the type is known.
+/// A share that has notes of packets' steps only. The type guarantees this, because nothing but the
+/// type is known of a finished thread's result.
 #[derive(Drop)]
 pub struct PacketShare<L: Count> {
     pub(crate) share: Share<L>,

@@ -6,30 +6,29 @@ ghost use Rattle.coord_engine.specs.Port.{delivery_of, step_of};
 use crate::LogPrefix;
 use coord_types::{NodeId, Output, Packet, Step};
 
-/// Carries released packets to the workers of nodes, and signals to their services. No promise depends
-/// on it: a packet may be lost, arrive twice or arrive late. A call returns false if the port knows
-/// that something was lost.
+/// Carries released packets to the workers of nodes, and signals to the nodes' services. No promise
+/// depends on a port: a packet may be lost, arrive twice or arrive late. A call returns false if
+/// the port knows that something was lost.
 ///
 /// The ghost members state the possible states of a port after each call. No port has to state more
-/// than the defaults; code that works with any port uses them to record the requests with their number
-/// and order.
-/// works with any port it records the requests, how often and in which order.
+/// than the defaults. Code that works with any port uses the ghost members to record the requests,
+/// their number and their order.
 pub trait Port {
     ghost use Rattle.std.specs.Prelude.{ℕ, Bool, ⊤};
     ghost use Rattle.coord_types.specs.declared.packets.Packet.{Packet as Asked};
     ghost use Rattle.coord_engine.specs.MonotoneLog.{Beginning};
 
-    /// The possible states after a request to carry a packet to a node, with this answer.
+    /// The possible states after a request to carry a packet to a node, given the answer.
     ghost carried: { Self → ℕ → Asked → Bool → Self → Type 0 } = { λ _ _ _ _ _. ⊤ };
 
-    /// The signals that may be requested, by the prefix of a history that was read, the number of the
-    /// signal's step, the node, and the epoch.
+    /// The signals that may be requested, by the prefix of a history that the token has read, the
+    /// number of the signal's step, the node, and the epoch.
     ghost may_signal: { Beginning → ℕ → ℕ → ℕ → Type 0 } = { λ _ _ _ _. ⊤ };
 
-    /// The possible states after a request to signal an epoch to a node, for a step, with this answer.
+    /// The possible states after a request to signal an epoch of a step to a node, given the answer.
     ghost signalled: { Self → ℕ → ℕ → ℕ → Bool → Self → Type 0 } = { λ _ _ _ _ _ _. ⊤ };
 
-    /// The possible states after a request to hand on the gathered packets, with this answer.
+    /// The possible states after a request to hand on the gathered packets, given the answer.
     ghost handed_on: { Self → ℕ → Self → Type 0 } = { λ _ _ _. ⊤ };
 
     /// Carries a packet to this node. The port may gather packets, so that packets for one place travel
@@ -49,7 +48,8 @@ pub trait Port {
         ensures { handed_on self.old result self.new };
 }
 
-/// The request to a port for one output. For a signal it has the number of its step.
+/// A request to a port for one output. The request for a signal has the number of the signal's
+/// step.
 #[derive(Clone, Copy)]
 pub enum Delivery {
     Carry(NodeId, Packet),
@@ -57,8 +57,8 @@ pub enum Delivery {
 }
 
 impl Delivery {
-    /// Returns the request for an output. Data is carried to its `to`, and a receipt to its `from`, the
-    /// sender of the data.
+    /// Returns the request for an output. Data is carried to its `to`; a receipt is carried to its
+    /// `from`, the sender of the data.
     pub fn of(step: u64, output: Output) -> Self
         ensures { result ≡ delivery_of step output }
     {
@@ -72,7 +72,7 @@ impl Delivery {
     }
 }
 
-/// Returns the step of a packet that has arrived.
+/// Returns the step that an arrived packet becomes.
 pub fn step_of(packet: Packet) -> Step
     ensures { result ≡ step_of packet }
 {

@@ -1,4 +1,4 @@
-//! The releases of a flight, with a prefix of the history.
+//! The releases of a flight, with a token that has read a prefix of the history.
 
 ghost use Rattle.std.specs.Prelude.{◌≡◌, length};
 ghost use Rattle.coord_engine.specs.Port.{MayAskAll};
@@ -8,9 +8,9 @@ use crate::{LogPrefix, Origin};
 use coord_ledger::Releases;
 use std::marker::{Model, PhantomData};
 
-/// Releases for a port, with a token that has read the settled steps of the engine that `L` names. It
-/// must be consumed. Contracts see the remaining releases. The type guarantees that the token has read
-/// the step of each signal among them.
+/// Releases for a port, with a token that has read settled steps of the engine that `L` names. The
+/// value must be consumed. Contracts see the remaining releases. The type guarantees that the token
+/// has read the step of each signal among them.
 pub struct Released<L: Origin> {
     pub(crate) releases: Releases,
     pub(crate) reader: LogPrefix,
@@ -30,7 +30,7 @@ impl<L: Origin> Model for Released<L> {
 }
 
 impl<L: Origin> Released<L> {
-    /// Wraps releases and a token that has read the steps of their signals.
+    /// Wraps releases with a token that has read the steps of their signals.
     pub(crate) fn new(releases: Releases, reader: LogPrefix) -> Self
         requires { AreOfSettled L.history L.earlier L.base reader releases }
         ensures { result ≡ releases }
@@ -56,7 +56,7 @@ impl<L: Origin> Released<L> {
         self.into_releases().lose_rest()
     }
 
-    /// Returns the releases alone.
+    /// Returns the releases without their token.
     pub fn into_releases(self) -> Releases
         ensures { result ≡ self }
     {

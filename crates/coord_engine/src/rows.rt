@@ -1,5 +1,5 @@
-//! Worked examples of waiting packets, and the times of a flusher. Each is the contract of an empty
-//! function.
+//! Worked examples of waiting packets, and the waiting times of a flusher. Each is the contract of
+//! an empty function.
 
 ghost use Rattle.coord_engine.specs.Flushing.{TimesAreUsual};
 ghost use Rattle.coord_engine.specs.WorkedPackets.{BothKinds, LaterInPlace};
@@ -14,7 +14,7 @@ pub fn both_kinds()
     ensures { BothKinds }
 {}
 
-/// The waiting times of a flusher.
+/// The waiting times of a flusher are the usual ones.
 pub fn times_are_usual()
     ensures { TimesAreUsual }
 {}

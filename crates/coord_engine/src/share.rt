@@ -7,9 +7,9 @@ use std::alloc::AllocError;
 use std::marker::Model;
 use std::sync::ledger::{Ledger as Count, Share as Part};
 
-/// A caller's share in an engine: the notes of its accepted steps, in order. Contracts see the notes.
+/// A caller's share of an engine: the notes of the caller's accepted steps, in order. Contracts see the notes.
 ///
-/// In addition it holds one part of the engine's count of accepted steps. So no share can be forged,
+/// A share also holds one part of the engine's count of accepted steps. So no share can be forged,
 /// and all shares together have as many notes as steps were accepted.
 #[derive(Drop)]
 pub struct Share<L: Count> {
@@ -36,7 +36,7 @@ impl<L: Count> Share<L> {
         &self.notes
     }
 
-    /// Allocates room for this many more notes.
+    /// Allocates room for this many more notes. Errors: out of memory.
     pub fn reserve(&mut self, notes: usize) -> Result<(), AllocError>
         ensures { self.new ≡ self.old }
     {

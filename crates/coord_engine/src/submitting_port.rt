@@ -18,11 +18,11 @@ use std::sync::Wait;
 const ROOM: usize = 4_352;
 
 /// A flusher's port that submits packets itself, with its own share, so that no packet travels to
-/// another thread and back. It gathers the packets of a flight, and submits them in `hand_on`. Signals
-/// are passed to another port, which gets no packet.
+/// another thread and back. The port gathers the packets of a flight, and submits them in
+/// `hand_on`. It passes signals to another port, which gets no packet.
 ///
-/// It submits, keeps, drops or loses a packet like a worker (`worker`), and tries the kept ones again
-/// after each flight.
+/// The port submits, keeps, drops or loses a packet like a worker (`worker`), and tries the kept
+/// packets again after each flight.
 #[derive(Drop)]
 pub struct SubmittingPort<'e, D: Disk, L: Origin, P: Port, R: Wait> {
     rt: &'e R,
@@ -46,7 +46,8 @@ impl<'e, D: Disk, L: Origin, P: Port, R: Wait> Model for SubmittingPort<'e, D, L
 }
 
 impl<'e, D: Disk, L: Origin, P: Port + Drop, R: Wait> SubmittingPort<'e, D, L, P, R> {
-    /// Creates an empty port with room for `ROOM` packets, or without room if memory runs out.
+    /// Creates a port without packets, with room for `ROOM` packets, or without room if memory runs
+    /// out.
     pub fn new(
         rt: &'e R,
         alloc: Global,
@@ -70,7 +71,7 @@ impl<'e, D: Disk, L: Origin, P: Port + Drop, R: Wait> SubmittingPort<'e, D, L, P
         }
     }
 
-    /// Returns the port's share, with the notes of all accepted packets' steps.
+    /// Returns the port's share, with the notes of all packets that were accepted.
     pub fn into_share(self) -> PacketShare<L>
         ensures { result ≡ self.entry.notes }
     {
@@ -90,7 +91,7 @@ impl<'e, D: Disk, L: Origin, P: Port, R: Wait> Port for SubmittingPort<'e, D, L,
 
     ghost handed_on = { SubmitsGathered (based_on D.model L.base L.before) };
 
-    /// The packet names its node, so `_to` is not used.
+    /// Gathers a packet. The packet names its node, so `_to` is not used.
     fn carry(&mut self, _to: NodeId, packet: Packet) -> bool {
         self.gathered.push(packet).is_ok()
     }

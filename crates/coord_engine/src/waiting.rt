@@ -12,7 +12,7 @@ use std::alloc::Global;
 use std::hash::{Hash, Hasher};
 use std::marker::Model;
 
-/// A packet's lane and kind. At most one packet of each waits.
+/// A packet's lane and kind. At most one packet of each lane and kind waits.
 #[derive(Clone, Copy, PartialEq, Eq)]
 struct Slot {
     from: NodeId,

@@ -39,7 +39,7 @@ fn submit<D: Disk, L: Origin>(
     }
 }
 
-/// Submits the waiting packets, in order, up to the first that still has to wait.
+/// Submits the waiting packets in order, up to the first packet that still has to wait.
 fn try_waiting<D: Disk, L: Origin>(
     guarded: &mut Guarded<D, L>,
     share: &mut Share<L>,
@@ -74,7 +74,7 @@ fn take<D: Disk, L: Origin>(
     hand.count(guarded.put_down());
 }
 
-/// Submits packets in order, and tries the waiting ones after each.
+/// Submits packets in order, and tries the waiting packets after each one.
 fn take_each<D: Disk, L: Origin>(
     guarded: &mut Guarded<D, L>,
     packets: &[Packet],
@@ -106,8 +106,8 @@ fn take_together<D: Disk, L: Origin, R: Wait>(
     lock.unlock();
 }
 
-/// Submits packets that arrived together and tries the waiting ones again, under one lock, and wakes
-/// the flusher once.
+/// Submits packets that arrived together and tries the waiting packets again, under one lock, and
+/// wakes the flusher once.
 pub(crate) fn take_and_try<D: Disk, L: Origin, R: Wait>(
     rt: &R,
     engine: &Engine<D, L>,
@@ -124,13 +124,13 @@ pub(crate) fn take_and_try<D: Disk, L: Origin, R: Wait>(
     lock.unlock();
 }
 
-/// Submits the arriving packets in order, drops their replies, and ends after the last one. Packets
-/// that arrive together are submitted under one lock.
+/// Submits the arriving packets in order and drops their replies. Ends after the last packet.
+/// Packets that arrive together are submitted under one lock.
 ///
-/// After `PendingFull` or `OutOfMemory` it keeps the packet, and tries the kept packets again before it
-/// submits the next one. After any other refusal it drops the packet. If memory to keep a packet runs
-/// out, the packet is lost; if it is still needed, the server sends it again. In each case the packet
-/// is counted as handled.
+/// After `PendingFull` or `OutOfMemory` the worker keeps the packet, and tries the kept packets
+/// again before it submits the next one. After any other refusal it drops the packet. If memory to
+/// keep a packet runs out, the packet is lost; if it is still needed, the server sends it again. In
+/// each case the packet is counted as handled.
 pub fn worker<D: Disk, L: Origin, I: Iterator<Item = Vec<Packet>>, R: Wait>(
     rt: &R,
     engine: &Engine<D, L>,
@@ -150,8 +150,8 @@ pub fn worker<D: Disk, L: Origin, I: Iterator<Item = Vec<Packet>>, R: Wait>(
     share
 }
 
-/// A worker over a channel, for a separate thread: the type of the returned share guarantees that its
-/// notes are of packets. It ends when the channel closes.
+/// Runs a worker over a channel, for a separate thread. The type of the returned share guarantees
+/// that all its notes are of packets. The worker ends when the channel closes.
 pub fn packet_worker<D: Disk, L: Origin, R: Wait>(
     rt: &R,
     alloc: Global,

@@ -1,4 +1,4 @@
--- The waiting packets as a map, with the lane and kind of each as the key.
+-- The waiting packets as a map. The key of a packet is its lane and kind.
 use Rattle.std.specs.Prelude.{◌≡◌, List, [], ◌∷◌, Bool, true, false, ◌&&◌, ◌==◌}
 use Rattle.std.proofs.Math.Bool.{beq}
 use Rattle.coord_types.specs.declared.packets.Packet.{Packet}

@@ -17,8 +17,8 @@ use coord_ledger::{Ledger, Seen};
 use coord_types::{Kind, Step};
 use std::sync::ledger::{Book, Ledger as Count, Share as Part};
 
-/// Joins all parts of the count. Once they are joined, the shares are known to have as many notes as
-/// steps were counted.
+/// Joins all parts of the count. This shows that the shares have as many notes as steps were
+/// counted.
 fn gather<L: Count>(book: Book<L>, rest: Part<L>, shares: Vec<Share<L>>)
     requires parts { rest.parts + length shares.items ≡ L.parts }
     requires amount { rest.amount ≡ 0 }
@@ -72,7 +72,8 @@ fn left_of<D: Disk>(ledger: Ledger<D>) -> Closed<D>
 
 impl<D: Disk, L: Origin> Guarded<D, L> {
     /// Tests whether the shares noted every step accepted since the engine was created, with the kind
-    /// of its reply, each share in order. The count implies that they noted nothing else.
+    /// of its reply, and whether each share noted its steps in order. If so, the count implies that
+    /// they noted nothing else.
     fn are_noted(&self, shares: &[Share<L>]) -> bool
         ensures { IsTrue result ↔ AreNoted shares.now
             (self.now.ledger.log.base.count + self.now.start)
@@ -90,7 +91,7 @@ impl<D: Disk, L: Origin> Guarded<D, L> {
 
     /// Takes the ledger apart. Refuses unless no flight is out, all shares are returned, everything
     /// that callers have seen is settled, and the shares noted exactly the steps accepted since the
-    /// engine was created, with the kinds of their replies. Returns the authority of the history too,
+    /// engine was created, with the kinds of their replies. Also returns the authority of the history,
     /// which has written the settled steps. Allocates nothing.
     pub fn close(
         self,
@@ -146,8 +147,8 @@ impl<D: Disk, L: Origin> Guarded<D, L> {
         Ok((left_of(ledger), writer))
     }
 
-    /// Takes the ledger apart, whatever the shares noted, and returns the authority of the history too.
-    /// Allocates nothing.
+    /// Takes the ledger apart, whatever the shares noted, and also returns the authority of the
+    /// history. Allocates nothing.
     fn abandon(self) -> (Closed<D>, LogAuthority)
         requires home { is_none self.ledger.disk ≡ false }
         ensures store { (self.ledger.disk ≡ Some result.0.store.disk) ×
@@ -175,8 +176,8 @@ impl<D: Disk, L: Origin> Guarded<D, L> {
         (left_of(ledger), writer)
     }
 
-    /// Takes the ledger apart in any case, unless a flight is out. If `close` would refuse these
-    /// shares, the result has the reason instead of the shares. Allocates nothing.
+    /// Takes the ledger apart, whether or not it can be closed, unless a flight is out. If `close`
+    /// would refuse these shares, the result has the reason. Allocates nothing.
     pub fn retire(
         self,
         shares: Vec<Share<L>>,

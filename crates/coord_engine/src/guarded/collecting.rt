@@ -14,9 +14,9 @@ use coord_types::Refusal;
 use std::mem::replace;
 
 impl<D: Disk, L: Origin> Guarded<D, L> {
-    /// Returns the reply to the ticket's step once the step is settled. `Stranger` refuses a ticket of
-    /// another ledger once a step with its number is settled. `Stopped` refuses a ticket whose step
-    /// will never be settled. Any other ticket has to wait.
+    /// Returns the reply to the ticket's step if the step is settled. Refuses a ticket of another
+    /// ledger as `Stranger`, once a step with the ticket's number is settled. Refuses a ticket whose
+    /// step will never be settled as `Stopped`. Any other ticket has to wait.
     pub fn collect(&self, ticket: Ticket) -> Collected
         ensures { CollectsAs self.now.ledger ticket result }
     {
@@ -30,7 +30,7 @@ impl<D: Disk, L: Origin> Guarded<D, L> {
         }
     }
 
-    /// Makes a token read all settled steps. The prefix that it has then read extends its earlier one.
+    /// Makes a token read all settled steps. The token's new prefix extends its old prefix.
     pub fn read_on(&mut self, history: &MonotoneLog, reader: &mut LogPrefix)
         requires here { history.now ≡ L.history }
         requires own { reader.old.history ≡ L.history }

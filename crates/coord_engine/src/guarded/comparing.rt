@@ -40,7 +40,7 @@ fn is_same(a: &Note, b: &Note) -> bool
     a.step == b.step && a.kind == b.kind && is_same_step(&a.what, &b.what)
 }
 
-/// Tests whether the note is one of these, which are in ascending order.
+/// Tests whether the note is among these notes, which are in ascending order.
 fn has(notes: &[Note], note: &Note) -> bool
     requires { IsAscending notes.now }
     ensures { IsTrue result ↔ Contains notes.now note.now }
@@ -72,8 +72,8 @@ fn kind_at(kinds: &[Kind], place: usize) -> Kind
     kinds[place]
 }
 
-/// Tests whether some share noted each of these steps with the kind of its reply. The steps follow
-/// `others` earlier ones.
+/// Tests whether some share noted each of these steps, with the kind of its reply. The steps follow
+/// `others` earlier steps.
 pub fn all_noted<L: Count>(shares: &[Share<L>], others: u64, steps: &[Step], kinds: &[Kind]) -> bool
     requires ascending { All IsAscending shares.now }
     requires few { others + length steps.now < 2 ^ 64 }

@@ -1,9 +1,9 @@
 //! When a flight starts (`specs/Pacing.antt`).
 //!
-//! `in_hand` counts the released packets that a port or a worker has in hand. The count may be wrong: a
-//! port may lose a packet or carry it twice. `awaited` is the number of steps that are likely to be
-//! pending soon; an answered caller may order again or not. So both are only hints for when to start a
-//! flight.
+//! `in_hand` counts the released packets that a port or a worker has in hand. The count may be
+//! wrong: a port may lose a packet or carry it twice. `awaited` is the number of steps that are
+//! likely to be pending soon. It may be wrong too: an answered caller may or may not order again.
+//! So both are only hints for when to start a flight.
 
 ghost use Rattle.std.specs.Prelude.{◌≡◌, ◌+◌, ◌-◌, ◌^◌, min, take};
 ghost use Rattle.std.specs.List.{count_by};
@@ -17,9 +17,10 @@ use crate::Origin;
 use coord_disk::Disk;
 use coord_types::{MAX_BATCH_STEPS, Step};
 
-/// The maximum number of steps that a flight waits for. If more are likely to come, it waits for none:
-/// a flight of that many callers is well filled without a wait (about 50 of 64 are in each), and over a
-/// fast disk the wait costs more than the few missing steps.
+/// The maximum number of steps that a flight waits for. If more steps are expected, the flight
+/// waits for none: with that many callers a flight is well filled without a wait (about 50 of 64
+/// callers are in each flight), and over a fast disk the wait costs more than the few missing
+/// steps.
 const MOST_AWAITED: u64 = 32;
 
 /// Proof that the count of packets in hand was lowered by one. Only `put_down` returns it.
@@ -36,7 +37,7 @@ fn count_orders(steps: &[Step]) -> usize
         .count()
 }
 
-/// Returns the first of these steps, at most as many as a flight takes.
+/// Returns the first of these steps, at most as many as fit in a flight.
 fn next_steps(steps: &[Step]) -> &[Step]
     ensures { result.now ≡ take MAX_BATCH_STEPS steps.now }
 {
@@ -88,8 +89,9 @@ impl<D: Disk, L: Origin> Guarded<D, L> {
         self.awaited = count_orders(next_steps(self.pending_steps())) as u64;
     }
 
-    /// Waits from now on for the callers of a flight that returned, since they may order again, and for
-    /// the steps that are already pending; for none if there are too many.
+    /// Makes the next flight wait for the callers of a flight that returned, since they may order
+    /// again, and for the steps that are already pending. If there are too many, the flight waits for
+    /// none.
     pub fn await_callers(&mut self)
         ensures { self.new ≡ with_callers_awaited self.old }
     {
@@ -132,7 +134,8 @@ impl<D: Disk, L: Origin> Guarded<D, L> {
         self.is_gathered() || self.pending() >= MAX_BATCH_STEPS || self.finishing
     }
 
-    /// Tests whether a waiting flusher must be woken. `was_idle`: nothing could be flushed before.
+    /// Tests whether a waiting flusher must be woken. `was_idle` says whether nothing could be flushed
+    /// before.
     pub fn wakes_flusher(&self, was_idle: bool) -> bool
         ensures { result ≡ wakes_flusher was_idle self.now }
     {

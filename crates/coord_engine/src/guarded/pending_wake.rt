@@ -2,9 +2,9 @@
 
 use std::sync::Condvar;
 
-/// The duty to wake callers or a flusher after a change that they may be waiting for. Each method of
-/// `Guarded` that makes such a change returns one. It can't be dropped: its owner has to wake the
-/// threads on every path.
+/// The duty to wake callers or a flusher after a change that they may be waiting for. Each method
+/// of `Guarded` that makes such a change returns this duty. It can't be dropped: its owner has to
+/// wake the threads on every path.
 pub struct PendingWake(());
 
 impl PendingWake {

@@ -11,11 +11,11 @@ use coord_ledger::{Handed, Ticket};
 use coord_types::{Refusal, Step};
 
 impl<D: Disk, L: Origin> Guarded<D, L> {
-    /// Accepts a step like the ledger, and notes it in the caller's share. A repeat is not noted; it is
-    /// recognized because the trail does not grow.
+    /// Accepts a step, like `Ledger::submit`, and notes it in the caller's share. A repeat is not
+    /// noted.
     ///
     /// Room for the note is allocated first, so `OutOfMemory` may precede any other refusal. `Stopped`
-    /// is next; a finishing engine returns it too.
+    /// comes next, also if the engine is finishing.
     pub fn submit(&mut self, step: Step, mine: &mut Share<L>) -> Result<Ticket, Refusal>
         ensures answer { AnswersStep step (engine_verdict self.old step)
             (record { ledger = self.old.ledger; notes = mine.old }) result
