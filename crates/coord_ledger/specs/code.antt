@@ -1,2 +1,2 @@
--- Definitions that only the bodies of this crate need.
+-- Definitions that only the function bodies of this crate use.
 pub mod Holding

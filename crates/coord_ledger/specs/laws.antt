@@ -1,4 +1,4 @@
--- The laws of the event machine, each the contract of a function of `laws`, and some runs with known answers.
+-- The laws of the event machine, each the contract of a function of `laws`, and some runs with known results.
 pub mod Laws
 pub mod Commits
 pub mod Rebasing

@@ -1,4 +1,4 @@
--- The event machine: the state of a ledger, its possible answers to each event, and its state after that.
+-- The event machine: the state of a ledger, its possible answers to each event, and its state after an answer.
 pub mod Log
 pub mod Submits
 pub mod Machine

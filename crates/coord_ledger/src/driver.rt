@@ -12,16 +12,19 @@ use crate::{Flight, Ledger};
 use coord_disk::{CrashDisk, Disk};
 use std::marker::Model;
 
-/// A ledger, and its flight if one is out: everything in a run that touches the store. Its holder keeps
-/// the tickets, the views and the releases, so only the ledger grows in here. `into_disk` ends it.
+/// A ledger, and its flight if one is out: everything in a run that touches the store. The driver's
+/// holder keeps the tickets, the views and the releases, so only the ledger grows in the driver.
+/// `into_disk` takes the driver apart.
 ///
-/// Each call simulates an event of the event machine, whatever the holder has released (`simulates`):
-/// the machine may give the call's answer in this state, and then the driver is in the state that the
-/// machine enters with it. The clause `disk` states what the call does to the disk at each of its
-/// moments. Replies, resends and views change nothing: for these call [`Driver::ledger`].
+/// Each call simulates an event of the event machine, whatever the holder has released (clause
+/// `simulates`). The machine may give the call's answer in its present state, and then the driver
+/// is in the state that the machine enters with the answer. The clause `disk` states what the call
+/// does to the disk at each moment of the call. Replies, resends and views change nothing: for
+/// these call [`Driver::ledger`].
 ///
-/// Contracts see `DriverState` (`specs/ledger/DriverState.antt`) and the machine that it simulates
-/// (`specs/ledger/Simulates.antt`). The type guarantees that the flight is the ledger's own.
+/// Contracts see `DriverState` (`specs/ledger/DriverState.antt`) and the machine that the driver
+/// simulates (`specs/ledger/Simulates.antt`). The type guarantees that the flight is the ledger's
+/// own.
 pub struct Driver<D: CrashDisk> {
     ledger: Ledger<D>,
     flight: Option<Flight<D>>,
@@ -57,9 +60,9 @@ impl<D: CrashDisk> Driver<D> {
         &self.ledger
     }
 
-    /// Does nothing. Its contract states what a crash between two events may leave: a legal world,
-    /// after a prefix of the accepted steps that includes every released step. The types of the
-    /// driver's parts guarantee that.
+    /// Does nothing. Its contract states what a crash between two events may leave: a legal world after
+    /// a prefix of the accepted steps, which includes every released step. The types of the driver's
+    /// parts guarantee this.
     pub fn lemma_survives(&self)
         ensures { (s : Machine) → IsConsistent s → Represents self.now s →
             DiskSurvives D.model (disk_held self.now) s }
@@ -70,8 +73,8 @@ impl<D: CrashDisk> Driver<D> {
         }
     }
 
-    /// Does nothing. Its contract states that a run of events may begin here, if no flight is out: the
-    /// invariant of a run (`RunSoFar`) holds for the run without events on the ledger's disk.
+    /// Does nothing. Its contract states that a run of events may begin at this driver, if no flight is
+    /// out: the invariant of a run (`RunSoFar`) holds for the run without events, on the ledger's disk.
     pub fn lemma_begins(&self)
         requires { self.now.flight ≡ None }
         ensures { MayBegin D.model D.crashes self.now }
@@ -80,7 +83,7 @@ impl<D: CrashDisk> Driver<D> {
         self.lemma_survives();
     }
 
-    /// Returns the ledger, if no flight is out.
+    /// Returns the ledger. No flight may be out.
     pub fn into_ledger(self) -> Ledger<D>
         requires { self.flight ≡ None }
         ensures { result ≡ self.ledger }
@@ -92,7 +95,7 @@ impl<D: CrashDisk> Driver<D> {
         }
     }
 
-    /// Returns the disk of the ledger, or of the flight that is out.
+    /// Returns the disk, from the ledger or from the flight that is out.
     pub fn into_disk(self) -> D
         ensures disk { disk_held self ≡ Some result }
         ensures images { ImagesGiveOneOf (D.model.keeps_model result) (D.model.present result) self.ledger.log
@@ -117,8 +120,8 @@ impl<D: CrashDisk> Driver<D> {
         }
     }
 
-    /// Takes back the flight that is out, and drops its releases. If memory runs out, drops the ledger
-    /// too, and returns the disk.
+    /// Takes back the flight that is out, if any, and drops its releases. If memory runs out, drops the
+    /// ledger too, and returns the disk.
     pub(crate) fn bring_home(self) -> Result<Ledger<D>, D>
         ensures home { IfOk result (λ home. home ≡ brought_home self.ledger self.flight) }
         ensures disk { IfErr result (λ disk. disk_held self ≡ Some disk) }

@@ -1,4 +1,4 @@
-//! Runs of events: the one-thread driver of a ledger.
+//! Runs of events, with a driver of a ledger in one thread.
 
 ghost use Rattle.std.specs.Prelude.{◌≡◌, ◌+◌, ℕ, IfErr, IfOk, MatchResult, None, Some, length, take};
 ghost use Rattle.std.specs.Option.{option_map};
@@ -16,24 +16,24 @@ use coord_disk::{CrashDisk, Disk};
 use run::Run;
 use std::alloc::Global;
 
-/// Runs events on a ledger in one thread, and returns an answer to each, all releases, and the ledger.
-/// Tickets are numbered from 0 in the order of their submits. A crash drops the tickets, the flight and
-/// the views, crashes the disk and opens it again. At the end, a flight that is out is taken back, and
-/// its releases are lost.
+/// Runs events on a ledger in one thread, and returns an answer to each event, all releases, and
+/// the ledger. Tickets are numbered from 0 in the order in which the steps were submitted. A crash
+/// drops the tickets, the flight and the views, crashes the disk and opens it again. At the end, a
+/// flight that is out is taken back, and its releases are lost.
 ///
 /// The main theorem: stop the run at any point, before, within or after any write. Whatever the disk
 /// then holds, opening it gives the world after a prefix of the accepted steps, none skipped and none
 /// in part. That prefix includes every step whose reply, packet or signal had been released, and every
 /// link predicate holds in that world.
 ///
-/// This holds at each moment of the run, between two events and inside each of them. `EachMoment`
+/// This holds at each moment of the run, between two events and inside each event. `EachMoment`
 /// states the effect of the run on its disk, event by event: each event begins with the disk that
-/// the previous one left, and the last one leaves the disk of the returned ledger.
+/// the previous event left, and the last event leaves the disk of the returned ledger.
 ///
-/// A fault names the event at which the run ended, and has the answers to the earlier events and all
-/// releases until then. The ledger, its flight and its tickets are dropped. The disk is returned as the
-/// earlier events left it or, if the run ended in a crash, as the opening after the crash left it
-/// (`EndedEarly`).
+/// A fault names the event at which the run ended. It has the answers to the earlier events, and
+/// all releases up to the end. The ledger, its flight and its tickets are dropped. The disk is
+/// returned as the earlier events left it. If the run ended in a crash, the disk is returned as the
+/// opening after the crash left it (`EndedEarly`).
 pub fn run_events<D: CrashDisk>(
     alloc: Global,
     ledger: Ledger<D>,
@@ -41,7 +41,7 @@ pub fn run_events<D: CrashDisk>(
 ) -> Result<(Trace, Ledger<D>), (RunFault, D)>
     requires home { ledger.out ≡ None }
 
-    // A run with all its answers: the main theorem, and the remaining ledger.
+    // For a run with all its answers: the main theorem, and the remaining ledger.
     ensures ran { IfOk result (λ r. (before : D) → (after : D) → ledger.disk ≡ Some before →
         r.1.disk ≡ Some after
         → Promised (D.model.keeps_model before) events.now (Completed D.model D.crashes
@@ -51,7 +51,7 @@ pub fn run_events<D: CrashDisk>(
     ensures same_model { IfOk result (λ r. option_map D.model.keeps_model r.1.disk ≡
         option_map D.model.keeps_model ledger.disk) }
 
-    // A run that ended early.
+    // For a run that ended early.
     ensures broke { IfErr result (λ r. (before : D) → ledger.disk ≡ Some before
         → Promised (D.model.keeps_model before) events.now (EndedEarly D.model D.crashes
         (started ledger) events.now r.0.at r.0.trace.answers.items r.0.trace.released.items r.0.kind
@@ -59,7 +59,7 @@ pub fn run_events<D: CrashDisk>(
     ensures cause { IfErr result (λ r. (before : D) → ledger.disk ≡ Some before →
         HasCauseToEnd (D.model.keeps_model before) events.now r.0.at r.0.trace.released.items r.0.kind) }
 
-    // On any disk: an answer to each event, and the number of device failures.
+    // On any disk: the number of answers, and the number of device failures.
     ensures answers { MatchResult result (λ r. length r.0.answers.items ≡ length events.now) (λ r.
         length r.0.trace.answers.items ≡ r.0.at) }
     ensures failures { (n : ℕ) → HasFailed D.model.failures ledger.disk n

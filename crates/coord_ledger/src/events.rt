@@ -1,4 +1,4 @@
-//! The events of a ledger in one thread, with their answers.
+//! The events of a ledger in one thread, and their answers.
 
 use coord_store::CommitFault;
 use coord_types::{Refusal, Reply, Step};
@@ -28,11 +28,11 @@ pub enum Event {
 /// The answer to an event.
 #[derive(Debug, Drop)]
 pub enum Answer {
-    /// The number of the accepted step.
+    /// The step was accepted: its number.
     Accepted(u64),
-    /// The order is a repeat: the number of its step.
+    /// The step is a repeat: the number of the step that it repeats.
     Repeated(u64),
-    /// The step, or the call, was refused and changed nothing.
+    /// The step or the call was refused, and nothing changed.
     Refused(Refusal),
     /// A flight of this many steps went out, from 1 to 256.
     Begun(u64),
@@ -42,7 +42,7 @@ pub enum Answer {
     Committed,
     /// The flight was not committed.
     Failed(CommitFault),
-    /// The flight was taken back: the number of settled steps after that.
+    /// The flight was taken back: the number of settled steps afterwards.
     Finished(u64),
     /// No flight is out.
     NoFlight,
@@ -56,6 +56,6 @@ pub enum Answer {
     Resent(u64),
     /// The settled world's rows.
     Shown(View),
-    /// The number of steps of the world that was opened after a crash.
+    /// The disk was opened after a crash: the number of steps of its world.
     Opened(u64),
 }

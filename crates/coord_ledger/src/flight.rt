@@ -19,19 +19,18 @@ use coord_types::Step;
 use coord_world::World;
 use std::marker::Model;
 
-/// The store of a ledger, with the next 1 to 256 steps to commit. A ledger's `end_flush` takes it back;
-/// nothing else may drop it. Contracts see `FlightState` (`specs/ledger/State.antt`). The type
-/// guarantees which world each image of its disk gives: before the commit the world before the steps,
-/// after it the world after them, and after a torn commit one of the two.
+/// The store of a ledger, with the next 1 to 256 steps to commit. A ledger's `end_flush` takes the
+/// flight back; nothing else may drop it. Contracts see `FlightState` (`specs/ledger/State.antt`).
+/// The type guarantees which world each image of the disk gives: before the commit, the world
+/// before the steps; after the commit, the world after them; after a torn commit, either world.
 pub struct Flight<D: Disk> {
     pub(crate) first: u64,
     pub(crate) steps: Vec<Step>,
-    /// Once the store has the world after the steps: the world that was settled when the flight went
-    /// out.
+    /// The world that was settled when the flight left, once the store has the world after the steps.
     pub(crate) before: Option<World>,
     /// The world after the steps, until the commit moves it into the store. If the flight has all
-    /// pending steps, it is a copy of the front world. A commit that ran out of memory may have
-    /// consumed it; the next attempt computes it again.
+    /// pending steps, this world is a copy of the front world. A commit that ran out of memory may have
+    /// consumed it; then the next attempt computes it again.
     pub(crate) next: Option<World>,
     pub(crate) mark: Mark,
     pub(crate) store: Store<D>,
@@ -59,10 +58,10 @@ impl<D: Disk> Model for Flight<D> {
 impl<D: Disk> Flight<D> {
     ghost use Rattle.coord_ledger.specs.ledger.Calls.{FlightGives};
 
-    /// Commits the steps. It takes no lock and never waits for a thread.
+    /// Commits the steps. The call takes no lock and never waits for a thread.
     ///
     /// After `OutOfMemory` the caller may try again. After `Device` the flight is torn, and each later
-    /// call returns `Stopped`. A committed flight returns `Again`.
+    /// call returns `Stopped`. For a committed flight each call returns `Again`.
     pub fn commit(&mut self) -> Result<(), CommitFault>
         // A crash at any moment of the call leaves bytes that give the world before the steps or the
         // world after them.
@@ -93,7 +92,7 @@ impl<D: Disk> Flight<D> {
         ensures calls { D.model.keeps_model self.old.disk ≡ true →
             D.model.clock self.new.disk ≤ D.model.clock self.old.disk + 8 }
 
-        // If the body of the batch fits into the free part of the half, no checkpoint is made.
+        // If the body of the batch fits into the free part of the half, the commit makes no checkpoint.
         ensures calls_where_it_fits { (half : ℕ) (body : List ℕ) →
             D.model.keeps_model self.old.disk ≡ true → self.old.mark ≡ New →
             IsBody self.old.world body self.old.steps →
@@ -124,7 +123,7 @@ impl<D: Disk> Flight<D> {
         }
     }
 
-    /// Returns the world that was settled when the flight went out.
+    /// Returns the world that was settled when the flight left.
     pub(crate) fn world(&self) -> &World
         ensures { result.now ≡ self.now.world }
     {
@@ -134,7 +133,7 @@ impl<D: Disk> Flight<D> {
         }
     }
 
-    // Takes the flight apart: the number of its steps, its mark, and the store.
+    // Takes the flight apart into the number of its steps, its mark, and its store.
     pub(crate) fn into_parts(self) -> (usize, Mark, Store<D>)
         ensures size { result.0 ≡ length self.steps }
         ensures mark { result.1 ≡ self.mark }
@@ -157,7 +156,7 @@ impl<D: Disk> Flight<D> {
 }
 
 impl<D: Disk + Takable> Flight<D> {
-    // Returns the disk and drops the steps. The ledger remains without its store.
+    // Returns the disk and drops the steps. The ledger stays without its store.
     pub(crate) fn into_disk(self) -> D
         ensures { result ≡ self.disk }
     {
@@ -169,7 +168,7 @@ impl<D: Disk + Takable> Flight<D> {
 impl<D: Disk> Flight<D> {
     ghost use Rattle.coord_ledger.specs.ledger.Calls.{FlightGives};
 
-    /// Does nothing: its contract states the invariant of the type.
+    /// Does nothing. Its contract states the invariant of the type.
     pub fn lemma_images_give_world(&self)
         ensures some { 1 ≤ length self.now.steps }
         ensures most { length self.now.steps ≤ MAX_BATCH_STEPS }

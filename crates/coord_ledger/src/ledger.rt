@@ -1,5 +1,5 @@
-//! The ledger: a base world, the steps accepted since, how many of them are settled, and the store,
-//! unless a flight carries it.
+//! The ledger: a base world, the steps accepted since, the number of settled steps, and the store,
+//! unless a flight carries the store.
 
 ghost use Rattle.std.specs.Prelude.{◌≡◌, ◌≤◌, false, true, is_some, None, Some, IfErr, IfOk, IfSome};
 ghost use Rattle.coord_types.specs.declared.limits.TheConstants.{MAX_STEPS};
@@ -22,34 +22,34 @@ use std::alloc::{AllocError, Global};
 use std::collections::VecDeque;
 use std::marker::Model;
 
-/// A new ledger allocates room for this many steps. A trail that stays within it never moves. The room
-/// takes more than 32 MiB, so the C library maps it separately and returns it to the system when the
-/// ledger is dropped; smaller blocks would stay with the thread that allocated them.
+/// A new ledger allocates room for this many steps. A trail within this room never moves. The room
+/// takes more than 32 MiB, so the C library maps it separately and returns it to the system when
+/// the ledger is dropped; smaller blocks would stay with the thread that allocated them.
 const TRAIL_ROOM: usize = 700_000;
 
-/// The steps accepted since a base world, and how many of them are settled on the disk. Contracts see
-/// `LedgerState` (`specs/ledger/State.antt`): the log, with the steps in doubt once the ledger has
-/// stopped; the number of steps in flight; and the disk, unless a flight carries it.
+/// The steps accepted since a base world, and the number of steps that are settled on the disk.
+/// Contracts see `LedgerState` (`specs/ledger/State.antt`): the log, with the steps in doubt once
+/// the ledger has stopped; the number of steps in flight; and the disk, unless a flight carries it.
 ///
-/// A ledger keeps every step accepted since it was created, at most 1,024 of them unsettled. It also
-/// keeps the world after all steps (the front world), the world after the settled steps, and the
-/// outputs of each unsettled step.
+/// A ledger keeps every step accepted since the ledger was created, at most 1,024 of them
+/// unsettled. It also keeps the world after all steps (the front world), the world after the
+/// settled steps, and the outputs of each unsettled step.
 #[derive(Drop)]
 pub struct Ledger<D: Disk> {
     alloc: Global,
     base: World,
     trail: Vec<Step>,
-    /// The kinds of the replies to the steps of the trail. With them `collect` compares exactly and
-    /// allocates nothing.
+    /// The kinds of the replies to the steps of the trail. With these kinds, `collect` compares exactly
+    /// and allocates nothing.
     kinds: Vec<Kind>,
-    /// The outputs of each unsettled step, recorded by `hand_in`. They are released once the step is
-    /// settled, so this list does not grow with the settled steps.
+    /// The outputs of each unsettled step, recorded by `hand_in`. A step's outputs are released once
+    /// the step is settled, so this list does not grow with the number of settled steps.
     given: VecDeque<Vec<Output>>,
     /// The number of settled steps of the trail.
     done: usize,
     front: World,
     settled: World,
-    /// The number of steps in flight; meaningful only while the store is away.
+    /// The number of steps in flight. It is meaningful only while the store is away.
     out: usize,
     doubt: Option<usize>,
     store: Option<Store<D>>,
@@ -80,7 +80,8 @@ impl<D: Disk> Model for Ledger<D> {
     }) l.kinds.items (listed l.given.items) l.front l.settled l.out l.store };
 }
 
-/// Returns three copies of a world, for the base, the front and the settled world.
+/// Returns three copies of a world: for the base, for the front world and for the settled world.
+/// Errors: out of memory.
 fn copies(world: &World) -> Result<(World, World, World), AllocError>
     ensures base { IfOk result (λ r. r.0 ≡ world.now) }
     ensures front { IfOk result (λ r. r.1 ≡ world.now) }
@@ -108,7 +109,7 @@ impl<D: Disk> Ledger<D> {
     ghost use Rattle.coord_ledger.specs.Facade.{LedgerGives, ledger_over};
 
     /// Makes a ledger over a store that has not stopped. The store's world becomes the base, and the
-    /// trail is empty.
+    /// trail is empty. If memory runs out, returns the store.
     pub fn adopt(alloc: Global, store: Store<D>) -> Result<Self, (AllocError, Store<D>)>
         requires { has_stopped store ≡ false }
         ensures adopted { IfOk result (λ ledger. ledger ≡ ledger_over store.world store.disk) }
@@ -174,15 +175,15 @@ impl<D: Disk> Ledger<D> {
         self.front.count()
     }
 
-    /// Tests whether the ledger has stopped. It stops when a flight returns whose device failed, and
-    /// from then on accepts and flushes nothing.
+    /// Tests whether the ledger has stopped. A ledger stops when a flight returns torn, because its
+    /// device failed. From then on it accepts and flushes nothing.
     pub fn stopped(&self) -> bool
         ensures { result ≡ is_some self.now.log.doubt }
     {
         self.doubt.is_some()
     }
 
-    /// Returns the number of a client's last accepted order, or 0 if it has none.
+    /// Returns the number of a client's last accepted order, or 0 if the client has none.
     pub fn last(&self, client: Client) -> u64
         ensures { result ≡ last_number (get (front_world self.now.log).sessions client) }
     {
@@ -192,7 +193,7 @@ impl<D: Disk> Ledger<D> {
         }
     }
 
-    /// Returns the store, unless a flight carries it. Pending steps are lost.
+    /// Returns the store. Pending steps are lost. If a flight carries the store, returns the ledger.
     pub fn close(self) -> Result<Store<D>, Self>
         ensures home { IfOk result (λ store. self.disk ≡ Some store.disk) }
         ensures world { IfOk result (λ store. store.world ≡ settled_world self.log) }
@@ -203,7 +204,7 @@ impl<D: Disk> Ledger<D> {
         Ok(store)
     }
 
-    /// Does nothing: its contract states the invariant of the type.
+    /// Does nothing. Its contract states the invariant of the type.
     pub fn lemma_images_give_settled(&self)
         ensures { IfSome self.now.disk (λ disk. D.model.keeps_model disk ≡ true →
             LedgerGives D.model.present self.now disk) }

@@ -1,23 +1,24 @@
 //! A ledger accepts steps, settles them on the disk in flights, and releases a step's outputs only
-//! once it is settled. A crash loses what was not settled, and nothing that was released.
+//! once the step is settled. A crash loses only steps that were not settled, and nothing that was
+//! released.
 //!
-//! `specs/machine` defines a ledger as a machine of events: `Log` has the accepted steps and the number
-//! of settled ones, `Submits` the answer to a submitted step, `Answers` the possible answers to each
-//! event, `After` the state after an answer, and `Runs` lists of events. Memory, the device and crashes
-//! choose among the answers. `specs/promises/Headline.antt` states the main theorem, first in plain
-//! words and then formally: wherever a run is stopped, the disk holds the world after a prefix of the
-//! accepted steps that includes every released step. `specs/ledger` defines how contracts see a ledger,
-//! a flight and a ticket, and how these follow the machine.
+//! `specs/machine` defines a ledger as a machine of events: `Log` has the accepted steps and the
+//! number of settled steps, `Submits` the answer to a submitted step, `Answers` the possible
+//! answers to each event, `After` the state after an answer, and `Runs` lists of events. Memory,
+//! the device and crashes choose among the answers. `specs/promises/Headline.antt` states the main
+//! theorem, first in plain words and then formally: wherever a run is stopped, the disk holds the
+//! world after a prefix of the accepted steps that includes every released step. `specs/ledger`
+//! defines how contracts see a ledger, a flight and a ticket, and how these follow the machine.
 //!
-//! `Ledger` is the code: `submit` accepts a step and returns a `Ticket` for its reply,
-//! `begin_flush` sends the store out with the next steps as a `Flight`, `Flight::commit` writes
-//! them, `end_flush` takes the flight back and returns the `Releases` of the steps that it settled,
-//! and `collect` returns the reply. `show` returns the settled world as coord_view's `View`.
-//! Contracts see `LedgerState`, `FlightState` and a `Claim` (`specs/ledger/State.antt`), and how
-//! each call changes them (`specs/ledger/Calls.antt`).
+//! `Ledger` is the code. `submit` accepts a step and returns a `Ticket` for its reply.
+//! `begin_flush` sends the store out with the next steps as a `Flight`, and `Flight::commit` writes
+//! these steps. `end_flush` takes the flight back and returns the `Releases` of the steps that the
+//! flight settled. `collect` returns the reply. `show` returns the settled world as coord_view's
+//! `View`. Contracts see `LedgerState`, `FlightState` and a `Claim` (`specs/ledger/State.antt`),
+//! and how each call changes them (`specs/ledger/Calls.antt`).
 //!
-//! [`run_events`] runs a list of events in one thread, with crashes in between. The main theorem is its
-//! contract, and `specs/promises/Broken.antt` has the statement for a run that ends early.
+//! [`run_events`] runs a list of events in one thread, with crashes in between. Its contract is the
+//! main theorem; `specs/promises/Broken.antt` states the promise for a run that ends early.
 //! `specs/ledger/Follows.antt` is the invariant of a run between two events.
 //!
 //! [`laws`] proves the laws of the machine on which the main theorem rests.

@@ -7,6 +7,6 @@ pub enum Mark {
     New,
     /// The flight's steps are on the disk.
     Good,
-    /// The device failed: the flight's steps are on the disk or not.
+    /// The device failed: it is unknown whether the flight's steps are on the disk.
     Torn,
 }

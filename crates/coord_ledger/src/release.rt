@@ -2,7 +2,7 @@
 
 use coord_types::Output;
 
-/// An output, and the number of its step. A resent packet has 0 as its step's number.
+/// An output, and the number of its step. For a resent packet the number is 0.
 #[derive(Clone, Copy, Debug, PartialEq, Eq)]
 pub struct Release {
     pub step: u64,

@@ -1,4 +1,4 @@
-//! Releases that are still to be passed on.
+//! Releases that have not been passed on yet.
 
 ghost use Rattle.std.specs.Prelude.{◌≡◌, drop, length, slice_get};
 
@@ -7,8 +7,8 @@ use coord_types::Output;
 use std::alloc::AllocError;
 use std::marker::Model;
 
-/// The releases that are not yet passed on. It must be consumed by `lose_rest`. Contracts see the list
-/// of the remaining releases.
+/// The releases that have not been passed on yet. The value must be consumed by `lose_rest`.
+/// Contracts see the list of the remaining releases.
 pub struct Releases {
     rows: Vec<Release>,
     given: usize,

@@ -4,7 +4,7 @@ ghost use Rattle.std.specs.Prelude.{◌≡◌, max, nat_le};
 
 use std::marker::Model;
 
-/// The greatest number of a step that its holder knows to be settled, initially 0. Contracts see this
+/// The greatest step number that its holder knows to be settled, initially 0. Contracts see this
 /// number.
 #[derive(Drop)]
 pub struct Seen {
@@ -27,7 +27,7 @@ impl Seen {
         Seen { count: 0 }
     }
 
-    /// Records that this step is settled. It never lowers the count.
+    /// Records that the step with this number is settled. The count never becomes lower.
     pub fn note(&mut self, step: u64)
         ensures { self.new ≡ max self.old step }
     {

@@ -1,4 +1,4 @@
-//! Makes the releases of steps, and compares steps and worlds.
+//! The releases of steps, and comparisons of steps and of worlds.
 
 ghost use Rattle.std.specs.Prelude.{◌≡◌, ◌+◌, ◌<◌, ◌≤◌, ◌^◌, ◌++◌, ◌↔◌, drop, length, map, take, IsTrue, OnOk, IfOk};
 ghost use Rattle.coord_ledger.specs.code.Holding.{listed, released_from};
@@ -31,7 +31,7 @@ pub fn are_same(a: &[Step], b: &[Step]) -> bool
     a == b
 }
 
-/// Appends the outputs of the step with this number.
+/// Appends the outputs of the step with this number as releases. Errors: out of memory.
 pub fn push_all(rows: &mut Vec<Release>, step: u64, outputs: &[Output]) -> Result<(), AllocError>
     ensures { OnOk result (rows.new.items ≡ rows.old.items ++ map (release_of step) outputs.now) }
 {
@@ -44,8 +44,8 @@ pub fn push_all(rows: &mut Vec<Release>, step: u64, outputs: &[Output]) -> Resul
     Ok(())
 }
 
-/// Returns the releases of the first `size` steps, which are numbered from `first` on. `given` has the
-/// outputs of all steps.
+/// Returns the releases of the first `size` steps, numbered from `first` on. `given` has the
+/// outputs of all steps, in order. Errors: out of memory.
 pub fn released(
     alloc: Global,
     first: u64,

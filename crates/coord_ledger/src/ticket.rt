@@ -1,4 +1,4 @@
-//! The callers' claims on the steps that they submitted.
+//! The callers' claims to the replies of the steps that they submitted.
 
 ghost use Rattle.std.specs.Prelude.{◌≡◌};
 
@@ -13,8 +13,8 @@ pub struct Note {
     pub kind: Kind,
 }
 
-/// The claim to the reply of a step that may not be settled yet. It must be consumed, by `forget` or by
-/// a ledger's `collect`. Contracts see its claim (`specs/ledger/State.antt`).
+/// The claim to the reply of a step that may not be settled yet. The ticket must be consumed, by
+/// `forget` or by a ledger's `collect`. Contracts see its claim (`specs/ledger/State.antt`).
 pub struct Ticket {
     pub(crate) step: u64,
     pub(crate) what: Step,

@@ -7,7 +7,7 @@ use crate::events::Answer;
 use crate::release::Release;
 use coord_store::StoreFault;
 
-/// One answer for each event, and all releases, in order.
+/// One answer to each event, and all releases, in order.
 #[derive(Drop)]
 pub struct Trace {
     pub answers: Vec<Answer>,
@@ -18,15 +18,15 @@ pub struct Trace {
 #[derive(Clone, Copy, Debug, PartialEq, Eq)]
 pub enum RunFaultKind {
     /// Memory ran out: for the list of answers at the beginning of the run; for the list of tickets or
-    /// of releases, in `Submit`, `Finish` or `Resend`; for the ledger after a crash; or when the last
-    /// flight was taken back.
+    /// of releases, in `Submit`, `Finish` or `Resend`; for the ledger after a crash; or for the
+    /// releases of the last flight, when it was taken back.
     OutOfMemory,
     /// The store was not opened after a crash.
     Store(StoreFault),
 }
 
 impl RunFaultKind {
-    /// Returns 1 for `OutOfMemory`, 2 for `Store`.
+    /// Returns the number of the kind: 1 for `OutOfMemory`, 2 for `Store`.
     pub fn number(self) -> u8
         ensures { result ≡ run_fault_number self }
     {
@@ -37,9 +37,9 @@ impl RunFaultKind {
     }
 }
 
-/// A run that ended early. `at` is the index of the event at which it ended, or the number of events if
-/// the last flight could not be taken back. It has the answers and releases until then. The ledger is
-/// dropped.
+/// A run that ended early. `at` is the index of the event at which the run ended, or the number of
+/// events if the last flight could not be taken back. `trace` has the answers and releases up to
+/// then. The ledger is dropped.
 #[derive(Drop)]
 pub struct RunFault {
     pub at: usize,

@@ -25,12 +25,12 @@ abbrev pub listed : List (Vec Output Global) → List (List Output)
 listed [] = []
 listed (v ∷ vs) = v.items ∷ listed vs
 
--- the releases of steps with these outputs, numbered from here on
+-- the releases of steps with these outputs, if the steps are numbered from n on
 abbrev pub released_from : ℕ → List (List Output) → List Release
 released_from n [] = []
 released_from n (given ∷ others) = map (release_of n) given ++ released_from (n + 1) others
 
--- One list got the first of these releases. The others, at least one, are lost.
+-- The list got the first of these releases. The other releases, at least one, are lost.
 pub record AddsSome (all old new : List Release) : Type 0 where
   pub added : List Release
   pub lost : List Release
@@ -40,7 +40,7 @@ pub record AddsSome (all old new : List Release) : Type 0 where
 
 -- ---- a ledger
 
--- the number of steps in flight, which is meaningful only while the store is away
+-- the number of steps in flight; `n` is meaningful only while the store is away
 abbrev pub out_of : {D : Type 0} → Option (Kept D) → ℕ → Option ℕ
 out_of None n = Some n
 out_of (Some kept) n = None
@@ -49,17 +49,17 @@ abbrev pub disk_at : {D : Type 0} → Option (Kept D) → Option D
 disk_at None = None
 disk_at (Some kept) = Some kept.disk
 
--- the world that the commit of the steps in doubt was meant to make
+-- the world that the commit of the steps in doubt tried to make
 abbrev pub doubted : Log → Option ℕ → Option World
 doubted log None = None
 doubted log (Some b) = Some (world_after log (log.settled + b))
 
--- A store that is not in flight has the settled world.
+-- A store that is not in flight has the settled world. After a stop it also records the world in doubt.
 pub record IsHome {D : Type 0} (log : Log) (kept : Kept D) : Type 0 where
   pub world_is : kept.world ≡ settled_world log
   pub torn_is : kept.torn ≡ doubted log log.doubt
 
--- While the store is away, the next `out` steps are in flight with it, and the ledger has not stopped.
+-- While the store is away, the next `out` steps are in flight with it. The ledger has not stopped.
 pub record IsAway (log : Log) (out : ℕ) : Type 0 where
   pub fits : FitsOut log out
   pub going : log.doubt ≡ None
@@ -76,20 +76,20 @@ pub record IsLedger {D : Type 0} (log : Log) (kinds : List Kind) (given : List (
 
 -- ---- a flight
 
--- the world of a store in flight, if the flight left this world with these steps and now has this mark
+-- the world of a store in flight, if its flight left with this world and these steps, and now has this mark
 abbrev pub carried_world : Mark → World → List Step → World
 carried_world New w steps = w
 carried_world Good w steps = fold w steps
 carried_world Torn w steps = w
 
--- the world that a torn commit of such a store was meant to make
+-- the world that the flight's torn commit tried to make; None if no commit was torn
 abbrev pub carried_torn : Mark → World → List Step → Option World
 carried_torn New w steps = None
 carried_torn Good w steps = None
 carried_torn Torn w steps = Some (fold w steps)
 
--- The parts of a flight fit together: its steps, its store and, if it is already computed, the world after
--- the steps.
+-- The parts of a flight fit together: its steps, its store and, if the world after the steps is already
+-- computed, that world.
 pub record IsFlight {D : Type 0} (steps : List Step) (world : World) (next : Option World) (mark : Mark) (kept : Kept D) : Type 0 where
   pub some : 1 ≤ length steps
   pub most : length steps ≤ MAX_BATCH_STEPS

@@ -27,18 +27,19 @@ use Rattle.coord_ledger.specs.promises.Headline.{CrashPrefix, IsSafe, SignalledO
 
 -- ---- the order of refusals
 
--- A client's last order, sent again, gets its kept reply; any other step gets the given verdict.
+-- a client's last order, sent again, gets its kept reply; any other step gets the given verdict
 abbrev pub unless_repeat : World → Step → Result Verdict Refusal → Result Verdict Refusal
 unless_repeat front (Order client number command) verdict = or_repeat (get front.sessions client) number command verdict
 unless_repeat front (Take p) verdict = verdict
 unless_repeat front (Clear p) verdict = verdict
 
--- All tests of a step in one list: too many steps are pending, no number is left, and the step's own tests.
+-- the verdict of all tests of a step, in order: too many steps are pending, no number is left, and the step's
+-- own tests
 abbrev pub judged_in_order : Log → Step → Result Verdict Refusal
 judged_in_order log s = refused_or (Fresh (kind (state (front_world log)) s)) ((is_full log, PendingFull) ∷ (is_exhausted (front_world log), Exhausted) ∷ against (front_world log) (settled_world log) s)
 
--- A step is refused by the first refusal that applies. `Stopped` comes first, and a repeat is refused by
--- nothing else.
+-- A step is refused by the first refusal that applies. `Stopped` comes first; no other refusal applies to a
+-- repeat.
 abbrev pub SubmitOrder : Type 0
 SubmitOrder = (log : Log) (s : Step) → verdict log s ≡ (if has_stopped log then Err Stopped else unless_repeat (front_world log) s (judged_in_order log s))
 
@@ -55,13 +56,13 @@ pub record LogStays : Type 0 where
 abbrev pub HasAnswer : Type 0
 HasAnswer = (s : Machine) (e : Event) → (a : Answer) × IsOneOf a (answers s e)
 
--- The settled steps of the first machine are the first settled steps of the second.
+-- The settled steps of the machine s are the first settled steps of the machine t.
 pub record KeepsSettled (s t : Machine) : Type 0 where
   pub base : t.log.base ≡ s.log.base
   pub settled : s.log.settled ≤ t.log.settled
   pub steps : take s.log.settled t.log.trail ≡ take s.log.settled s.log.trail
 
--- Each event, a crash too, keeps the settled steps.
+-- Each event, including a crash, keeps the settled steps.
 abbrev pub SettledStays : Type 0
 SettledStays = (s : Machine) (e : Event) (a : Answer) → IsConsistent s → IsOneOf a (answers s e) → KeepsSettled s (after s e a)
 
@@ -76,25 +77,26 @@ StaysConsistent = (s : Machine) (e : Event) (a : Answer) → EventInRange e → 
 abbrev pub RunIsConsistent : Type 0
 RunIsConsistent = (s : Machine) (events : List Event) (given : List Answer) → AllByRecursion EventInRange events → IsConsistent s → Answered s events given → IsConsistent (run s events given)
 
--- A run with one more event is the run, followed by that event.
+-- A run followed by one more event, with a possible answer, is again a run. It ends in the machine after that
+-- event.
 abbrev pub RunGoesOn : Type 0
 RunGoesOn = (s : Machine) (events : List Event) (given : List Answer) (e : Event) (a : Answer) → Answered s events given → IsOneOf a (answers (run s events given) e) →
     Answered s (events ++ e ∷ []) (given ++ a ∷ []) × (run s (events ++ e ∷ []) (given ++ a ∷ []) ≡ after (run s events given) e a)
 
--- Every number of steps that a crash may keep gives a legal world, and includes each step with a visible
+-- After each number of steps that a crash may keep, the world is legal and includes each step with a visible
 -- output.
 abbrev pub KeptIsSafe : Type 0
 KeptIsSafe = (s : Machine) (n : ℕ) → IsConsistent s → IsOneOf n (kept s) → IsSafe s n
 
--- no step's signal was released twice
+-- No step's signal was released twice.
 abbrev pub NoSignalTwice : Type 0
 NoSignalTwice = (s : Machine) → IsConsistent s → SignalledOnce s
 
--- The return of a flight at the end of a run does not change what a crash may keep.
+-- When a flight returns at the end of a run, the numbers of steps that a crash may keep do not change.
 abbrev pub FinishKeepsKept : Type 0
 FinishKeepsKept = (s : Machine) → IsConsistent s → kept (finished s s.flight) ≡ kept s
 
--- The crash prefix holds if each image of a disk gives the world after a number of steps that a crash may
+-- The crash prefix holds if each image of the disk gives the world after a number of steps that a crash may
 -- keep.
 abbrev pub PrefixFromImages : Type 0
 PrefixFromImages = (s : Machine) (keeps_model : Bool) (present : Present) → IsConsistent s → ImagesGiveOneOf keeps_model present s.log (kept s) → CrashPrefix s keeps_model present

@@ -10,19 +10,20 @@ use Rattle.coord_ledger.specs.machine.Consistent.{IsConsistent}
 use Rattle.coord_ledger.specs.machine.Log.{settled_steps}
 use Rattle.coord_ledger.specs.machine.Machine.{Machine}
 
--- whether a release is a signal of node v by a step after step a, up to step b
+-- whether a release is a signal of node v by a step after step a, and no later than step b
 abbrev pub is_signal_within : ℕ → ℕ → ℕ → Release → Bool
 is_signal_within a b v r = (nat_lt a r.step && nat_le r.step b) && is_signal_of v r.output
 
--- All releases of a ledger, crashes included, keep the bounds between two moments of its settled steps:
--- between them, each node gets at most as many signals as resets were started there.
+-- All releases of a ledger, including those before crashes, keep the bounds (`BoundSignals`) between two moments of
+-- its settled steps: between them, a linked node of the part gets at most as many signals as resets were started in
+-- the part.
 abbrev pub ReleasedBetween : Type 0
 ReleasedBetween = (s : Machine) (earlier between rest : List Step) (part : ℕ → Bool) → IsConsistent s → settled_steps s.log ≡ earlier ++ (between ++ rest) → IsReadyAgain s.log.base earlier between part →
     BoundSignals (fold s.log.base earlier) between part (λ v. count_by (is_signal_within (s.log.base.count + length earlier) (s.log.base.count + length earlier + length between) v) s.released)
 
--- The bound if nodes and links come and go, as long as no link joins the part with the rest: a node of the
--- part gets at most as many signals as resets were started and links dropped there, plus its own resets that
--- were answered Finished.
+-- The bound if nodes and links come and go, but no link joins the part with the rest. A node of the part gets
+-- at most as many signals as resets were started and links dropped in the part, plus its own resets that were
+-- answered Finished.
 abbrev pub ReleasedWithDrops : Type 0
 ReleasedWithDrops = (s : Machine) (earlier between rest : List Step) (part : ℕ → Bool) → IsConsistent s → settled_steps s.log ≡ earlier ++ (between ++ rest) → IsReadyApart s.log.base earlier between part →
     (v : ℕ) → part v ≡ true → count_by (is_signal_within (s.log.base.count + length earlier) (s.log.base.count + length earlier + length between) v) s.released ≤ most_signals (fold s.log.base earlier) between part v

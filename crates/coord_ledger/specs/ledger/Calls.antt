@@ -23,7 +23,7 @@ use Rattle.coord_ledger.specs.machine.Answers.{cannot_flush}
 use Rattle.coord_ledger.specs.machine.Log.{Log, front_world, pending, settled_count, settled_world, with_step, world_after}
 use Rattle.coord_ledger.specs.machine.Submits.{verdict}
 
--- the claim that this step has this reply
+-- the claim for a step that gets this reply
 abbrev pub claimed : Step → Reply → Claim
 claimed what reply = record { step = reply.step; what = what; kind = reply.kind }
 
@@ -31,12 +31,12 @@ claimed what reply = record { step = reply.step; what = what; kind = reply.kind 
 abbrev pub with_accepted : {D : Type 0} → LedgerState D → Step → LedgerState D
 with_accepted l s = record l { log = with_step l.log s }
 
--- the claim of the ticket in this result
+-- the claim of the returned ticket
 abbrev pub claim_of : Handed → Claim
 claim_of (handed.Accepted claim) = claim
 claim_of (handed.Repeated claim) = claim
 
--- The reasons to issue no ticket: the step is refused, or it is fresh and memory runs out.
+-- The reasons why a step gets no ticket: the step is refused, or it is fresh and memory runs out.
 abbrev pub RefusesStep : Refusal → Result Verdict Refusal → Type 0
 RefusesStep refusal (Ok (Fresh kind)) = refusal ≡ OutOfMemory
 RefusesStep refusal (Ok (Repeat reply)) = ⊥
@@ -49,14 +49,14 @@ pub record IsAccepted {D : Type 0} (l : LedgerState D) (s : Step) (claim : Claim
   pub claims : claim ≡ claimed s (reply (front_world l.log) s)
   pub now : new ≡ with_accepted l s
 
--- The step is a repeat, which changes nothing.
+-- The step is a repeat, and the ledger is unchanged.
 pub record IsRepeated {D : Type 0} (l : LedgerState D) (s : Step) (claim : Claim) (new : LedgerState D) : Type 0 where
   pub kept : Reply
   pub judged : verdict l.log s ≡ Ok (Repeat kept)
   pub claims : claim ≡ claimed s kept
   pub now : new ≡ l
 
--- The step was refused, which changes nothing.
+-- The step was refused, and the ledger is unchanged.
 pub record IsRefused {D : Type 0} (l : LedgerState D) (s : Step) (refusal : Refusal) (new : LedgerState D) : Type 0 where
   pub why : RefusesStep refusal (verdict l.log s)
   pub now : new ≡ l
@@ -71,11 +71,11 @@ HandedTo l s (Err refusal) new = IsRefused l s refusal new
 abbrev pub keeps_store : {D : Type 0} → LedgerState D → Bool
 keeps_store l = cannot_flush (is_some l.out) l.log
 
--- the next flight to leave, with this disk
+-- the next flight to leave, if the ledger's store has this disk
 abbrev pub next_flight : {D : Type 0} → Log → D → FlightState D
 next_flight log disk = record { first = settled_count log + 1; steps = take MAX_BATCH_STEPS (pending log); world = settled_world log; mark = New; disk = disk }
 
--- the ledger while this many steps are in flight
+-- the ledger while its store is away with n steps in flight
 abbrev pub with_store_out : {D : Type 0} → LedgerState D → ℕ → LedgerState D
 with_store_out l n = record l { out = Some n; disk = None }
 
@@ -83,21 +83,21 @@ with_store_out l n = record l { out = Some n; disk = None }
 abbrev pub taken_back : {D : Type 0} → LedgerState D → ℕ → Mark → D → LedgerState D
 taken_back l n mark disk = record { log = log_back l.log n mark; out = None; disk = Some disk }
 
--- the releases of a flight when it is taken back
+-- the releases of a flight that is taken back with this mark
 abbrev pub releases_in : {D : Type 0} → FlightState D → Mark → List Release
 releases_in f New = []
 releases_in f Good = releases_of (outs f.world f.steps)
 releases_in f Torn = []
 
--- The reasons not to take a flight back: it is not the ledger's current one, or memory for the list of its
--- releases runs out.
+-- The reasons why a flight is not taken back: it is not the ledger's current flight, or memory for the list of
+-- its releases ran out.
 abbrev pub RefusesFlight : {D : Type 0} → LedgerState D → FlightState D → Refusal → Type 0
 RefusesFlight l f Stranger = ¬ IsOut l f
 RefusesFlight l f OutOfMemory = IsOut l f × (f.mark ≡ Good)
 RefusesFlight l f refusal = ⊥
 
--- The worlds that the bytes of a flight's disk may give: before the commit the world before its steps, after
--- the commit the world after them, and after a torn commit one of the two.
+-- The worlds that the bytes of a flight's disk may give: before the commit, the world before the flight's
+-- steps; after the commit, the world after them; after a torn commit, either world.
 abbrev pub GivesFlown : Mark → World → List Step → List ℕ → Type 0
 GivesFlown New w steps bytes = Recovered bytes w
 GivesFlown Good w steps bytes = Recovered bytes (fold w steps)
@@ -107,12 +107,13 @@ GivesFlown Torn w steps bytes = GivesEither w (fold w steps) bytes
 abbrev pub FlightGives : {D : Type 0} → (D → Present) → FlightState D → Type 0
 FlightGives present f = (image : List ℕ) → IsImage (present f.disk) image → GivesFlown f.mark f.world f.steps image
 
--- These bytes give the settled world or, after a stop, possibly the world after the steps in doubt.
+-- These bytes give the settled world or, if the ledger has stopped, possibly the world after the steps in
+-- doubt.
 abbrev pub GivesSettled : Log → Option ℕ → List ℕ → Type 0
 GivesSettled log None bytes = Recovered bytes (settled_world log)
 GivesSettled log (Some b) bytes = GivesEither (settled_world log) (world_after log (log.settled + b)) bytes
 
--- While no flight is out, each crash image of a ledger's disk gives the settled world or, after a stop,
--- possibly the world after the steps in doubt.
+-- While no flight is out, each crash image of the ledger's disk gives the settled world or, if the ledger has
+-- stopped, possibly the world after the steps in doubt.
 abbrev pub LedgerGives : {D : Type 0} → (D → Present) → LedgerState D → D → Type 0
 LedgerGives present l disk = (image : List ℕ) → IsImage (present disk) image → GivesSettled l.log l.log.doubt image

@@ -1,4 +1,4 @@
--- The content of a driver (a disk, held by the ledger or by its flight), and how the calls change it.
+-- A driver's disk, which is held by its ledger or by its flight, and how calls change the driver.
 use Rattle.std.specs.Prelude.{◌≡◌, ◌⊎◌, ℕ, List, [], Bool, true, false, Option, Some, None, length}
 use Rattle.std.specs.Option.{option_map}
 use Rattle.coord_disk.specs.Model.Present.{Present, IsImage}
@@ -26,23 +26,23 @@ use Rattle.coord_ledger.specs.promises.Moments.{Reopens}
 abbrev pub HasFailed : {D : Type 0} → (D → ℕ) → Option D → ℕ → Type 0
 HasFailed failures disk n = option_map failures disk ≡ Some n
 
--- a ledger after its flight was taken back
+-- a ledger after its flight, if one was out, was taken back
 abbrev pub brought_home : {D : Type 0} → LedgerState D → Option (FlightState D) → LedgerState D
 brought_home l None = l
 brought_home l (Some f) = taken_back l (length f.steps) f.mark f.disk
 
--- When the driver is proved to follow the machine: at every event if the disk keeps the model, and otherwise
--- at every event except a crash.
+-- When the driver is proved to follow the machine: at every event if the disk keeps the model, otherwise at
+-- every event except a crash.
 abbrev pub IsPromised : Option Bool → Event → Type 0
 IsPromised model e = (model ≡ Some true) ⊎ (is_crash e ≡ false)
 
--- A crash image of this disk gives this world.
+-- Some crash image of this disk gives this world.
 pub record AnImageGives (present : Present) (world : World) : Type 0 where
   pub image : List ℕ
   pub allowed : IsImage present image
   pub recovered : Recovered image world
 
--- A ledger was created after a crash of this disk, over the world that one of the disk's images gives.
+-- A ledger was created after a crash of the disk `before`. Its world is given by one of that disk's images.
 pub record IsReopened {D : Type 0} (model : DiskModel D) (crashes : D → D → Type 0) (before : D) (l : LedgerState D) : Type 0 where
   pub world : World
   pub disk : D
@@ -51,20 +51,20 @@ pub record IsReopened {D : Type 0} (model : DiskModel D) (crashes : D → D → 
   pub from : model.keeps_model before ≡ true → AnImageGives (model.present before) world
   pub moments : model.keeps_model before ≡ true → Reopens model crashes (IsImage (model.present before)) before disk
 
--- A crash image of this disk is refused with this fault.
+-- Some crash image of this disk is refused with this fault.
 pub record AnImageIsRefused (present : Present) (fault : StoreFault) : Type 0 where
   pub image : List ℕ
   pub allowed : IsImage present image
   pub refused : RefusesOpen image fault
 
--- The returned disk reads as one of the first disk's crash images, and gives a world.
+-- The returned disk reads as one of the crash images of the disk before the crash, and its bytes give a world.
 pub record IsOpenedOnce (present lost : Present) : Type 0 where
   pub allowed : IsImage present lost.read
   pub world : World
   pub recovered : Recovered lost.read world
 
--- The reasons why no ledger was created after a crash of this disk: memory for the ledger ran out after the
--- store was opened, or the store was not opened.
+-- The reasons why no ledger was created after a crash of this disk. `OutOfMemory`: the store was opened, but
+-- memory for the ledger ran out. `Store`: the store was not opened, for this reason.
 abbrev pub IsReopenFault : Bool → Present → Present → RunFaultKind → Type 0
 IsReopenFault keeps_model present lost OutOfMemory = keeps_model ≡ true → IsOpenedOnce present lost
 IsReopenFault keeps_model present lost (Store fault) = IsOpenFault fault × (keeps_model ≡ true → AnImageIsRefused present fault)
@@ -74,28 +74,29 @@ abbrev pub IsEventFault : Option Bool → Event → RunFaultKind → Type 0
 IsEventFault model e OutOfMemory = wants_memory e ≡ true
 IsEventFault model e (Store fault) = (e ≡ Crash) × IsOpenFault fault × (model ≡ Some true → IsPassing fault)
 
--- The driver now holds a disk, which an event on the old disk has led to.
+-- The event led from the driver's old disk to a new disk, which the driver now holds.
 pub record DiskAfter {D : Type 0} (model : DiskModel D) (crashes : D → D → Type 0) (found : Machine) (touches : Bool) (e : Event) (old : D) (now : Option D) : Type 0 where
   pub new : D
   pub holds : now ≡ Some new
   pub touched : Touches model crashes (model.keeps_model old) found touches e old new
 
--- The effect of an event on the driver's disk, if a crash inside the event finds this machine. `model` has the ghost
--- members of the disk's type, which say what its disks may hold, and `crashes` says which disks a crash may leave.
+-- The effect of an event on the driver's disk, if a crash inside the event finds the machine `found`. `model`
+-- has the ghost members of the disk's type, which say what its disks may hold. `crashes` says which disks a
+-- crash may leave.
 abbrev pub DiskEffect : {D : Type 0} → DiskModel D → (D → D → Type 0) → Machine → Bool → Event → Option D → Option D → Type 0
 DiskEffect {D} model crashes found touches e was now =
     (old : D) → was ≡ Some old → DiskAfter model crashes found touches e old now
 
--- An event was cut short, and `lost` is the disk that is returned.
+-- An event was cut short, and the disk `lost` was returned.
 abbrev pub IsLost : {D : Type 0} → DiskModel D → (D → D → Type 0) → Machine → Event → RunFaultKind → Option D → D → Type 0
 IsLost {D} model crashes s e kind was lost =
     (old : D) → was ≡ Some old → IsGivenBack model crashes (model.keeps_model old) s e kind old lost
 
--- Whatever a crash between two events may leave of the driver's disk survives.
+-- Whatever a crash between two events may leave on the driver's disk survives.
 abbrev pub DiskSurvives : {D : Type 0} → DiskModel D → Option D → Machine → Type 0
 DiskSurvives {D} model held s = (disk : D) → held ≡ Some disk → CrashPrefix s (model.keeps_model disk) (model.present disk)
 
--- The driver's state after events with these answers, if the first event found this disk.
+-- The driver's state after events with these answers, if the first event began with the disk `first`.
 pub record RunSoFar {D : Type 0} (model : DiskModel D) (crashes : D → D → Type 0) (keeps_model : Bool) (first : D) (start : LedgerState D) (events : List Event) (given : List Answer) (d : DriverState D) : Type 0 where
   pub answered : Answered (started start) events given
   pub consistent : IsConsistent (run (started start) events given)
@@ -104,8 +105,8 @@ pub record RunSoFar {D : Type 0} (model : DiskModel D) (crashes : D → D → Ty
   pub holds : disk_held d ≡ Some disk
   pub moments : EachMoment model crashes keeps_model (started start) events given first disk
 
--- A run of events may begin at this driver: the run without events, which starts from its ledger's disk, has
--- led to it.
+-- A run of events may begin at this driver: the driver is the result of a run without events from its ledger's
+-- disk.
 pub record MayBegin {D : Type 0} (model : DiskModel D) (crashes : D → D → Type 0) (d : DriverState D) : Type 0 where
   pub first : D
   pub home : d.ledger.disk ≡ Some first

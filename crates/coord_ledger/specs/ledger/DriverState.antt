@@ -45,7 +45,7 @@ answer_to (Ok (handed.Accepted claim)) = answer.Accepted claim.step
 answer_to (Ok (handed.Repeated claim)) = answer.Repeated claim.step
 answer_to (Err refusal) = answer.Refused refusal
 
--- the answer when a flight is taken back, or is not
+-- the answer to the call that takes a flight back, from the result of the call
 abbrev pub finish_answer : {D : Type 0} → Result (Option (List Release)) Refusal → DriverState D → Answer
 finish_answer (Ok None) d = answer.NoFlight
 finish_answer (Ok (Some releases)) d = answer.Finished (settled_count d.ledger.log)

@@ -17,7 +17,8 @@ pub record GivesOneOf (log : Log) (counts bytes : List ℕ) : Type 0 where
 abbrev pub ImagesGiveOneOf : Bool → Present → Log → List ℕ → Type 0
 ImagesGiveOneOf keeps_model present log counts = keeps_model ≡ true → (image : List ℕ) → IsImage present image → GivesOneOf log counts image
 
--- The flight left this ledger and is still out: its first number, steps and world are the ledger's next.
+-- The flight left this ledger and is still out. It begins with the ledger's first unsettled step, has the
+-- ledger's next steps, and has the settled world.
 pub record IsOut {D : Type 0} (l : LedgerState D) (f : FlightState D) : Type 0 where
   pub size : l.out ≡ Some (length f.steps)
   pub first : f.first ≡ settled_count l.log + 1
@@ -27,7 +28,7 @@ pub record IsOut {D : Type 0} (l : LedgerState D) (f : FlightState D) : Type 0 w
 abbrev pub flight_out : {D : Type 0} → FlightState D → FlightOut
 flight_out f = record { size = length f.steps; mark = f.mark }
 
--- The flight that a driver holds is its ledger's flight; if it holds none, none is out.
+-- The flight that the driver holds is its ledger's flight. If the driver holds no flight, none is out.
 abbrev pub HoldsFlight : {D : Type 0} → LedgerState D → Option (FlightState D) → Type 0
 HoldsFlight l None = l.out ≡ None
 HoldsFlight l (Some f) = IsOut l f

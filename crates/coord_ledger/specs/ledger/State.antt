@@ -14,12 +14,12 @@ use Rattle.coord_ledger.specs.machine.Machine.{Machine, machine_over}
 pub record LedgerState (D : Type 0) : Type 0 where
   pub log : Log
   pub out : Option ℕ  -- the number of steps in flight
-  pub disk : Option D  -- the disk of the store; None while a flight carries it
+  pub disk : Option D  -- the disk of the store; None while the disk is away with a flight
 
 pub record FlightState (D : Type 0) : Type 0 where
-  pub first : ℕ  -- the number of its first step
+  pub first : ℕ  -- the number of the flight's first step
   pub steps : List Step
-  pub world : World  -- the settled world when the flight left
+  pub world : World  -- the world that was settled when the flight left
   pub mark : Mark
   pub disk : D
 
@@ -31,7 +31,7 @@ ledger_over w disk = record { log = log_over w; out = None; disk = Some disk }
 abbrev pub started : {D : Type 0} → LedgerState D → Machine
 started l = machine_over l.log
 
--- The claim of a ticket: this step has this number, and its reply has this kind.
+-- The claim of a ticket: the step has this number, and its reply has this kind.
 pub record Claim : Type 0 where
   pub step : ℕ
   pub what : Step
@@ -40,13 +40,13 @@ pub record Claim : Type 0 where
 abbrev pub reply_of : Claim → Reply
 reply_of claim = record { step = claim.step; kind = claim.kind }
 
--- The log has the claim's step at the claim's number, and gives it a reply of this kind.
+-- The log has the claim's step at the claim's number, with a reply of the claim's kind.
 pub record IsInTrail (log : Log) (claim : Claim) : Type 0 where
   pub place : ℕ
   pub there : slice_get log.trail place ≡ Some claim.what
   pub answered : reply (world_after log place) claim.what ≡ reply_of claim
 
--- The base keeps the claim's reply for a client's last order.
+-- The base keeps the claim's reply as the reply to a client's last order.
 pub record IsKeptBy (base : World) (claim : Claim) : Type 0 where
   pub client : ℕ
   pub last : Session
@@ -58,7 +58,7 @@ pub record IsKeptBy (base : World) (claim : Claim) : Type 0 where
 abbrev pub IsGranted : Log → Claim → Type 0
 IsGranted log claim = IsInTrail log claim ⊎ IsKeptBy log.base claim
 
--- The claim is true and its step is settled: exactly then its reply is collected.
+-- The claim is true and its step is settled. Exactly then the ticket's reply is returned.
 pub record IsCollectable (log : Log) (claim : Claim) : Type 0 where
   pub settled : claim.step ≤ settled_count log
   pub granted : IsGranted log claim

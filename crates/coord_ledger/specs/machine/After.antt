@@ -1,4 +1,4 @@
--- The machine after an answer.
+-- The machine after an event was answered.
 use Rattle.std.specs.Prelude.{ℕ, zero, suc, ◌-◌, List, [], ◌∷◌, ◌++◌, map, take, flat_map, Option, Some, None, Result, Ok}
 use Rattle.coord_types.specs.declared.outputs.Output.{Output}
 use Rattle.coord_types.specs.declared.refusals.Refusal.{Refusal}
@@ -24,15 +24,15 @@ use Rattle.coord_ledger.specs.machine.Submits.{verdict}
 abbrev pub release_of : ℕ → Output → Release
 release_of number output = record { step = number; output = output }
 
--- the releases of outcomes: all except their replies, which are collected
+-- the releases of some steps: all their outputs except the replies, which are collected
 abbrev pub releases_of : List StepOutcome → List Release
 releases_of outcomes = flat_map (λ r. map (release_of r.reply.step) r.outputs) outcomes
 
--- the releases of the next b pending steps once they are settled
+-- the releases of the next b pending steps when they are settled
 abbrev pub settling_releases : Log → ℕ → List Release
 settling_releases log b = releases_of (outs (settled_world log) (take b (pending log)))
 
--- the packets that a world sends again, with 0 as their step's number
+-- the packets that a world sends again; their step number is 0
 abbrev pub resent : World → List Release
 resent w = map (release_of 0) (again w)
 
@@ -50,14 +50,14 @@ abbrev pub marked : Mark → Option FlightOut → Option FlightOut
 marked mark None = None
 marked mark (Some f) = Some (record { size = f.size; mark = mark })
 
--- the log after a flight of b steps has returned: a committed flight settles its steps, and a torn one leaves
--- them in doubt
+-- the log after a flight of b steps has returned: a good flight settles its steps, a torn flight leaves them
+-- in doubt
 abbrev pub log_back : Log → ℕ → Mark → Log
 log_back log b New = log
 log_back log b Good = with_settled log b
 log_back log b Torn = with_doubt log b
 
--- the releases after a flight of b steps has returned: a committed flight adds the outputs of its steps
+-- the releases after a flight of b steps has returned: a good flight adds the outputs of its steps
 abbrev pub released_back : List Release → Log → ℕ → Mark → List Release
 released_back released log b New = released
 released_back released log b Good = released ++ settling_releases log b
@@ -75,12 +75,13 @@ spent [] i = []
 spent (t ∷ ts) zero = None ∷ ts
 spent (t ∷ ts) (suc i) = t ∷ spent ts i
 
--- the machine after a crash that keeps n steps: the trail is cut to them, and only the releases remain of the
--- rest
+-- the machine after a crash that keeps n steps: the trail is cut to these steps, and of all else only the
+-- releases and the collected replies remain
 abbrev pub crashed : Machine → ℕ → Machine
 crashed s n = record s { log = cut_to s.log n; flight = None; tickets = []; seen = 0 }
 
--- The machine after an event with this answer. An answer without a line here leaves it unchanged.
+-- The machine after an event with this answer. If no line here matches the event and the answer, the machine
+-- is unchanged.
 abbrev pub after : Machine → Event → Answer → Machine
 after s (Submit x) answer = after_submit s x (verdict s.log x) answer
 after s Begin (Begun b) = record s { flight = Some (record { size = b; mark = New }) }

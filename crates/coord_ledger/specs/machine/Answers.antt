@@ -1,5 +1,5 @@
 -- The possible answers to each event. If there is more than one, memory, the device or the crash decides, and
--- the answer shows which was chosen.
+-- the answer shows the choice.
 use Rattle.std.specs.Prelude.{◌≡◌, ◌⊎◌, ℕ, zero, suc, ◌+◌, ◌==◌, ◌||◌, nat_le, min, Bool, List, [], ◌∷◌, map, length, is_some, Option, Some, None, Result, Ok, Err, if◌then◌else◌}
 use Rattle.coord_types.specs.declared.limits.TheConstants.{MAX_BATCH_STEPS}
 use Rattle.coord_types.specs.declared.refusals.Refusal.{Refusal}
@@ -24,7 +24,7 @@ abbrev pub IsOneOf : {A : Type 0} → A → List A → Type 0
 IsOneOf x [] = ⊥
 IsOneOf x (y ∷ ys) = (x ≡ y) ⊎ IsOneOf x ys
 
--- A fresh step gets the next number, and a repeat the number of its step.
+-- A fresh step gets the next number. A repeat gets the number of its step.
 abbrev pub to_submit : ℕ → Result Verdict Refusal → List Answer
 to_submit number (Ok (Fresh kind)) = Accepted number ∷ Refused OutOfMemory ∷ []
 to_submit number (Ok (Repeat reply)) = Repeated reply.step ∷ []
@@ -46,8 +46,8 @@ to_commit New = Committed ∷ Failed fault.Device ∷ Failed fault.OutOfMemory �
 to_commit Good = Failed fault.Again ∷ []
 to_commit Torn = Failed fault.Stopped ∷ []
 
--- The settled count after the flight. A committed flight adds its steps to it. Only such a flight can run out
--- of memory, for its releases.
+-- The settled count after the flight has returned. A good flight adds its steps to the count. Only for a good
+-- flight can memory run out, since its releases need memory.
 abbrev pub to_finish : ℕ → ℕ → Mark → List Answer
 to_finish count size New = Finished count ∷ []
 to_finish count size Good = Finished (count + size) ∷ Refused OutOfMemory ∷ []
@@ -57,13 +57,13 @@ abbrev pub with_flight : Option FlightOut → (FlightOut → List Answer) → Li
 with_flight None answers_for = NoFlight ∷ []
 with_flight (Some f) answers_for = answers_for f
 
--- the ticket with this index, if it exists and was not collected
+-- the ticket with this index, or None if there is no such ticket or it was collected
 abbrev pub ticket : {A : Type 0} → List (Option A) → ℕ → Option A
 ticket [] i = None
 ticket (t ∷ ts) zero = t
 ticket (t ∷ ts) (suc i) = ticket ts i
 
--- The reply is returned only once its step is settled.
+-- The reply is returned only if its step is settled.
 abbrev pub to_collect : ℕ → Option Reply → List Answer
 to_collect count None = NoTicket ∷ []
 to_collect count (Some reply) = (if nat_le reply.step count then Collected reply else Waiting) ∷ []
@@ -71,14 +71,15 @@ to_collect count (Some reply) = (if nat_le reply.step count then Collected reply
 abbrev pub to_show : Machine → List Answer
 to_show s = if has_stopped s.log then Refused Stopped ∷ [] else Shown (shown (accepted_count s.log) (settled_world s.log)) ∷ Refused OutOfMemory ∷ []
 
--- the numbers of steps that a crash may keep, if d are settled and a flight of b more is out with this mark
+-- the numbers of steps that a crash may keep, if d steps are settled and a flight of b more steps is out with
+-- this mark
 abbrev pub kept_with : ℕ → ℕ → Mark → List ℕ
 kept_with d b New = d ∷ []
 kept_with d b Good = (d + b) ∷ []
 kept_with d b Torn = d ∷ (d + b) ∷ []
 
--- the numbers of steps that a crash may keep, if d are settled: with a flight out, with steps in doubt, or
--- with neither
+-- the numbers of steps that a crash may keep, if d steps are settled: with a flight out, with steps in doubt,
+-- or with neither
 abbrev pub kept_by : ℕ → Option FlightOut → Option ℕ → List ℕ
 kept_by d None None = d ∷ []
 kept_by d None (Some b) = d ∷ (d + b) ∷ []

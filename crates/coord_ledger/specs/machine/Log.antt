@@ -1,4 +1,4 @@
--- The steps accepted since a base world, with the numbers of settled steps and of steps in doubt.
+-- The steps accepted since a base world, with the number of settled steps and the number of steps in doubt.
 use Rattle.std.specs.Prelude.{ℕ, ◌+◌, ◌-◌, Bool, List, [], ◌∷◌, ◌++◌, length, map, take, drop, Option, Some, None, is_some}
 use Rattle.coord_types.specs.declared.steps.Kind.{Kind}
 use Rattle.coord_types.specs.declared.steps.Step.{Step}
@@ -8,7 +8,7 @@ pub record Log : Type 0 where
   pub base : World
   pub trail : List Step  -- the accepted steps since the base
   pub settled : ℕ  -- the number of settled steps
-  pub doubt : Option ℕ  -- after a stop: this many steps after the settled ones are all on disk, or none of them is
+  pub doubt : Option ℕ  -- after a stop: the number of steps in doubt, which follow the settled steps; either all of them are on disk, or none is
 
 -- the kinds of the replies to these steps
 abbrev pub kinds_of : World → List Step → List Kind
@@ -59,10 +59,10 @@ with_settled log b = record log { settled = log.settled + b }
 abbrev pub with_doubt : Log → ℕ → Log
 with_doubt log b = record log { doubt = Some b }
 
--- the log of the first n steps alone, all settled and none in doubt
+-- the log that has only the first n steps, all settled and none in doubt
 abbrev pub cut_to : Log → ℕ → Log
 cut_to log n = record { base = log.base; trail = take n log.trail; settled = n; doubt = None }
 
--- the same log, with the world after its first n steps as its base
+-- the same log, but with the world after its first n steps as its base
 abbrev pub rebased : Log → ℕ → Log
 rebased log n = record log { base = world_after log n; trail = drop n log.trail; settled = log.settled - n }

@@ -1,5 +1,5 @@
--- The answer of a ledger to a submitted step. It checks in this order: the ledger has stopped; the step is a
--- repeat; too many steps are pending. Then the front world and the settled world judge the step.
+-- The answer of a ledger to a submitted step. The ledger first checks, in this order: the ledger has stopped;
+-- the step is a repeat; too many steps are pending. Then the front world and the settled world judge the step.
 use Rattle.std.specs.Prelude.{nat_le, Bool, length, Result, Ok, Err, if◌then◌else◌}
 use Rattle.coord_types.specs.declared.limits.TheConstants.{MAX_PENDING}
 use Rattle.coord_types.specs.declared.refusals.Refusal.{Refusal}
@@ -10,11 +10,11 @@ use Rattle.coord_world.specs.declared.verdicts.Verdict.TheVariants.{Fresh, Repea
 use Rattle.coord_world.specs.protocol.Acceptance.{accepts}
 use Rattle.coord_ledger.specs.machine.Log.{Log, front_world, has_stopped, pending, settled_world}
 
--- whether no more steps may become pending
+-- whether the log is full: no more steps may become pending
 abbrev pub is_full : Log → Bool
 is_full log = nat_le MAX_PENDING (length (pending log))
 
--- a full log refuses everything except a repeat, which is not a step
+-- a full log refuses every step; a repeat is not a step, so it is answered
 abbrev pub unless_full : Bool → Result Verdict Refusal → Result Verdict Refusal
 unless_full full (Ok (Repeat reply)) = Ok (Repeat reply)
 unless_full full (Ok (Fresh kind)) = if full then Err PendingFull else Ok (Fresh kind)

@@ -1,4 +1,4 @@
--- The reasons why a run ends early, and the number of device failures in it.
+-- The reasons why a run ends early, and the number of device failures in the run.
 use Rattle.std.specs.Prelude.{ℕ, ◌+◌, List, [], ◌∷◌}
 use Rattle.coord_store.specs.Faults.{failed_in as failed_in_commit}
 use Rattle.coord_store.specs.Refused.{failed_in as failed_in_opening}
@@ -13,7 +13,8 @@ abbrev pub run_fault_number : RunFaultKind → ℕ
 run_fault_number OutOfMemory = 1
 run_fault_number (Store fault) = 2
 
--- the number of device failures in the failed opening that ended a run with this fault; 0 if memory ran out
+-- the number of device failures in the failed opening that ended a run with this fault; 0 if the run ended
+-- because memory ran out
 abbrev pub failed_in_run : RunFaultKind → ℕ
 failed_in_run OutOfMemory = 0
 failed_in_run (Store fault) = failed_in_opening fault

@@ -1,4 +1,4 @@
--- The effect of an event on the disk, and what a crash at a moment of it may leave.
+-- The effect of an event on the disk, and what a crash during the event may leave.
 use Rattle.std.specs.Prelude.{◌≡◌, ℕ, List, Bool, true, false}
 use Rattle.coord_disk.specs.Model.Moments.{LeavesOnly}
 use Rattle.coord_disk.specs.Model.Present.{IsImage, whole}
@@ -17,8 +17,8 @@ touches_disk Commit (Failed fault.OutOfMemory) = true
 touches_disk Crash answer = true
 touches_disk event answer = false
 
--- A crash has chosen one of the disk's images. At each moment of the opening after it, a crash would leave
--- only images of the chosen one, and P holds for all of these.
+-- A crash has chosen one of the disk's images. At each moment of the opening that follows, another crash would
+-- leave only images of the chosen one. P holds for all these images.
 pub record Reopens {D : Type 0} (model : DiskModel D) (crashes : D → D → Type 0) (P : List ℕ → Type 0) (old new : D) : Type 0 where
   pub taken : D
   pub crash : crashes old taken
@@ -27,7 +27,7 @@ pub record Reopens {D : Type 0} (model : DiskModel D) (crashes : D → D → Typ
   pub opening : LeavesOnly model taken new (IsImage (model.present taken))
   pub each : (bytes : List ℕ) → IsImage (model.present taken) bytes → P bytes
 
--- At each moment since an event began, a crash would leave only images for which P holds.
+-- At each moment of the event, a crash would leave only images for which P holds.
 abbrev pub LeavesWithin : {D : Type 0} → DiskModel D → (D → D → Type 0) → Event → (List ℕ → Type 0) → D → D → Type 0
 LeavesWithin model crashes Crash P old new = Reopens model crashes P old new
 LeavesWithin model crashes event P old new = LeavesOnly model old new P

@@ -52,8 +52,8 @@ impl<D: CrashDisk> Driver<D> {
         }
     }
 
-    /// Takes back the flight that is out, and returns its releases, or None if no flight is out. If
-    /// memory runs out, the flight stays out.
+    /// Takes back the flight that is out, and returns its releases. Returns None if no flight is out.
+    /// If memory runs out, the flight stays out.
     pub fn finish(&mut self) -> Result<Option<Releases>, Refusal>
         ensures simulates { Simulates self.old Finish (finish_answer result self.new) self.new }
         ensures base { self.new.ledger.log.base ≡ self.old.ledger.log.base }

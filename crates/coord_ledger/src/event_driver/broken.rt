@@ -5,7 +5,7 @@ ghost use Rattle.std.specs.Prelude.{◌≡◌};
 use crate::{Answer, Release, RunFault, RunFaultKind, Trace};
 use coord_disk::CrashDisk;
 
-/// The reason why an event was not answered, the releases until then, and the disk.
+/// The reason why an event was not answered, the releases up to that event, and the disk.
 pub struct Broken<D: CrashDisk> {
     pub kind: RunFaultKind,
     pub released: Vec<Release>,
@@ -13,7 +13,8 @@ pub struct Broken<D: CrashDisk> {
 }
 
 impl<D: CrashDisk> Broken<D> {
-    /// Returns the fault of a run that ended at this event after these answers, and the disk.
+    /// Returns the fault of a run that ended at the event with index `at` after these answers, and the
+    /// disk.
     pub fn at(self, at: usize, answers: Vec<Answer>) -> (RunFault, D)
         ensures at { result.0.at ≡ at }
         ensures answers { result.0.trace.answers.items ≡ answers.items }

@@ -11,7 +11,8 @@ use coord_disk::{CrashDisk, Disk};
 use std::alloc::Global;
 
 impl<D: CrashDisk> Run<D> {
-    /// Crashes the disk and opens it again. Tickets and the flight are lost.
+    /// Crashes the disk and opens it again. The tickets and the flight are lost. If the run ends here,
+    /// returns the reason, the releases and the disk.
     pub fn crash(self, alloc: Global) -> Result<(Answer, Self), Broken<D>>
         ensures answered { (s : Machine) → IsConsistent s → Follows self s →
             IsPromised (model_held D.model self.driver) Crash

@@ -11,8 +11,8 @@ use crate::{Ledger, Release, RunFaultKind};
 use coord_disk::{CrashDisk, Disk};
 
 impl<D: CrashDisk> Run<D> {
-    /// Takes back the flight that is out, and drops its releases and the remaining tickets. Returns the
-    /// releases of the run, and the ledger.
+    /// Takes back the flight that is out, and drops the flight's releases and the remaining tickets.
+    /// Returns the releases of the run, and the ledger.
     pub fn end(self) -> Result<(Vec<Release>, Ledger<D>), Broken<D>>
         ensures ran { (start : LedgerState D) → (first : D) → (events : List What) →
             (given : List Reaction) → (after : D)

@@ -1,4 +1,4 @@
-//! Answers the events of a run.
+//! The answers to the events of a run.
 
 ghost use Rattle.std.specs.Prelude.{◌≡◌, ◌+◌, ℕ, IfErr, IfOk, MatchResult, Some};
 ghost use Rattle.coord_ledger.specs.declared.trace.RunFaultKind.TheVariants.{OutOfMemory};
@@ -12,7 +12,7 @@ use coord_disk::{CrashDisk, Disk};
 use std::alloc::Global;
 
 impl<D: CrashDisk> Run<D> {
-    /// Ends the run because memory ran out, and keeps only the releases and the disk.
+    /// Ends the run because memory ran out. Keeps only the releases and the disk.
     pub fn lose(self) -> Broken<D>
         ensures kind { result.kind ≡ OutOfMemory }
         ensures released { result.released.items ≡ self.released.items }
@@ -32,8 +32,8 @@ impl<D: CrashDisk> Run<D> {
         }
     }
 
-    /// Answers one event. If memory for a list of the run runs out, or the disk is not opened after a
-    /// crash, the run ends, and only its releases and its disk remain.
+    /// Answers one event. If memory for one of the run's lists runs out, or the disk is not opened
+    /// after a crash, the run ends, and only its releases and its disk remain.
     pub fn meet(self, alloc: Global, event: Event) -> Result<(Answer, Self), Broken<D>>
         ensures answered { (s : Machine) → IsConsistent s → Follows self s →
             IsPromised (model_held D.model self.driver) event

@@ -7,7 +7,8 @@ use crate::{Release, Releases, Ticket};
 use coord_types::Output;
 use std::alloc::AllocError;
 
-/// Appends releases to a list, and returns their number. If memory runs out, the rest are lost.
+/// Appends releases to a list, and returns the number of appended releases. If memory runs out, the
+/// remaining releases are lost.
 pub fn push_releases(released: &mut Vec<Release>, mut releases: Releases) -> Result<u64, AllocError>
     ensures count { IfOk result (λ n. n ≡ length releases) }
     ensures all { IfOk result (λ _. released.new.items ≡ released.old.items ++ releases) }
@@ -26,7 +27,7 @@ pub fn push_releases(released: &mut Vec<Release>, mut releases: Releases) -> Res
     Ok((released.len() - before) as u64)
 }
 
-/// Drops the replies that were not collected. (No postcondition: nothing remains.)
+/// Drops tickets whose replies were not collected. (No postcondition: nothing remains.)
 pub fn forget_all(mut tickets: Vec<Option<Ticket>>) {
     while let Some(place) = tickets.pop() {
         if let Some(ticket) = place {

@@ -9,7 +9,7 @@ use coord_disk::{CrashDisk, Disk};
 use coord_types::{Refusal, Step};
 use std::alloc::AllocError;
 
-/// The driver of a ledger, the tickets, the last view, and the releases. They agree with the event
+/// The driver of a ledger, the tickets, the seen count, and the releases. All agree with the event
 /// machine (`Follows`, `specs/ledger/Follows.antt`).
 pub struct Run<D: CrashDisk> {
     pub driver: Driver<D>,
@@ -19,7 +19,7 @@ pub struct Run<D: CrashDisk> {
 }
 
 impl<D: CrashDisk> Run<D> {
-    /// Submits a step.
+    /// Submits a step, and keeps its ticket. Errors: out of memory.
     pub fn submit(&mut self, step: Step) -> Result<Answer, AllocError>
         ensures answered { (s : Machine) → IsConsistent s → Follows self.old s →
             IfOk result (λ answer. FollowsTo s (Submit step) answer self.new) }
@@ -51,7 +51,8 @@ impl<D: CrashDisk> Run<D> {
         self.driver.begin()
     }
 
-    /// Takes back the flight that is out, and appends its releases to the run's.
+    /// Takes back the flight that is out, and appends its releases to the run's releases. Errors: out
+    /// of memory.
     pub fn finish(&mut self) -> Result<Answer, AllocError>
         ensures answered { (s : Machine) → IsConsistent s → Follows self.old s →
             IfOk result (λ answer. FollowsTo s Finish answer self.new) }
@@ -107,7 +108,7 @@ impl<D: CrashDisk> Run<D> {
         self.driver.commit()
     }
 
-    /// Releases again the packets that may have been lost.
+    /// Releases again the packets that may have been lost. Errors: out of memory.
     pub fn resend(&mut self) -> Result<Answer, AllocError>
         ensures answered { (s : Machine) → IsConsistent s → Follows self.old s →
             IfOk result (λ answer. FollowsTo s Resend answer self.new) }

@@ -1,4 +1,4 @@
-//! Returns the replies to settled steps.
+//! How the replies to settled steps are returned.
 
 ghost use Rattle.std.specs.Prelude.{◌≡◌, ◌↔◌, ◌<◌, false, true, length, slice_get, IfErr, IfOk, IsTrue, Some};
 ghost use Rattle.coord_ledger.specs.ledger.State.{IsCollectable, IsKeptBy, reply_of};
@@ -10,7 +10,7 @@ use coord_disk::Disk;
 use coord_types::{Kind, Reply, Step};
 use coord_world::World;
 
-/// Tests whether a world keeps the ticket's reply for the ticket's order.
+/// Tests whether a world keeps the ticket's reply as the reply to the ticket's order.
 fn is_kept(world: &World, ticket: &Ticket) -> bool
     ensures { IsTrue result ↔ IsKeptBy world.now ticket.now }
 {
@@ -41,7 +41,8 @@ fn is_kind_at(kinds: &[Kind], place: usize, ticket: &Ticket) -> bool
     kinds[place] == ticket.kind
 }
 
-/// Tests whether the trail has the ticket's step at this place, and `kinds` its kind of reply.
+/// Tests whether the trail has the ticket's step at this place, and `kinds` has the ticket's kind
+/// of reply.
 fn stands_at(trail: &[Step], kinds: &[Kind], place: usize, ticket: &Ticket) -> bool
     requires in_trail { place < length trail.now }
     requires in_kinds { place < length kinds.now }
@@ -54,7 +55,7 @@ fn stands_at(trail: &[Step], kinds: &[Kind], place: usize, ticket: &Ticket) -> b
     is_kind_at(kinds, place, ticket)
 }
 
-/// Returns the reply if the ticket's step is settled, and the ticket otherwise.
+/// Returns the reply if the ticket's step is settled, otherwise the ticket.
 fn replied(ticket: Ticket, settled: bool) -> Result<Reply, Ticket>
     ensures settled { IfOk result (λ reply. (reply ≡ reply_of ticket) × (settled ≡ true)) }
     ensures waiting { IfErr result (λ back. (back ≡ ticket) × (settled ≡ false)) }
@@ -69,7 +70,7 @@ fn replied(ticket: Ticket, settled: bool) -> Result<Reply, Ticket>
 
 impl<D: Disk> Ledger<D> {
     /// Tests whether the settled part of the trail has the ticket's step, with the ticket's kind of
-    /// reply. The step's number must be above the base's count.
+    /// reply. The number of the ticket's step must be above the base's count.
     fn is_settled(&self, ticket: &Ticket) -> bool
         requires { self.now.log.base.count < ticket.now.step }
         ensures { IsTrue result ↔ IsCollectable self.now.log ticket.now }
@@ -92,7 +93,7 @@ impl<D: Disk> Ledger<D> {
         }
     }
 
-    /// Returns the reply to the ticket's step once the step is settled. Before that, or if the ticket
+    /// Returns the reply to the ticket's step if the step is settled. Before that, or if the ticket
     /// belongs to another ledger, returns the ticket. A stopped ledger answers too.
     pub fn collect(&self, ticket: Ticket) -> Result<Reply, Ticket>
         ensures settled { IfOk result (λ reply. (reply ≡ reply_of ticket) ×

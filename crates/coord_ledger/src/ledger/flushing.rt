@@ -15,7 +15,7 @@ use coord_world::World;
 use std::alloc::AllocError;
 use std::mem::replace;
 
-/// Returns the next `size` steps after the settled ones.
+/// Returns the next `size` steps after the first `done` steps, which are settled.
 fn next_steps(trail: &[Step], done: usize, size: usize) -> &[Step]
     requires { done + size ≤ length trail.now }
     ensures { result.now ≡ take size (drop done trail.now) }
@@ -24,8 +24,8 @@ fn next_steps(trail: &[Step], done: usize, size: usize) -> &[Step]
 }
 
 impl<D: Disk> Ledger<D> {
-    /// Returns the world after these next steps. If they are all pending steps, it is a copy of the
-    /// front world.
+    /// Returns the world after these steps, which are the next pending steps. If they are all pending
+    /// steps, the world is a copy of the front world. Errors: out of memory.
     fn world_behind(&self, steps: &[Step]) -> Result<World, AllocError>
         requires { steps.now ≡ take (length steps.now) (pending self.now.log) }
         ensures { IfOk result (λ world. world ≡ fold (settled_world self.now.log) steps.now) }
@@ -43,7 +43,7 @@ impl<D: Disk> Ledger<D> {
         }
     }
 
-    /// Returns the next unsettled steps, at most 256, and the world after them.
+    /// Returns the next unsettled steps, at most 256, and the world after them. Errors: out of memory.
     fn next_flown(&self) -> Result<(Vec<Step>, World), AllocError>
         ensures steps { IfOk result (λ flown. flown.0.items ≡
             take MAX_BATCH_STEPS (pending self.now.log)) }
@@ -61,7 +61,7 @@ impl<D: Disk> Ledger<D> {
         }
     }
 
-    /// Sends the store out with the next steps. `later` is the world after them.
+    /// Sends the store out with the next steps. `later` is the world after these steps.
     fn send_out(&mut self, steps: Vec<Step>, later: World) -> Flight<D>
         requires home { is_some self.old.disk ≡ true }
         requires going { self.old.log.doubt ≡ None }
@@ -90,7 +90,7 @@ impl<D: Disk> Ledger<D> {
     }
 
     /// Sends the store out with the next unsettled steps, at most 256. Returns None if nothing is
-    /// pending, a flight is out, or the ledger has stopped.
+    /// pending, a flight is already out, or the ledger has stopped. Errors: out of memory.
     pub fn begin_flush(&mut self) -> Result<Option<Flight<D>>, AllocError>
         ensures nothing { keeps_store self.old ≡ true → (result ≡ Ok None) × (self.new ≡ self.old) }
         ensures begun { keeps_store self.old ≡ false →
@@ -113,7 +113,7 @@ impl<D: Disk> Ledger<D> {
         Ok(Some(self.send_out(steps, later)))
     }
 
-    /// Tests whether a flight is the one that this ledger has sent out.
+    /// Tests whether a flight is the flight that this ledger has sent out.
     fn is_own(&self, flight: &Flight<D>) -> bool
         ensures { IsTrue result ↔ IsOut self.now flight.now }
     {
@@ -129,7 +129,8 @@ impl<D: Disk> Ledger<D> {
         are_same(&flight.steps, next_steps(&self.trail, self.done, self.out))
     }
 
-    /// Returns the settled world after a committed flight, and the releases of its steps.
+    /// Returns the settled world after a committed flight, and the releases of the flight's steps.
+    /// Errors: out of memory.
     fn settled_by(&self, flight: &Flight<D>) -> Result<(World, Vec<Release>), AllocError>
         requires own { IsOut self.now flight.now }
         requires good { flight.now.mark ≡ Mark.Good }
@@ -147,7 +148,7 @@ impl<D: Disk> Ledger<D> {
         }
     }
 
-    /// Takes back the ledger's own flight, which was torn or was never committed.
+    /// Takes back the ledger's own flight, which was torn or never committed.
     fn take_back(&mut self, flight: Flight<D>)
         requires own { IsOut self.old flight }
         requires uncommitted { flight.mark ≢ Mark.Good }
@@ -160,7 +161,7 @@ impl<D: Disk> Ledger<D> {
         }
     }
 
-    /// Takes back the ledger's own flight, which was committed: its steps are now settled, and
+    /// Takes back the ledger's own flight, which was committed. Its steps are now settled, and
     /// `settled` is the world after them.
     fn take_settled(&mut self, flight: Flight<D>, settled: World)
         requires own { IsOut self.old flight }
@@ -200,11 +201,10 @@ impl<D: Disk> Ledger<D> {
     }
 
     /// Takes back the ledger's flight, with its store. A committed flight settles its steps, and their
-    /// releases are returned. A flight that was not committed settles nothing. A torn flight settles
-    /// nothing either, and the ledger stops.
+    /// releases are returned. Any other flight settles nothing; if it is torn, the ledger stops.
     ///
-    /// `Stranger` refuses a flight that this ledger has not sent out: the numbers and steps of both and
-    /// the worlds before them are compared. A refusal returns the flight.
+    /// Refuses as `Stranger` a flight that this ledger has not sent out: the first numbers, the steps
+    /// and the worlds before the steps are compared. A refusal returns the flight.
     pub fn end_flush(&mut self, flight: Flight<D>) -> Result<Releases, (Refusal, Flight<D>)>
         ensures own { OnOk result (IsOut self.old flight) }
         ensures taken { OnOk result (self.new ≡

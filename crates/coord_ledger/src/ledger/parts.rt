@@ -18,7 +18,7 @@ impl<D: Disk> Ledger<D> {
         &self.trail
     }
 
-    /// Returns the kinds of the replies to the steps of the trail.
+    /// Returns the kinds of the replies to the trail's steps.
     #[tactic(auto, using(crate::proofs::follows::Kept::kinds_within))]
     pub fn kinds(&self) -> &[Kind]
         ensures kinds { result.now ≡ kinds_of self.now.log.base self.now.log.trail }
@@ -34,7 +34,7 @@ impl<D: Disk> Ledger<D> {
         self.trail.len() - self.done
     }
 
-    /// Takes the ledger apart into its store, base, trail and settled count. While a flight carries the
+    /// Takes the ledger apart into its store, base, trail and settled count. If a flight carries the
     /// store, returns the ledger. Allocates nothing.
     pub fn into_parts(self) -> Result<(Store<D>, World, Vec<Step>, u64), Self>
         ensures home { IfOk result (λ parts. self.disk ≡ Some parts.0.disk) }
@@ -80,9 +80,9 @@ impl<D: Disk> Ledger<D> {
         self.store.is_none()
     }
 
-    /// Does nothing. Its contract states the invariant of the type: the log is consistent with the
-    /// steps in flight and the steps in doubt; while steps are in flight, the store is away with them;
-    /// a stopped ledger has its store.
+    /// Does nothing. Its contract states the invariant of the type. The log is consistent, also with
+    /// the steps in flight and the steps in doubt. While steps are in flight, the store is away with
+    /// them. A stopped ledger has its store.
     pub fn lemma_log_is_consistent(&self)
         ensures log { IsConsistentLog self.now.log }
         ensures out { IfSome self.now.out (FitsOut self.now.log) }

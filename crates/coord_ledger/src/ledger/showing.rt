@@ -1,4 +1,4 @@
-//! Resends packets, and shows the settled world.
+//! How packets are resent, and how the settled world is shown.
 
 ghost use Rattle.std.specs.Prelude.{◌≡◌, ◌<◌, ◌≤◌, Err, is_some, false, true, IfOk, MatchResult, OnErr};
 ghost use Rattle.coord_types.specs.declared.refusals.Refusal.TheVariants.{OutOfMemory, Stopped, Behind};
@@ -14,8 +14,8 @@ use coord_view::{View, view_of};
 use std::alloc::AllocError;
 
 impl<D: Disk> Ledger<D> {
-    /// Returns the packets that the settled world has to send again because they may have been lost,
-    /// with 0 as their step's number.
+    /// Returns the packets that the settled world sends again because they may have been lost. Their
+    /// step number is 0. Errors: out of memory.
     pub fn resend(&self) -> Result<Releases, AllocError>
         ensures { IfOk result (λ releases. releases ≡ resent (settled_world self.now.log)) }
     {
@@ -25,7 +25,7 @@ impl<D: Disk> Ledger<D> {
         Ok(Releases::of(rows))
     }
 
-    /// Returns a view of the settled world to a caller who has not seen a later one, and raises the
+    /// Returns a view of the settled world to a caller who has not seen a later world, and raises the
     /// caller's seen count to the settled count. Refuses with the first of these that applies:
     /// `Stopped`, `Behind` (with the settled count), `OutOfMemory`.
     pub fn show(&self, seen: &mut Seen) -> Result<View, Refusal>

@@ -1,4 +1,4 @@
-//! Accepts steps.
+//! How steps are accepted.
 
 ghost use Rattle.std.specs.Prelude.{◌≡◌, Err, IfOk, IsOkAnd, MatchResult, Ok, OnErr};
 ghost use Rattle.coord_types.specs.declared.refusals.Refusal.TheVariants.{OutOfMemory};
@@ -16,7 +16,7 @@ use coord_world::{StepOutcome, Verdict};
 use std::alloc::AllocError;
 
 impl<D: Disk> Ledger<D> {
-    /// Returns the ledger's verdict about a step, as if memory never ran out.
+    /// Returns the ledger's verdict about a step, if memory does not run out.
     fn judge(&self, step: &Step) -> Result<Verdict, Refusal>
         ensures { result ≡ verdict self.now.log step.now }
     {
@@ -33,7 +33,7 @@ impl<D: Disk> Ledger<D> {
         verdict
     }
 
-    /// Accepts a fresh step whose reply has this kind, and returns the reply.
+    /// Accepts a fresh step, and returns its reply, which has this kind. Errors: out of memory.
     fn accept(&mut self, step: Step, kind: Kind) -> Result<Reply, AllocError>
         requires { verdict self.old.log step ≡ Ok (Verdict.Fresh kind) }
         ensures accepted { IfOk result (λ _. self.new ≡ with_accepted self.old step) }
@@ -52,7 +52,7 @@ impl<D: Disk> Ledger<D> {
         Ok(reply)
     }
 
-    /// Submits a step like [`Ledger::submit`], with the same refusals, and also returns whether the
+    /// Submits a step, like [`Ledger::submit`] and with the same refusals, and also returns whether the
     /// step is new. A client's last order, sent again, is not new.
     pub fn hand_in(&mut self, step: Step) -> Result<Handed, Refusal>
         ensures { HandedTo self.old step result self.new }
@@ -67,10 +67,10 @@ impl<D: Disk> Ledger<D> {
     }
 
     /// Accepts a step, and returns a ticket for its reply. A client's last order, sent again, is not a
-    /// step: its ticket is for the kept reply.
+    /// step; its ticket is for the kept reply.
     ///
     /// Refuses with the first of these that applies: `Stopped`; `PendingFull` if 1,024 steps are not
-    /// settled (but a repeat is answered); `Exhausted`; the step's own refusals in the order of
+    /// settled (a repeat is still answered); `Exhausted`; the step's own refusals in the order of
     /// `World::judge`; `OutOfMemory`.
     pub fn submit(&mut self, step: Step) -> Result<Ticket, Refusal>
         ensures fresh { (kind : Sort) → verdict self.old.log step ≡ Ok (Verdict.Fresh kind) →
