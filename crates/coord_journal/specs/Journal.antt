@@ -29,8 +29,7 @@ has_stopped journal = journal.stopped
 abbrev pub HasRoomFor : {D : Type 0} → Journal D → ℕ → Type 0
 HasRoomFor journal len = used_of journal + 5 + len ≤ half_size_of journal
 
--- The journal's disk keeps the model and holds the text of this content, all of it synced, and the journal has not
--- stopped.
+-- The journal has not stopped. Its disk keeps the model and holds the text of this content, all of it synced.
 pub record IsReady {D : Type 0} (m : DiskModel D) (journal : Journal D) (content : Content) : Type 0 where
   pub keeps : m.keeps_model (disk_of journal) ≡ true
   pub synced : m.present (disk_of journal) ≡ whole (m.present (disk_of journal)).read

@@ -9,11 +9,11 @@ pub record Content : Type 0 where
   pub snapshot : List ℕ
   pub batches : List (List ℕ)
 
--- the length of these bytes as a four-byte number, and then the bytes
+-- the length of these bytes as a four-byte number, followed by the bytes
 abbrev pub sized : List ℕ → List ℕ
 sized bytes = to_be_bytes w32 (length bytes) ++ bytes
 
--- the bytes are one byte, then a sized body of at most `limit` bytes, and then the rest, `behind`
+-- the bytes are the byte `first`, then a sized body of at most `limit` bytes, and then the bytes `behind`
 abbrev pub BeginsWithBody : ℕ → ℕ → List ℕ → List ℕ → List ℕ → Type 0
 BeginsWithBody limit first body behind bytes = (length body ≤ limit) × (bytes ≡ first ∷ (sized body ++ behind))
 
@@ -22,7 +22,8 @@ abbrev pub IsOpened : List (List ℕ) → List ℕ → Type 0
 IsOpened [] bytes = bytes ≡ []
 IsOpened (batch ∷ batches) bytes = (gate : ℕ) × (rest : List ℕ) × (gate ≢ 0) × BeginsWithBody MAX_BODY gate batch rest bytes × IsOpened batches rest
 
--- the bytes begin with these batches after open gates, `size` bytes in all, and then a closed gate
+-- the bytes begin with these batches, each after an open gate and `size` bytes in all; then comes a closed
+-- gate
 abbrev pub ReadsAs : List (List ℕ) → ℕ → List ℕ → Type 0
 ReadsAs batches size bytes = (opened : List ℕ) × (behind : List ℕ) × (bytes ≡ opened ++ 0 ∷ behind) × IsOpened batches opened × (length opened ≡ size)
 
@@ -30,7 +31,7 @@ ReadsAs batches size bytes = (opened : List ℕ) × (behind : List ℕ) × (byte
 abbrev pub half_front : ℕ → List ℕ → List ℕ → List ℕ
 half_front version snapshot opened = version ∷ (sized snapshot ++ opened)
 
--- These bytes are a half with this content, of which the first `used` bytes are in use, including the closed gate. The
+-- These bytes are a half with this content. The first `used` bytes are in use, including the closed gate; the
 -- bytes after the gate are not read.
 pub record IsHalf (bytes : List ℕ) (content : Content) (used : ℕ) : Type 0 where
   pub opened : List ℕ
@@ -49,17 +50,18 @@ pub record IsHalfSize (half_size : ℕ) : Type 0 where
   pub smallest : MIN_HALF ≤ half_size
   pub greatest : half_size ≤ MAX_HALF
 
--- the bytes begin with a header, which holds this selector and this size of a half
+-- the bytes begin with a header, which holds this selector and this half size, and go on with `rest`
 pub record HasHeader (bytes : List ℕ) (selector half_size : ℕ) (rest : List ℕ) : Type 0 where
   pub spelled : bytes ≡ (selector ∷ magic) ++ (to_be_bytes w64 half_size ++ rest)
   pub size : IsHalfSize half_size
 
--- the offset of a half after the header; the halves have the numbers 0 and 1
+-- the offset of a half after the header, in bytes; the halves have the numbers 0 and 1
 abbrev pub half_start : ℕ → ℕ → ℕ
 half_start half half_size = half * half_size
 
--- These bytes are the text of this content: a header, the bytes before the selected half, and that half. An even
--- selector names half 0, an odd one half 1. The half uses `used` bytes, including its closed gate.
+-- These bytes are the text of this content: a header, the bytes before the selected half, and the selected
+-- half. An even selector selects half 0, an odd selector half 1. The selected half uses `used` bytes,
+-- including its closed gate.
 pub record IsTextAt (bytes : List ℕ) (content : Content) (half_size half used : ℕ) : Type 0 where
   pub selector : ℕ
   pub skipped : List ℕ
@@ -70,7 +72,7 @@ pub record IsTextAt (bytes : List ℕ) (content : Content) (half_size half used 
   pub holds : IsHalf half_bytes content used
   pub fits : used ≤ half_size
 
--- the place of the closed gate on the device
+-- the offset of the closed gate on the device, in bytes
 abbrev pub gate_place : ℕ → ℕ → ℕ → ℕ
 gate_place half_size half used = 16 + half_start half half_size + used
 
@@ -81,7 +83,8 @@ IsText content bytes = (half_size half used : ℕ) × IsTextAt bytes content hal
 abbrev pub IsTextIn : ℕ → List ℕ → Type 0
 IsTextIn half bytes = (content : Content) × (half_size : ℕ) × (used : ℕ) × IsTextAt bytes content half_size half used
 
--- these bytes are the text of some content, with this half selected, and a body of `len` bytes still fits
+-- these bytes are the text of some content, with this half selected, and a body of `len` bytes still fits into
+-- the half
 abbrev pub HasPlaceIn : ℕ → ℕ → List ℕ → Type 0
 HasPlaceIn half len bytes = (content : Content) × (half_size : ℕ) × (used : ℕ) × IsTextAt bytes content half_size half used × (used + 5 + len ≤ half_size)
 
@@ -100,13 +103,13 @@ IsEitherText one other bytes = IsText one bytes ⊎ IsText other bytes
 abbrev pub formatted : ℕ → ℕ → List ℕ → List ℕ
 formatted half_size version snapshot = (0 ∷ magic) ++ (to_be_bytes w64 half_size ++ (half_front version snapshot [] ++ 0 ∷ []))
 
--- The bytes after an append at the closed gate at this offset: first the body and a new closed gate are written after
--- the gate, and then the gate is opened with a 1.
+-- The bytes after an append, with the closed gate at the offset `gate`: first the body and a new closed gate
+-- are written after this gate, and then this gate is opened by a 1.
 abbrev pub with_body_at : ℕ → List ℕ → List ℕ → List ℕ
 with_body_at gate body bytes = overwritten (overwritten bytes (gate + 1) (sized body ++ 0 ∷ [])) gate (1 ∷ [])
 
--- The bytes after a replace: first the other half is written, with a snapshot and no batch, and then its number is
--- written as the selector.
+-- The bytes after a replace: first a snapshot without a batch is written to the other half, and then the
+-- number of that half is written as the selector.
 abbrev pub with_half : ℕ → ℕ → ℕ → List ℕ → List ℕ → List ℕ
 with_half half half_size version snapshot bytes = overwritten (overwritten bytes (17 + half_start half half_size) (half_front version snapshot [] ++ 0 ∷ [])) 0 (half ∷ [])
 

@@ -1,4 +1,4 @@
--- Two writes, of which the second begins only when the first is on disk.
+-- Two writes, where the second begins only once the first is on disk.
 use Rattle.std.specs.Prelude.{◌⊎◌, ℕ, List}
 use Rattle.coord_disk.specs.Model.Present.{Torn, overwritten}
 

@@ -1,4 +1,4 @@
--- The promise that an append and a replace have in common.
+-- The promises that an append and a replace have in common.
 use Rattle.std.specs.Prelude.{◌≡◌, ◌≢◌, ◌↔◌, true, false, Result, IfErr, IsErrOf, OnOk}
 use Rattle.coord_disk.specs.Model.DiskModel.{DiskModel}
 use Rattle.coord_disk.specs.Model.Moments.{LeavesOnly, Runs}
@@ -9,7 +9,7 @@ use Rattle.coord_journal.specs.declared.fault.JournalFault.{JournalFault}
 use Rattle.coord_journal.specs.declared.fault.JournalFault.TheVariants.{Device, Stopped}
 use Rattle.coord_journal.specs.declared.journal.Journal.{Journal}
 
--- The journal is ready with the content `before`, and the call replaces that by the content `after`.
+-- The journal is ready with the content `before`, and the call replaces this content by `after`.
 pub record Rewrites {D T : Type 0} (m : DiskModel D) (before after : Content) (old new : Journal D) (result : Result T JournalFault) : Type 0 where
   -- A crash at any moment of the call leaves the text of `before` or of `after`.
   pub any_moment : LeavesOnly m (disk_of old) (disk_of new) (IsEitherText before after)

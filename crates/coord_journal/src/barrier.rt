@@ -1,4 +1,4 @@
-//! Reads a disk to open a journal. A sync first makes durable whatever an earlier fault left
+//! Reads a disk to open a journal. First a sync makes durable whatever an earlier fault left
 //! undecided.
 
 ghost use Rattle.std.specs.Prelude.{◌≡◌, ◌≢◌, ◌⊎◌, true, IfOk, IfErr, OnOk};
@@ -12,7 +12,7 @@ use coord_disk::Disk;
 use std::alloc::Global;
 
 /// Syncs the disk and then returns all its bytes, which are durable at that point. A crash during
-/// the call leaves only bytes that it could have left before.
+/// the call leaves only bytes that a crash before the call could have left.
 pub fn read_durable<D: Disk>(alloc: Global, disk: &mut D) -> Result<Vec<u8>, JournalFault>
     ensures bytes { D.model.keeps_model disk.old ≡ true →
         IfOk result (λ bytes. bytes.items ≡ (D.model.present disk.old).read) }

@@ -9,7 +9,7 @@ use std::alloc::{AllocError, AllocFailed};
 use std::error::Error;
 use std::fmt;
 
-/// The reason for which a call of a journal was refused.
+/// The reason why a call of a journal was refused.
 #[derive(Clone, Copy, Debug, PartialEq, Eq, Hash)]
 pub enum JournalFault {
     /// Memory ran out.

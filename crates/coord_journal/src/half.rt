@@ -13,7 +13,7 @@ pub enum Half {
 impl Half {
     ghost use Rattle.coord_journal.specs.Half.{half_number};
 
-    /// Returns the half that a selector names.
+    /// Returns the half that a selector selects.
     pub fn named_by(selector: u8) -> Self
         ensures { half_number result ≡ selector % 2 }
     {
@@ -45,7 +45,7 @@ impl Half {
         }
     }
 
-    /// Returns the half's offset after the header, in bytes, with halves of this size.
+    /// Returns the offset of this half after the header, in bytes, if a half has this size.
     pub fn start(self, half_size: u64) -> u64
         ensures start { result ≡ half_start (half_number self) half_size }
         ensures low { result ≤ half_size }

@@ -24,7 +24,8 @@ fn read_size(bytes: &[u8]) -> u64
     ])
 }
 
-// Splits the bytes after a header, without checking the size of a half in it.
+// Splits the bytes into a header and the bytes after it, without checking the half size in the
+// header. Returns None if the bytes do not begin with a selector, the magic bytes and a size.
 fn split_header(bytes: &[u8]) -> Option<Header<'_>>
     ensures some { IfSome result (λ header. bytes.now ≡
         (header.selector ∷ magic) ++ (to_be_bytes w64 header.half_size ++ header.rest.now)) }

@@ -54,8 +54,8 @@ impl<D: Disk> Journal<D> {
         }
     }
 
-    /// Returns the length of the longest body that still fits, in bytes. It returns 0 both if only
-    /// an empty body fits and if no body fits; `fits` distinguishes the two.
+    /// Returns the length of the longest body that still fits, in bytes. Returns 0 both if only an
+    /// empty body fits and if no body fits; `fits` distinguishes the two cases.
     pub fn room(&self) -> u64
         ensures { result ≡ half_size_of self.now - used_of self.now - 5 }
     {
@@ -86,10 +86,10 @@ impl<D: Disk> Journal<D> {
         (HEADER as u64 - 1) + self.half.start(self.half_size) + self.used
     }
 
-    /// Appends a batch with this body, which has at most 8,192 bytes and must fit. It makes four
-    /// calls of the device.
+    /// Appends a batch with this body, which has at most 8,192 bytes and must fit. Makes four device
+    /// calls.
     ///
-    /// After `Device`, each later call returns `Stopped`, and opening the device shows whether it
+    /// After `Device`, each later call returns `Stopped`; opening the device shows whether the device
     /// holds the batch.
     pub fn append(&mut self, body: &[u8]) -> Result<(), JournalFault>
         requires short { length body.now ≤ MAX_BODY }
@@ -117,11 +117,11 @@ impl<D: Disk> Journal<D> {
         Ok(())
     }
 
-    /// Replaces the whole content by a version and a snapshot of at most 16,384 bytes. It makes
-    /// four calls of the device.
+    /// Replaces the whole content by a version and a snapshot of at most 16,384 bytes. Makes four
+    /// device calls.
     ///
-    /// The new content is written to the other half, which is selected once it is on disk. After
-    /// `Device`, each later call returns `Stopped`, and opening the device shows which of the two
+    /// The new content is written to the other half, which is selected once the content is on disk.
+    /// After `Device`, each later call returns `Stopped`; opening the device shows which of the two
     /// contents it holds.
     pub fn replace(&mut self, version: u8, snapshot: &[u8]) -> Result<(), JournalFault>
         requires { length snapshot.now ≤ MAX_SNAPSHOT }

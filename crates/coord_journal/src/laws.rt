@@ -1,4 +1,4 @@
-//! Laws of the journal's text: functions without a body whose contracts state the laws.
+//! Laws of a journal's text. Each is the contract of an empty function.
 ghost use Rattle.std.specs.Prelude.{◌≡◌, ℕ, List};
 ghost use Rattle.coord_journal.specs.Text.{Content, IsText};
 

@@ -2,24 +2,25 @@
 //! since.
 //!
 //! `specs/Text.antt` defines which bytes are the text of a content, independently of the code.
-//! `format` writes such a text, `open` reads it and writes nothing, `Journal::append` appends a
+//! `format` writes such a text, and `open` reads it but writes nothing. `Journal::append` appends a
 //! batch, and `Journal::replace` replaces the whole content by a new snapshot, in the half that is
 //! not selected.
 //!
 //! Why a batch is atomic:
-//! 1. The text ends at a gate, one byte: 0 is closed, any other value is open, and a reader stops
-//!    at a closed gate.
-//! 2. `append` writes the batch after that gate, where no reader sees whatever part of it a crash
-//!    leaves.
-//! 3. It syncs: the whole batch is on disk, and still unread.
-//! 4. It opens the gate by one write of one byte, and syncs: torn or not, that byte is open or
+//! 1. The text ends at a gate, which is one byte: 0 is closed, any other value is open. A reader
+//!    stops at a closed gate.
+//! 2. `append` writes the batch after that gate. A crash may leave any part of the batch there, but
+//!    no reader sees it.
+//! 3. `append` syncs: the whole batch is on disk, and still unread.
+//! 4. `append` opens the gate by one write of one byte, and syncs: torn or not, that byte is open or
 //!    closed.
-//! 5. `replace` does the same with the half that is not selected and the one byte that selects it.
+//! 5. `replace` does the same with the half that is not selected, and with the one byte that selects
+//!    it.
 //!
 //! The main theorems are the clauses `any_moment` and `done` of `append` and `replace`: a crash at
-//! any moment leaves the text of the old or of the new content, and once the call has returned Ok,
-//! only the text of the new one. Both rest on `synced::write_in_turn`: two writes, of which the
-//! second begins when the first is on disk.
+//! any moment leaves the text of the old content or of the new content; once the call has returned
+//! Ok, a crash leaves only the text of the new content. Both rest on `synced::write_in_turn`: two
+//! writes, where the second begins only once the first is on disk.
 #![tactic(auto)]
 
 mod barrier;

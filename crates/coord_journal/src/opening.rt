@@ -19,7 +19,7 @@ use coord_disk::Disk;
 use std::alloc::Global;
 
 /// The end of a text on its device: the size of a half, the selected half, and the number of bytes
-/// used in it.
+/// used in the selected half.
 #[derive(Clone, Copy)]
 struct Place {
     half_size: u64,
@@ -59,8 +59,8 @@ fn read_text(alloc: Global, bytes: &[u8]) -> Result<(Place, Contents<'_>), Journ
     Ok((place, contents))
 }
 
-/// Opens the journal on a device. Returns the journal and its content, which borrows from `bytes`:
-/// the device is read into it. It syncs and reads, but writes nothing.
+/// Opens the journal on a device. Reads the device into `bytes`, and returns the journal and its
+/// content, which borrows from `bytes`. The call syncs and reads, but writes nothing.
 ///
 /// A refusal returns the disk.
 pub fn open<'b, D: Disk>(
@@ -68,7 +68,7 @@ pub fn open<'b, D: Disk>(
     mut disk: D,
     bytes: &'b mut Vec<u8>,
 ) -> Result<(Journal<D>, Contents<'b>), (JournalFault, D)>
-    // If the bytes of the device are the text of a content, returns that content, unless memory
+    // If the bytes of the device are the text of a content, `open` returns that content, unless memory
     // runs out or the device fails.
     ensures text { D.model.keeps_model disk ≡ true →
         IfOk result (λ opened. IsText (content_of opened.1) (D.model.present disk).read) }
@@ -89,7 +89,7 @@ pub fn open<'b, D: Disk>(
         IfErr result (λ refused. refused.0 ≢ Device →
         D.model.present refused.1 ≡ whole (D.model.present disk).read) }
 
-    // A crash at any moment leaves no bytes that it could not have left before.
+    // A crash at any moment of the call leaves only bytes that a crash before the call could have left.
     ensures any_moment { MatchResult result (λ opened. AddsNothing D.model disk (disk_of opened.0))
         (λ refused. AddsNothing D.model disk refused.1) }
     ensures runs { MatchResult result (λ opened. Runs D.model disk (disk_of opened.0) 3 0)

@@ -10,7 +10,8 @@ use crate::layout::{MAX_BODY, MAX_SNAPSHOT};
 use crate::{Contents, JournalFault};
 use std::alloc::Global;
 
-// Splits the bytes after the first one into a sized body and the bytes after that body.
+// Splits the bytes after the first byte into a sized body, of at most `limit` bytes, and the bytes
+// after the body.
 fn split_body(rest: &[u8], limit: usize) -> Option<(&[u8], &[u8])>
     requires { 0 < length rest.now }
     ensures some { IfSome result (λ parts.
@@ -52,7 +53,8 @@ fn read_batches(alloc: Global, text: &[u8]) -> Result<(Vec<&[u8]>, usize), Journ
     Err(JournalFault::BadRecord)
 }
 
-/// Returns the content of a half, and the number of bytes that it uses, including the closed gate.
+/// Returns the content of a half, and the number of bytes that the content uses, including the
+/// closed gate.
 pub fn read_half(alloc: Global, half: &[u8]) -> Result<(Contents<'_>, usize), JournalFault>
     ensures ok { IfOk result (λ read. IsHalf half.now (content_of read.0) read.1) }
     ensures within { IfOk result (λ read. read.1 ≤ length half.now) }

@@ -7,7 +7,8 @@ ghost use Rattle.coord_journal.specs.Text.{formatted, half_front, sized};
 use crate::layout::MAGIC;
 use std::alloc::{AllocError, Global};
 
-/// Returns the encoding of a batch: the body's length, the body and a new closed gate.
+/// Returns the encoding of a batch: the body's length, the body and a new closed gate. Errors: out
+/// of memory.
 pub fn spell_block(alloc: Global, body: &[u8]) -> Result<Vec<u8>, AllocError>
     requires { length body.now ≤ MAX_BODY }
     ensures { IfOk result (λ block. block.items ≡ sized body.now ++ 0 ∷ []) }
@@ -20,7 +21,7 @@ pub fn spell_block(alloc: Global, body: &[u8]) -> Result<Vec<u8>, AllocError>
 }
 
 /// Returns the encoding of a half without a batch: the version, the snapshot's length, the snapshot
-/// and a closed gate.
+/// and a closed gate. Errors: out of memory.
 pub fn spell_half(alloc: Global, version: u8, snapshot: &[u8]) -> Result<Vec<u8>, AllocError>
     requires { length snapshot.now ≤ MAX_SNAPSHOT }
     ensures { IfOk result (λ half. half.items ≡ half_front version snapshot.now [] ++ 0 ∷ []) }
@@ -34,7 +35,7 @@ pub fn spell_half(alloc: Global, version: u8, snapshot: &[u8]) -> Result<Vec<u8>
 }
 
 /// Returns the encoding of a device without a batch: a header that selects the first half, and that
-/// half.
+/// half. Errors: out of memory.
 pub fn spell_device(
     alloc: Global,
     half_size: u64,

@@ -1,4 +1,4 @@
-//! Writes that are synced one after the other.
+//! Writes that are synced one after another.
 
 ghost use Rattle.std.specs.Prelude.{◌≡◌, ◌+◌, ◌<◌, ◌^◌, true, List, ℕ, length, OnOk};
 ghost use Rattle.coord_disk.specs.Model.Present.{whole, overwritten, Torn};
@@ -7,7 +7,8 @@ ghost use Rattle.coord_journal.specs.Turns.{TornInTurn};
 
 use coord_disk::{Disk, DiskFault};
 
-/// Writes and syncs. While the call runs, a crash may leave anything in the written range.
+/// Writes bytes at an offset, and syncs. During the call, a crash may leave anything in the written
+/// range.
 pub fn write_synced<D: Disk>(disk: &mut D, at: u64, new: &[u8]) -> Result<(), DiskFault>
     requires { at + length new.now < 2 ^ 64 }
     ensures any_moment { (bytes : List ℕ) → D.model.keeps_model disk.old ≡ true →
@@ -22,7 +23,7 @@ pub fn write_synced<D: Disk>(disk: &mut D, at: u64, new: &[u8]) -> Result<(), Di
     disk.sync()
 }
 
-/// Writes and syncs the first bytes, and then the second.
+/// Writes and syncs the first bytes; then writes and syncs the second bytes.
 pub fn write_in_turn<D: Disk>(
     disk: &mut D,
     at: u64,
@@ -33,7 +34,7 @@ pub fn write_in_turn<D: Disk>(
     requires first_in_range { at + length first.now < 2 ^ 64 }
     requires second_in_range { next + length second.now < 2 ^ 64 }
 
-    // The second write begins only when the first is on disk.
+    // The second write begins only once the first bytes are on disk.
     ensures any_moment { (bytes : List ℕ) → D.model.keeps_model disk.old ≡ true →
         D.model.present disk.old ≡ whole bytes →
         LeavesOnly D.model disk.old disk.new (TornInTurn bytes at first.now next second.now) }

@@ -49,7 +49,7 @@ commit_name commit.Full = codes "Full"
 commit_name commit.Stopped = codes "Stopped"
 commit_name commit.Again = codes "Again"
 
--- the fault that a commit returns for a fault of an append or a replace
+-- the commit's fault for a journal's fault in an append or a replace
 abbrev pub commit_fault_of : JournalFault → CommitFault
 commit_fault_of journal.OutOfMemory = commit.OutOfMemory
 commit_fault_of journal.Device = commit.Device
@@ -65,7 +65,7 @@ abbrev pub failures_in : {T : Type 0} → Result T CommitFault → ℕ
 failures_in (Ok value) = 0
 failures_in (Err fault) = failed_in fault
 
--- the fault that a store returns for a fault of formatting or opening its journal
+-- the store's fault for a journal's fault in formatting or opening
 abbrev pub store_fault_of : JournalFault → StoreFault
 store_fault_of journal.OutOfMemory = store.OutOfMemory
 store_fault_of journal.Device = store.Device

@@ -8,7 +8,7 @@ use Rattle.coord_journal.specs.declared.journal.Journal.{Journal}
 use Rattle.coord_world.specs.Facade.{Legal, World, no_world, rows_of}
 use Rattle.coord_store.specs.Recovered.{Gives, Recovered}
 
--- A store: its disk, its world, and the world that a torn commit was meant to make, if there was one. After a
+-- A store: its disk, its world and, after a torn commit, the world that the commit tried to make. After a
 -- fault inside a checkpoint `torn` holds that world too, although only the old world can then be on disk.
 pub record Kept (D : Type 0) : Type 0 where
   pub disk : D
@@ -19,21 +19,21 @@ pub record Kept (D : Type 0) : Type 0 where
 abbrev pub has_stopped : {D : Type 0} → Kept D → Bool
 has_stopped kept = is_some kept.torn
 
--- these bytes give one of these two worlds
+-- these bytes give one of the two worlds
 abbrev pub GivesEither : World → World → List ℕ → Type 0
 GivesEither v w bytes = Recovered bytes v ⊎ Recovered bytes w
 
--- These bytes give the store's world or, after a torn commit, possibly the world that this commit was meant
--- to make.
+-- These bytes give the store's world or, after a torn commit, possibly the world that the commit tried to
+-- make.
 abbrev pub GivesKept : {D : Type 0} → Kept D → List ℕ → Type 0
 GivesKept kept bytes = Recovered bytes kept.world ⊎ ((w : World) × (kept.torn ≡ Some w) × Recovered bytes w)
 
--- each crash image of a store's disk gives its world or, after a torn commit, possibly the world that this
--- commit was meant to make
+-- each crash image of a store's disk gives the store's world or, after a torn commit, possibly the world that
+-- the commit tried to make
 abbrev pub ImagesGive : {D : Type 0} → DiskModel D → Kept D → Type 0
 ImagesGive m kept = (image : List ℕ) → IsImage (m.present kept.disk) image → GivesKept kept image
 
--- the journal is ready, on a disk that keeps the model, and its content gives this world
+-- the journal is ready on a disk that keeps the model, and the journal's content gives this world
 pub record Holds {D : Type 0} (m : DiskModel D) (journal : Journal D) (w : World) : Type 0 where
   pub content : Content
   pub ready : IsReady m journal content
@@ -54,7 +54,7 @@ IsOnlyWorld w bytes = Recovered bytes w
 abbrev pub made : ℕ → ℕ → Present
 made half_size version = whole (formatted half_size version ((world version).text (rows_of (no_world version))))
 
--- A store of this version was just created on this disk, with halves of this size. Its world has no step.
+-- A store of this version was just created on this disk, with halves of this size. Its world has no steps.
 pub record IsJustMade (half_size version : ℕ) (disk : Present) : Type 0 where
   pub bytes : disk ≡ made half_size version
   pub half : IsHalfSize half_size

@@ -1,4 +1,4 @@
--- The laws of the world that bytes give.
+-- Laws of the world that bytes give.
 use Rattle.std.specs.Prelude.{◌≡◌, ℕ, List}
 use Rattle.coord_world.specs.protocol.NumberedWorld.{World}
 use Rattle.coord_store.specs.Recovered.{Recovered}

@@ -1,4 +1,4 @@
--- The result of a migration, and the reasons to refuse it.
+-- The result of a migration, and the reasons why a migration is refused.
 use Rattle.std.specs.Prelude.{◌≡◌, ℕ, ◌==◌, ◌<◌, false, Result, Ok, Err, if◌then◌else◌}
 use Rattle.coord_types.specs.declared.messages.Mode.TheVariants.{Ready}
 use Rattle.coord_world.specs.laws.Raised.{raised}
@@ -17,12 +17,12 @@ pub record IsFirstBusy (w : World) (u : ℕ) : Type 0 where
   pub busy : is_ready (state w u).mode ≡ false
   pub least : (v : ℕ) → v < u → (state w v).mode ≡ Ready
 
--- a world of version 1 in which every node is Ready
+-- the world has version 1, and every node in it is Ready
 pub record IsQuiet (w : World) : Type 0 where
   pub first : w.version ≡ 1
   pub ready : AllReady w
 
--- The reasons to refuse the migration of a store with this world to version 2. `OutOfMemory` and `Device` are
+-- The reasons why a store with this world is not migrated to version 2. `OutOfMemory` and `Device` are
 -- possible only if the world is quiet.
 abbrev pub RefusesMigration : World → StoreFault → Type 0
 RefusesMigration w OutOfMemory = IsQuiet w

@@ -40,12 +40,12 @@ fn first_snapshot(alloc: Global, version: Version) -> Result<Vec<u8>, AllocError
 
 impl<D: Disk> Store<D> {
     /// Creates a store on an empty device: formats the device and opens it, with at most six device
-    /// calls. The store's world has no step.
+    /// calls. The store's world has no steps.
     ///
     /// `half_size` is from 32,768 to 16,777,216 bytes, and `version` is the version of the world. A
-    /// refusal returns the disk. After `Device` nothing is promised about its bytes; after
-    /// `OutOfMemory` the store may have been created. `NoMagic` or `BadRecord` are returned only for a
-    /// device that reads back other bytes than were written.
+    /// refusal returns the disk. After `Device` nothing is promised about the disk's bytes; after
+    /// `OutOfMemory` the store may have been created. `NoMagic` and `BadRecord` are returned only if
+    /// the device reads back other bytes than were written to it.
     pub fn create(
         alloc: Global,
         mut disk: D,
@@ -64,7 +64,8 @@ impl<D: Disk> Store<D> {
             IfErr result (λ refused. RefusesCreate (D.model.present disk).read half_size refused.0) }
         ensures named { IfErr result (λ refused. IsCreateFault refused.0) }
 
-        // The device is unchanged if it was refused as it is.
+        // If the device is refused because it is not empty, or because of the size of a half, it is
+        // unchanged.
         ensures unchanged { D.model.keeps_model disk ≡ true →
             IfErr result (λ refused. (refused.0 ≡ NotEmpty) ⊎ (refused.0 ≡ HalfSize) →
             IsUntouched D.model disk refused.1) }

@@ -28,14 +28,14 @@ pub enum StoreFault {
     BadRecord,
     /// The snapshot encodes no world, or its version is unknown.
     BadSnapshot,
-    /// A batch encodes no steps, or its first number is not the next one.
+    /// A batch encodes no steps, or its first step does not have the world's next number.
     BadBatch,
     /// The world does not take this step of this batch as fresh. Both numbers are counted from 0.
     BadStep { batch: usize, index: usize },
     /// The world of the snapshot is not legal.
     Violated(Violation),
-    /// This node, the one with the lowest number in a reset, prevents the migration to version 2. Only
-    /// `migrate` returns this fault and `Stopped`.
+    /// This node is in a reset and so prevents the migration to version 2. Of all such nodes it has the
+    /// lowest number. Only `migrate` returns this fault and `Stopped`.
     NotQuiet(NodeId),
     /// The device failed in an earlier call.
     Stopped,
@@ -101,7 +101,7 @@ pub enum CommitFault {
     OutOfMemory,
     /// The device failed during the call.
     Device,
-    /// Never returned, because a store makes room by a checkpoint; the number is reserved.
+    /// Never returned, because a store makes room by a checkpoint. The number is reserved.
     Full,
     /// The device failed in an earlier call.
     Stopped,

@@ -15,8 +15,8 @@ pub fn recovered_is_opened()
     ensures { RecoveredIsOpened }
 {}
 
-/// A journal has room for everything that a store writes: its limit for a body is the length of the
-/// longest batch, and its limit for a snapshot the length of the longest world.
+/// A journal has room for everything that a store writes: the journal's limit for a body is the
+/// length of the longest batch, and its limit for a snapshot is the length of the longest world.
 pub fn limits_are_the_same()
     ensures body { MAX_BODY ≡ MAX_BATCH_BYTES }
     ensures snapshot { MAX_SNAPSHOT ≡ MAX_SNAPSHOT_BYTES }

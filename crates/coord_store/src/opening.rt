@@ -20,7 +20,7 @@ use coord_journal::{Contents, JournalFault};
 use coord_world::World;
 use std::alloc::Global;
 
-/// Returns the fault of a store for a fault of formatting or opening its journal.
+/// Returns the store's fault for a journal's fault in formatting or opening.
 pub fn fault_of(fault: JournalFault) -> StoreFault
     requires { IsFormatFault fault ⊎ IsJournalFault fault }
     ensures { result ≡ store_fault_of fault }
@@ -36,7 +36,7 @@ pub fn fault_of(fault: JournalFault) -> StoreFault
     }
 }
 
-/// Returns the world that the content of a journal gives.
+/// Returns the world that a journal's content gives.
 fn read_contents(alloc: Global, contents: &Contents<'_>) -> Result<World, StoreFault>
     ensures gives { IfOk result (Gives (content_of contents.now)) }
     ensures legal { IfOk result (λ world. Legal world) }
@@ -51,8 +51,8 @@ fn read_contents(alloc: Global, contents: &Contents<'_>) -> Result<World, StoreF
 }
 
 impl<D: Disk> Store<D> {
-    /// Opens the store on a device, with the world that the bytes of the device give. The call syncs
-    /// and reads, and writes nothing.
+    /// Opens the store on a device, with the world that the device's bytes give. The call syncs and
+    /// reads, but writes nothing.
     ///
     /// A refusal returns the disk. Bytes that give no world are refused with the first of these faults
     /// that applies: `NoMagic`, `BadRecord`, `BadSnapshot`, `Violated` (by the snapshot's world); then,
@@ -77,7 +77,7 @@ impl<D: Disk> Store<D> {
             IfErr result (λ refused. refused.0 ≢ Device →
             D.model.present refused.1 ≡ whole (D.model.present disk).read) }
 
-        // A crash at any moment of the call leaves no bytes that a crash before it could not have left.
+        // A crash at any moment of the call leaves only bytes that a crash before the call could have left.
         ensures any_moment { MatchResult result (λ store. AddsNothing D.model disk store.disk)
             (λ refused. AddsNothing D.model disk refused.1) }
         ensures runs { MatchResult result (λ store. Runs D.model disk store.disk 3 0)

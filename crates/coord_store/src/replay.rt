@@ -15,7 +15,7 @@ use coord_batch::{Batch, FaultKind, read_batch};
 use coord_world::World;
 use std::alloc::Global;
 
-/// Returns the batch that a body encodes, if its first step is the world's next one.
+/// Returns the batch that a body encodes, if the batch's first step has the world's next number.
 fn read_next(alloc: Global, world: &World, body: &[u8]) -> Result<Batch, StoreFault>
     ensures spelled { IfOk result (λ batch. IsBody world.now body.now batch.steps.items) }
     ensures refused { IfErr result (λ fault. (fault ≡ OutOfMemory) ⊎
@@ -32,7 +32,8 @@ fn read_next(alloc: Global, world: &World, body: &[u8]) -> Result<Batch, StoreFa
     Ok(batch)
 }
 
-/// Has the world take the steps of the batch with this number; none of them is settled yet.
+/// Makes the world take the steps of the batch with this number. None of these steps is settled
+/// yet.
 fn replay_batch(
     alloc: Global,
     world: &mut World,
@@ -51,7 +52,7 @@ fn replay_batch(
     Ok(())
 }
 
-/// Returns the world that these batches lead to from a legal world.
+/// Returns the world to which these batches lead from the legal world `start`.
 pub fn replay(alloc: Global, start: World, batches: &[&[u8]]) -> Result<World, StoreFault>
     requires { Legal start }
     ensures led { IfOk result (Replays start (bodies batches.now)) }

@@ -14,7 +14,7 @@ use coord_journal::Contents;
 use coord_world::World;
 use std::alloc::Global;
 
-/// Returns the legal world that the snapshot of a journal encodes.
+/// Returns the legal world that a journal's snapshot encodes.
 pub fn read_snapshot(alloc: Global, contents: &Contents<'_>) -> Result<World, StoreFault>
     ensures spelled { IfOk result (HasSnapshot (content_of contents.now)) }
     ensures legal { IfOk result (λ start. Legal start) }

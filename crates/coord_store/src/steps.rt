@@ -1,4 +1,4 @@
-//! Steps that a world takes, one after the other.
+//! Steps that a world takes, one after another.
 
 ghost use Rattle.std.specs.Prelude.{◌≡◌, ◌⊎◌, ◌↔◌, ◌<◌, ℕ, Some, IsTrue, OnOk, IfOk, IfErr, IfSome};
 ghost use Rattle.std.specs.List.{AllByRecursion};
@@ -18,8 +18,9 @@ use coord_types::{NodeId, Step};
 use coord_world::{Verdict, World};
 use std::alloc::AllocError;
 
-/// Has the world take fresh steps; the world before all of them is the settled one. Public because a
-/// ledger computes the world after a flight this way if it cannot use its front world.
+/// Makes the world take fresh steps. The world before all of them is the settled world. Public
+/// because a ledger uses it to compute the world after a flight if the ledger cannot use its front
+/// world. Errors: out of memory.
 pub fn take_all(world: &mut World, steps: &[Step]) -> Result<(), AllocError>
     requires legal { Legal world.old }
     requires fresh { AllFresh world.old world.old steps.now }
@@ -32,7 +33,7 @@ pub fn take_all(world: &mut World, steps: &[Step]) -> Result<(), AllocError>
     Ok(())
 }
 
-/// Does nothing: its contract states the invariants of the types of steps.
+/// Does nothing. Its contract states the invariants of the types of steps.
 pub(crate) fn lemma_in_ranges(steps: &[Step])
     ensures { AllByRecursion StepInRange steps.now }
 {
@@ -41,8 +42,9 @@ pub(crate) fn lemma_in_ranges(steps: &[Step])
     }
 }
 
-/// Returns the world after these fresh steps: the world that the caller has already computed, if it
-/// passes one, else a copy that takes the steps now.
+/// Returns the world after these fresh steps. If the caller passes the world that it has already
+/// computed, returns this world; otherwise, returns a copy that takes the steps now. Errors: out of
+/// memory.
 pub(crate) fn led_to(
     world: &World,
     steps: &[Step],
@@ -63,7 +65,7 @@ pub(crate) fn led_to(
     }
 }
 
-/// Returns the lane from one node to another, if it has this incarnation.
+/// Returns the lane from one node to another if the lane has this incarnation.
 fn lane_of(world: &World, from: NodeId, to: NodeId, inc: u64) -> Option<&Lane>
     ensures { option_copied result ≡ lane world.now from to inc }
 {
@@ -95,8 +97,8 @@ fn has_given_out(settled: &World, step: &Step) -> bool
     }
 }
 
-/// Returns the number of steps before the first one that names a packet that the settled world has not
-/// sent.
+/// Returns the number of steps before the first step that names a packet that the settled world
+/// has not sent.
 fn how_many_out(settled: &World, steps: &[Step]) -> usize
     ensures { result ≡ how_many_out settled.now steps.now }
 {
@@ -108,7 +110,8 @@ fn how_many_out(settled: &World, steps: &[Step]) -> usize
     steps.len()
 }
 
-/// Tests whether the world takes a step, and the packets of this step and of all before it were sent.
+/// Tests whether the world takes a step as fresh, and whether the packets of this step and of all
+/// steps before it were sent.
 fn is_fresh(world: &World, out: usize, index: usize, step: &Step) -> bool
     ensures { IsTrue result ↔ ((index < out) × IsFresh world.now world.now step.now) }
 {
@@ -122,9 +125,9 @@ fn is_fresh(world: &World, out: usize, index: usize, step: &Step) -> bool
     }
 }
 
-/// Has the world take the steps of the batch with this number. The world before all of them is the
-/// settled one. Before it changes, the function counts the leading steps whose packets it has sent; a
-/// step needs nothing else of the settled world.
+/// Makes the world take the steps of the batch with this number. The world before all of them is
+/// the settled world. The function first counts the leading steps whose packets the settled world
+/// has sent; a step needs nothing else of the settled world.
 pub fn judge_all(world: &mut World, batch: usize, steps: &[Step]) -> Result<(), StoreFault>
     requires legal { Legal world.old }
     ensures world { OnOk result (world.new ≡ fold world.old steps.now) }

@@ -17,9 +17,10 @@ use std::alloc::Global;
 use std::marker::Model;
 use std::mem::replace;
 
-/// A world that outlives the program. Contracts see its disk, its world and, once the device has torn a
-/// commit, the world that this commit was meant to make (`specs/Kept.antt`). The type guarantees that
-/// each image of the disk gives the world or, after a torn commit, one of the two.
+/// A world that outlives the program. Contracts see the store's disk, its world and, once the
+/// device has torn a commit, the world that the commit tried to make (`specs/Kept.antt`). The type
+/// guarantees that each image of the disk gives the store's world or, after a torn commit, one of
+/// the two worlds.
 #[derive(Drop)]
 pub struct Store<D: Disk> {
     alloc: Global,
@@ -65,15 +66,15 @@ impl<D: Disk> Store<D> {
         &self.world
     }
 
-    /// Tests whether the device has failed in a commit. If it has, every later commit is refused.
+    /// Tests whether the device has failed in a commit. If so, every later commit is refused.
     pub fn stopped(&self) -> bool
         ensures { result ≡ has_stopped self.now }
     {
         self.torn.is_some()
     }
 
-    /// Does nothing: its contract states the invariant of every store. A crash outside every call
-    /// leaves bytes that give the store's world.
+    /// Does nothing. Its contract states the invariant of every store. A crash outside all calls leaves
+    /// bytes that give the store's world.
     pub fn lemma_images_give_world(&self)
         ensures legal { Legal self.now.world }
         ensures images { D.model.keeps_model self.now.disk ≡ true → ImagesGive D.model self.now }
@@ -87,7 +88,7 @@ impl<D: Disk> Store<D> {
 impl<D: Disk + Takable> Store<D> {
     ghost use Rattle.coord_store.specs.Recovered.{Recovered};
 
-    /// Returns the disk. If no commit was torn, opening the disk gives the same world.
+    /// Returns the disk. If no commit was torn, opening the disk gives the store's world.
     pub fn into_disk(self) -> D
         ensures disk { result ≡ self.disk }
         ensures reopens { D.model.keeps_model self.disk ≡ true → self.torn ≡ None →
@@ -98,8 +99,8 @@ impl<D: Disk + Takable> Store<D> {
 }
 
 /// Records the result of writing `next` in place of a store's world. On success `next` becomes the
-/// world; if the device failed, it becomes the world that a torn commit was meant to make. Returns the
-/// old world.
+/// world. If the device failed, `next` is kept as the world that a torn commit tried to make.
+/// Returns the old world.
 fn conclude(
     world: &mut World,
     torn: &mut Option<World>,

@@ -22,7 +22,7 @@ use coord_journal::{Journal, JournalFault};
 use coord_world::World;
 use std::alloc::Global;
 
-/// Returns the fault of a commit for a fault of an append or a replace.
+/// Returns the commit's fault for a journal's fault in an append or a replace.
 fn fault_of(fault: JournalFault) -> CommitFault
     requires { IsWriteFault fault }
     ensures { result ≡ commit_fault_of fault }
@@ -107,7 +107,7 @@ pub fn write<D: Disk>(
     if journal.fits(body.len()) {
         return append(journal, body);
     }
-    // A checkpoint: a snapshot of the same world, with no batch after it.
+    // Makes a checkpoint: a snapshot of the same world, with no batch after it.
     match put_in_place(alloc, journal, world) {
         Ok(()) => append(journal, body),
         Err(fault) => Err(fault),

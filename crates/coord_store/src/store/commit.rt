@@ -20,7 +20,7 @@ use coord_types::Step;
 use coord_world::World;
 use std::alloc::{AllocError, Global};
 
-/// Returns the world after fresh steps, and the body of their batch.
+/// Returns the world after these fresh steps, and the body of their batch. Errors: out of memory.
 fn next_batch(
     alloc: Global,
     world: &World,
@@ -50,8 +50,8 @@ fn next_batch(
 }
 
 impl<D: Disk> Store<D> {
-    /// Tests whether these steps may be committed: each is fresh after those before it, with the world
-    /// before all of them as the settled one.
+    /// Tests whether these steps may be committed: each step is fresh over the world after the steps
+    /// before it, and the world before all of them is the settled world. Errors: out of memory.
     pub fn takes(&self, steps: &[Step]) -> Result<bool, AllocError>
         ensures { IfOk result (λ takes. IsTrue takes ↔
             AllFresh self.now.world self.now.world steps.now) }
@@ -68,9 +68,9 @@ impl<D: Disk> Store<D> {
         }
     }
 
-    /// Commits 1 to 256 steps. Each must be fresh after those before it, with the world before all of
-    /// them as the settled one. The commit takes four device calls, or eight if a checkpoint has to
-    /// make room first.
+    /// Commits 1 to 256 steps. Each step must be fresh over the world after the steps before it, and
+    /// the world before all of them is the settled world. The commit takes four device calls, or eight
+    /// if a checkpoint has to make room first.
     ///
     /// After `OutOfMemory` the checkpoint may already have been made. After `Device` each later call
     /// returns `Stopped`; opening the device shows which of the two worlds it holds.
@@ -87,8 +87,8 @@ impl<D: Disk> Store<D> {
         }
     }
 
-    /// Commits steps like `commit`, and returns the world before them. A caller that has already
-    /// computed the world after them passes it as `made`, which saves a copy of the world.
+    /// Commits steps, like `commit`, and returns the world before the steps. A caller that has already
+    /// computed the world after the steps passes it as `made`, which saves a copy of the world.
     pub fn commit_to(&mut self, steps: &[Step], made: Option<World>) -> Result<World, CommitFault>
         requires some { (1 ≤ length steps.now) × (length steps.now ≤ MAX_BATCH_STEPS) }
         requires numbered { AllByRecursion IsNumbered steps.now }

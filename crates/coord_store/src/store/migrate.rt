@@ -1,4 +1,4 @@
-//! Migration: a store of version 1 becomes one of version 2.
+//! Migration: a store of version 1 becomes a store of version 2.
 
 ghost use Rattle.std.specs.Prelude.{◌≡◌, ◌≢◌, ◌⊎◌, ◌↔◌, true, false, OnOk, IfErr, IsErrOf};
 ghost use Rattle.coord_disk.specs.Model.Moments.{Runs};
@@ -18,8 +18,8 @@ use coord_world::World;
 
 impl<D: Disk + Takable> Store<D> {
     /// Migrates a store of version 1 to version 2, with at most four device calls. Each node must be
-    /// Ready. Its world stays the same, and each distance is 0. A store of version 2 is left as it is,
-    /// without a device call.
+    /// Ready. The store's world stays the same, and each distance is 0. A store of version 2 is left
+    /// unchanged, without a device call.
     ///
     /// After `Device` each later call returns `Stopped`; opening the device shows which version it
     /// holds.
@@ -30,7 +30,7 @@ impl<D: Disk + Takable> Store<D> {
         ensures quiet { OnOk result ((self.old.world.version ≡ 2) ⊎ IsQuiet self.old.world) }
         ensures runs { Runs D.model self.old.disk self.new.disk 4 (failures_in result) }
 
-        // The refusals, in the order in which they are tried.
+        // The refusals, in the order in which they are tested.
         ensures stopped { IsErrOf result StoreFault.Stopped ↔ (has_stopped self.old ≡ true) }
         ensures fault { IfErr result (RefusesMigration self.old.world) }
     {
@@ -59,7 +59,7 @@ impl<D: Disk + Takable> Store<D> {
 }
 
 impl<D: Disk> Store<D> {
-    // Replaces the stored world, and returns the old one.
+    // Replaces the stored world by `next`, and returns the old world.
     fn put(&mut self, next: World) -> Result<World, CommitFault>
         requires legal { Legal next }
         requires going { has_stopped self.old ≡ false }
