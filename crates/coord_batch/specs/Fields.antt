@@ -6,19 +6,19 @@ use Rattle.coord_types.specs.declared.messages.Msg.{Msg}
 use Rattle.coord_types.specs.declared.messages.Msg.TheVariants as msg
 use Rattle.coord_batch.specs.Format.{Format, byte, u64, nothing, such_that, made, cases}
 
--- a node's number, in a byte
+-- a node's number, in one byte
 unfoldable pub node : Format ℕ
 node = such_that (λ n. nat_le 1 n && nat_le n MAX_NODES) byte
 
--- a group's number, in a byte
+-- a group's number, in one byte
 unfoldable pub group : Format ℕ
 group = such_that (λ n. nat_le 1 n && nat_le n MAX_GROUPS) byte
 
--- a client's number, in a byte
+-- a client's number, in one byte
 unfoldable pub client : Format ℕ
 client = such_that (λ n. nat_le 1 n && nat_le n MAX_CLIENTS) byte
 
--- a number from 1 on, in eight bytes
+-- a number of at least 1, in eight bytes
 unfoldable pub from_one : Format ℕ
 from_one = such_that (nat_le 1) u64
 
@@ -30,16 +30,16 @@ at_most most = such_that (λ n. nat_le n most) u64
 unfoldable pub from_one_to : ℕ → Format ℕ
 from_one_to most = such_that (λ n. nat_le 1 n && nat_le n most) u64
 
--- the number of items, in a byte, at most `most`
+-- the number of items, in one byte, at most `most`
 unfoldable pub how_many : ℕ → Format ℕ
 how_many most = such_that (λ n. nat_le n most) byte
 
--- if the test holds, no bytes, which mean 0; otherwise a number of at most `most`
+-- if the test holds, no bytes, and the number is 0; otherwise, a number of at most `most`
 unfoldable pub unless : Bool → ℕ → Format ℕ
 unless true most = nothing
 unless false most = at_most most
 
--- a distance of at most `most`; version 1 has no bytes for it, and it is 0
+-- a distance of at most `most`; in version 1 a distance takes no bytes and is 0
 unfoldable pub distance : ℕ → ℕ → Format ℕ
 distance version most = unless (version == 1) most
 

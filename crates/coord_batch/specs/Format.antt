@@ -39,13 +39,13 @@ u16 = record { text = to_be_bytes w16; read = number_at w16; Fits = λ n. n < 2 
 abbrev pub u64 : Format ℕ
 u64 = record { text = to_be_bytes w64; read = number_at w64; Fits = λ n. n < 2 ^ 64 }
 
--- a field of no bytes, which means 0
+-- a field of no bytes, with the value 0
 abbrev pub nothing : Format ℕ
 nothing = record { text = λ n. []; read = λ bytes. Ok (0, bytes); Fits = λ n. n ≡ 0 }
 
 -- ---- combinations of formats
 
--- the values that pass a test; the flaw of any other value is placed at its first byte
+-- the values that pass a test; if a value fails the test, the flaw is at the value's first byte
 abbrev pub such_that : {A : Type 0} → (A → Bool) → Format A → Format A
 such_that test f = record {
   text = f.text;
@@ -53,7 +53,7 @@ such_that test f = record {
   Fits = λ x. f.Fits x × (test x ≡ true);
 }
 
--- one format and then another, which may depend on the value of the first
+-- one format followed by another format, which may depend on the first value
 abbrev pub followed : {A B : Type 0} → Format A → (A → Format B) → Format (A × B)
 followed f g = record {
   text = λ p. f.text p.0 ++ (g p.0).text p.1;
@@ -65,7 +65,7 @@ infixr 20 ◌&◌
 abbrev pub ◌&◌ : {A B : Type 0} → Format A → Format B → Format (A × B)
 f & g = followed f (λ _. g)
 
--- the format of a value that is made from parts: `make` makes it, and `parts` takes it apart
+-- the format of a value that is made from parts: `make` makes the value, and `parts` takes it apart
 abbrev pub made : {A B : Type 0} → (A → B) → (B → A) → Format A → Format B
 made make parts f = record {
   text = λ y. f.text (parts y);
@@ -77,7 +77,7 @@ made make parts f = record {
 abbrev pub cases : {A : Type 0} → ℕ → (A → ℕ) → (ℕ → Format A) → Format A
 cases how_many which case = made (λ p. p.1) (λ x. (which x, x)) (followed (such_that (λ t. nat_lt t how_many) byte) case)
 
--- reads n more items; `front` is the items read so far, on which the format of the next item may depend
+-- reads n more items; `front` is the items read so far, and the format of the next item may depend on them
 unfoldable pub items_at : {A : Type 0} → (List A → Format A) → ℕ → List A → List ℕ → Read (List A)
 items_at item zero front bytes = Ok (front, bytes)
 items_at item (suc n) front bytes = (item front).read bytes >>= λ x. items_at item n (front ++ x.0 ∷ []) x.1

@@ -69,7 +69,7 @@ step_tag (Order c n x) = 0
 step_tag (Take p) = 1
 step_tag (Clear p) = 2
 
--- placeholders for steps without a packet
+-- placeholders for the packets of steps that have no packet
 abbrev no_packet : DataPacket
 no_packet = record { from = 0; to = 0; inc = 0; number = 0; msg = msg.Ack }
 

@@ -13,8 +13,8 @@ use Rattle.coord_batch.specs.Steps.{batch, step}
 abbrev first_order : Step
 first_order = Order 1 1 (Add 1 1)
 
--- the encoding of a batch with one order, 23 bytes, whose values at offsets 7, 9, 11 and 19 are parameters, followed by
--- `rest`
+-- the 23 bytes that encode a batch with one order, followed by `rest`; the values at the offsets 7, 9, 11 and
+-- 19 are parameters
 abbrev first_bytes : ℕ → ℕ → ℕ → ℕ → List ℕ → List ℕ
 first_bytes first count client number rest =
     0 ∷ 0 ∷ 0 ∷ 0 ∷ 0 ∷ 0 ∷ 0 ∷ first ∷ 0 ∷ count ∷ 0 ∷ client ∷ 0 ∷ 0 ∷ 0 ∷ 0 ∷ 0 ∷ 0 ∷ 0 ∷ number ∷ 0 ∷ 1 ∷ 1 ∷ rest

@@ -20,7 +20,8 @@ const HEAD_BYTES: usize = 10;
 /// The maximum number of bytes that one step takes.
 const MOST_STEP_BYTES: usize = 28;
 
-/// 1 to 256 steps that were committed together, and the number of the first one, from 1 to 2^40.
+/// The steps that were committed together, from 1 to 256, and the number of the first step, from 1
+/// to 2^40.
 #[derive(Drop, Debug)]
 pub struct Batch {
     pub first: u64,
@@ -61,7 +62,7 @@ pub fn read_batch(alloc: Global, version: u8, bytes: &[u8]) -> Result<Batch, Cod
     ensures found { IfOk result (λ b.
         (is_version version ≡ true) × IsBatch version b.first b.steps.items ×
         (bytes.now ≡ (batch version).text (content b))) }
-    // An encoding is decoded, unless memory runs out.
+    // Bytes that are an encoding are decoded, unless memory runs out.
     ensures only { (first : ℕ) (taken : List Taken) → is_version version ≡ true →
         IsBatch version first taken → bytes.now ≡ (batch version).text (pair first taken)
         → AnswersDecoded content result (Ok (pair first taken)) }
@@ -74,7 +75,7 @@ pub fn read_batch(alloc: Global, version: u8, bytes: &[u8]) -> Result<Batch, Cod
 }
 
 /// Encodes a batch of 1 to 256 steps in version 1 or 2. `first` is the number of the first step,
-/// from 1 to 2^40. In version 1 no packet may carry a distance.
+/// from 1 to 2^40. In version 1 no packet may carry a distance. Errors: out of memory.
 #[tactic(auto, using(std::proofs::Common::append_assoc), unfolding(crate::specs::Steps::batch, crate::specs::Steps::steps, crate::specs::Fields::from_one_to, crate::specs::Steps::how_many_steps))]
 pub fn write_batch(
     alloc: Global,

@@ -8,7 +8,7 @@ ghost use Rattle.coord_batch.specs.declared.fault.ReadError.TheVariants.{Memory}
 use std::alloc::{AllocError, AllocFailed};
 use std::fmt;
 
-/// The reason for which bytes could not be decoded.
+/// The reason why bytes could not be decoded.
 #[derive(Clone, Copy, Debug, PartialEq, Eq)]
 pub enum FaultKind {
     OutOfMemory,
@@ -57,9 +57,9 @@ impl fmt::Display for FaultKind {
     }
 }
 
-/// The first fault from the left, and its place: for `Short` the number of bytes, for `BadByte` the
-/// first byte of the field, for `Extra` the first byte after the complete value, for `BadVersion`
-/// 0. For `OutOfMemory` the place has no meaning.
+/// The first fault from the left, and its place. For `Short` the place is the number of bytes; for
+/// `BadByte`, the first byte of the field; for `Extra`, the first byte after the complete value;
+/// for `BadVersion`, 0. For `OutOfMemory` the place has no meaning.
 #[derive(Clone, Copy, Debug, PartialEq, Eq)]
 pub struct CodecFault {
     pub kind: FaultKind,
@@ -88,19 +88,19 @@ impl fmt::Display for CodecFault {
     }
 }
 
-/// A flaw of bytes that are read from the left. It names the number of bytes that remain at its
-/// place.
+/// A flaw of bytes that are read from the left. The flaw names the number of bytes that remain at
+/// its place.
 #[derive(Clone, Copy, Debug, PartialEq, Eq)]
 pub enum Flaw {
     /// The bytes end inside a field.
     Short,
-    /// The field that begins here is out of range or out of order.
+    /// A field is out of range or out of order. This many bytes remain where the field begins.
     BadByte(usize),
-    /// These bytes follow the complete value.
+    /// This many bytes follow the complete value.
     Extra(usize),
 }
 
-/// The reason for which a reader stopped.
+/// The reason why a reader stopped.
 #[derive(Debug, Drop)]
 pub enum ReadError {
     /// Memory ran out.
@@ -109,8 +109,8 @@ pub enum ReadError {
 }
 
 impl ReadError {
-    /// Returns the error for a field that is out of range or out of order; `left` is the number of
-    /// bytes that remained where the field began.
+    /// Returns the error for a field that is out of range or out of order. `left` is the number of
+    /// bytes that remain where the field begins.
     pub fn bad_byte(left: usize) -> Self
         ensures { result ≡ ReadError.Flaw (Flaw.BadByte left) }
     {
@@ -124,8 +124,8 @@ impl ReadError {
         ReadError::Flaw(Flaw::Extra(left))
     }
 
-    /// Returns the fault of this error, given the total number of bytes. The number of remaining
-    /// bytes never exceeds it, so the subtraction never saturates.
+    /// Returns the fault for this error, given the total number of bytes. The number of remaining bytes
+    /// never exceeds the total, so the subtraction never saturates.
     pub fn placed(self, len: usize) -> CodecFault
         ensures { Places self len result }
     {

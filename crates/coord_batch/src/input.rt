@@ -9,9 +9,9 @@ use crate::fault::{Flaw, ReadError};
 use coord_types::{Client, Group, Msg, NodeId, Version};
 use std::marker::Model;
 
-/// The bytes that are not read yet. Each method reads one field, in the format of the same name: it
-/// fails with `Short` if the bytes end inside the field, and with `BadByte` if the field's value is
-/// out of range. After an error the remaining bytes are unspecified.
+/// The bytes that have not been read yet. Each method reads one field, in the format of the same
+/// name. It fails with `Short` if the bytes end inside the field, and with `BadByte` if the field's
+/// value is out of range. After an error the remaining bytes are unspecified.
 #[derive(Drop)]
 pub struct Input<'a> {
     rest: &'a [u8],
@@ -29,7 +29,7 @@ impl<'a> Model for Input<'a> {
 }
 
 impl<'a> Input<'a> {
-    /// Returns an input with all these bytes unread.
+    /// Returns an input in which all these bytes are unread.
     pub fn new(bytes: &'a [u8]) -> Self
         ensures { result ≡ bytes.now }
     {
@@ -112,7 +112,7 @@ impl<'a> Input<'a> {
         Client::new(number).ok_or(ReadError::bad_byte(left))
     }
 
-    /// Reads a distance: eight bytes, at most `most`. In version 1 it takes no bytes and is 0.
+    /// Reads a distance: eight bytes, at most `most`. In version 1 a distance takes no bytes and is 0.
     #[tactic(auto, unfolding(crate::specs::Fields::distance, crate::specs::Fields::unless))]
     pub fn distance(&mut self, version: Version, most: u64) -> Result<u64, ReadError>
         ensures { ReadsSpelled (λ x. x) result ((distance version most).read self.old) self.new }

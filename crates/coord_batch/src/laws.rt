@@ -1,4 +1,4 @@
-//! Laws of the encodings: functions without a body whose contracts state the laws.
+//! Laws of the encodings. Each is the contract of an empty function.
 
 ghost use Rattle.coord_batch.specs.WorkedBytes.{WorkedBytes};
 ghost use Rattle.coord_batch.specs.Laws.{BatchesArePrefixFree, BytesBehindBatchesAreExtra, CutBatchesAreShort, StepsArePrefixFree};
@@ -21,14 +21,15 @@ pub fn cut_batches_are_short()
     ensures { CutBatchesAreShort }
 {}
 
-/// An encoding of a batch followed by more bytes is refused as `Extra`, at the first of them.
+/// An encoding of a batch followed by more bytes is refused as `Extra`, at the first of these
+/// bytes.
 #[tactic(auto, using(crate::proofs::SpellingLaws::more_batches_extra))]
 pub fn bytes_behind_batches_are_extra()
     ensures { BytesBehindBatchesAreExtra }
 {}
 
-/// Worked examples: the encodings of a batch of one order and of a packet, and the faults that
-/// changed bytes give.
+/// Worked examples: the encodings of a packet and of a batch with one order, and the faults of
+/// changed bytes.
 pub fn worked_bytes()
     ensures { WorkedBytes }
 {}

@@ -11,7 +11,7 @@ use coord_types::{Command, DataPacket, MAX_BATCH_STEPS, ReceiptPacket, Step, Ver
 use std::alloc::Global;
 
 impl<'a> Input<'a> {
-    /// Reads a command: a byte for its form, and its nodes and numbers.
+    /// Reads a command: a byte for its form, then its nodes and numbers.
     #[tactic(auto, unfolding(crate::specs::Steps::command, crate::specs::Steps::command_case))]
     pub fn command(&mut self) -> Result<Command, ReadError>
         ensures { ReadsSpelled (λ x. x) result (command.read self.old) self.new }
@@ -78,7 +78,8 @@ impl<'a> Input<'a> {
     {
         let mut list = Vec::with_capacity(alloc, usize::from(count))?;
         for _ in 0..count {
-            // Passed by reference: the toolchain has no proof for a `push` of a value that holds a `Command`.
+            // The step is passed by reference, because the toolchain has no proof for a `push` of a value that
+            // holds a `Command`.
             list.extend_from_slice(&[self.step(version)?])?;
         }
         Ok(list)

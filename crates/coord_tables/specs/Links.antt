@@ -1,5 +1,5 @@
--- A table of links. The key of a link is its two ends, the lesser first; its value is the two lanes, one for each
--- direction.
+-- A table of links. The key of a link is its two ends, the lesser first. The value is the two lanes of the
+-- link, one for each direction.
 use Rattle.std.specs.Prelude.{◌≡◌, ℕ, ◌<◌, ◌^◌, ◌==◌, ◌&&◌, nat_lt, Bool, true, List, [], ◌∷◌, map, length, slice_index, Option, if◌then◌else◌}
 use Rattle.std.proofs.Common.{refl}
 use Rattle.std.specs.Coded.{Coded, code_by, coded×, coded_ℕ}
@@ -12,7 +12,7 @@ use Rattle.coord_tables.specs.declared.links.LinkRow.{LinkRow}
 use Rattle.coord_tables.specs.Pairs.{pair_cmp, pair_cmp_total}
 use Rattle.coord_tables.specs.Places.{IsIndexOf, noted_place, pair_place}
 
--- the lane from the lesser end to the greater one, and the lane back
+-- the lane from the lesser end to the greater end, and the lane back
 pub record Lanes : Type 0 where
   pub forth : Lane
   pub back : Lane
@@ -28,11 +28,11 @@ ends x y = if nat_lt x y then (x, y) else (y, x)
 abbrev pub link_place : List ℕ → ℕ → ℕ → Option ℕ
 link_place places x y = noted_place (slice_index places (pair_place (ends x y).0 (ends x y).1))
 
--- the lane from x to y, of the two lanes of their link
+-- the lane from x to y, one of the two lanes of the link of x and y
 abbrev pub toward : ℕ → ℕ → Lanes → Lane
 toward x y l = if nat_lt x y then l.forth else l.back
 
--- the lane from x to y, or None if they are not linked
+-- the lane from x to y, or None if the two nodes are not linked
 unfoldable pub lane_at : Links → ℕ → ℕ → Option Lane
 lane_at t x y = option_map (toward x y) (get t (ends x y))
 
@@ -40,7 +40,7 @@ lane_at t x y = option_map (toward x y) (get t (ends x y))
 abbrev pub Turned : Links → Type 0
 Turned t = (a b : ℕ) → has t (a, b) ≡ true → a < b
 
--- replaces each lane by a function of its ends and the lane
+-- replaces each lane by a function of the lane and its two ends
 abbrev pub change_lanes : (ℕ × ℕ → Lane → Lane) → Links → Links
 change_lanes f t = change (λ k l. record { forth = f k l.forth; back = f (k.1, k.0) l.back }) t
 
@@ -59,7 +59,7 @@ joined t x y l = insert t (ends x y) (record { forth = l; back = l })
 abbrev pub parted : Links → ℕ → ℕ → Links
 parted t x y = remove t (ends x y)
 
--- adds the two lanes of each link to a table of lanes
+-- adds both lanes of each link to a table of lanes
 abbrev pub with_lanes : Table pair_cmp_total Lane → List ((ℕ × ℕ) × Lanes) → Table pair_cmp_total Lane
 with_lanes lanes [] = lanes
 with_lanes lanes (e ∷ es) = with_lanes (insert (insert lanes e.0 e.1.forth) (e.0.1, e.0.0) e.1.back) es
@@ -75,11 +75,11 @@ link_row e = record { a = e.0.0; b = e.0.1; forth = e.1.forth; back = e.1.back }
 abbrev pub link_entry : LinkRow → (ℕ × ℕ) × Lanes
 link_entry r = ((r.a, r.b), record { forth = r.forth; back = r.back })
 
--- the row with this lane from x to y
+-- the row in which the lane from x to y is this lane
 abbrev pub row_with : LinkRow → ℕ → ℕ → Lane → LinkRow
 row_with r x y m = if nat_lt x y then record r { forth = m } else record r { back = m }
 
--- the rows of links, in ascending order
+-- the rows of all links, in ascending order
 abbrev pub link_rows : Links → List LinkRow
 link_rows t = map link_row (entries t)
 
@@ -87,19 +87,19 @@ link_rows t = map link_row (entries t)
 abbrev pub links_of : List LinkRow → Links
 links_of rows = from_sorted (map link_entry rows)
 
--- the rows are in ascending order, each with its lesser end first
+-- the rows are in ascending order, and each row has its lesser end first
 pub record LinksRise (rows : List LinkRow) : Type 0 where
   pub turned : AllByRecursion (λ r. r.a < r.b) rows
   pub rise : is_sorted pair_cmp (map link_entry rows) ≡ true
 
--- a link's lanes are stored as a pair
+-- the two lanes of a link are stored as a pair
 abbrev pub lanes_code : Coded Lanes
 lanes_code = code_by (Lane × Lane) (coded× lane_code lane_code) (λ l. (l.forth, l.back)) (λ p. record { forth = p.0; back = p.1 }) (λ _. refl)
 
 abbrev pub links_code : Coded Links
 links_code = code (coded× coded_ℕ coded_ℕ) lanes_code
 
--- the rows are in ascending order, at most 255, and `places` is their index
+-- there are at most 255 rows, in ascending order, and `places` is their index
 pub record AreIndexed (rows : List LinkRow) (places : List ℕ) : Type 0 where
   pub rise : LinksRise rows
   pub few : length rows < 2 ^ 8

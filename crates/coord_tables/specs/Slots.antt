@@ -21,6 +21,6 @@ slot_at xs i = flat (slice_get xs i)
 abbrev pub slot_table : {X : Type 0} → List (Option X) → Table nat_cmp_total X
 slot_table xs = from_sorted (slot_entries 1 xs)
 
--- `xs` equals `ys`, except that key k has the content o
+-- `xs` equals `ys`, except that the slot of key k has the content o
 abbrev pub IsSetAt : {X : Type 0} → ℕ → Option X → List (Option X) → List (Option X) → Type 0
 IsSetAt {X} k o xs ys = (i : ℕ) → slot_at xs i ≡ (if i == k - 1 then o else slot_at ys i)

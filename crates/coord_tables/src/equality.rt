@@ -7,7 +7,8 @@ use coord_link::Lane;
 use coord_node::Node;
 use coord_types::{Msg, Session};
 
-/// Values with an exact comparison: it returns true if and only if contracts see equal values.
+/// Values that can be compared exactly: the comparison returns true if and only if contracts see
+/// equal values.
 pub trait Same {
     fn is_same(&self, other: &Self) -> bool
         ensures { IsTrue result ↔ (self.now ≡ other.now) };

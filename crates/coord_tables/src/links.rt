@@ -1,4 +1,4 @@
-//! A link, as a row of the table of links and of a world.
+//! A link, as a row of the table of links and as a row of a world.
 
 use coord_link::Lane;
 use coord_types::NodeId;

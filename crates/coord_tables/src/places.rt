@@ -23,7 +23,7 @@ pub fn ends(x: NodeId, y: NodeId) -> (NodeId, NodeId)
     if x < y { (x, y) } else { (y, x) }
 }
 
-/// Returns the cell of a pair, below `PAIRS`.
+/// Returns the cell of a pair, which is below `PAIRS`.
 fn pair_place(a: NodeId, b: NodeId) -> usize
     ensures value { result ≡ pair_place a b }
     ensures within { result < PAIRS }
@@ -52,7 +52,8 @@ pub fn place_of(places: &[u8], x: NodeId, y: NodeId) -> Option<usize>
     }
 }
 
-/// Allocates the cells of all pairs if there are none yet. Recorded places are kept.
+/// Allocates the cells of all pairs if there are no cells yet. Recorded places are kept. Errors:
+/// out of memory.
 pub fn grow(places: &mut Vec<u8>) -> Result<(), AllocError>
     requires { length places.old.items ≤ PAIRS }
     ensures ok { OnOk result (length places.new.items ≡ PAIRS) }
@@ -76,7 +77,8 @@ pub fn index_all(places: &mut Vec<u8>, links: &[LinkRow])
     }
 }
 
-/// Returns the place at which to insert a new link from `a` to `b`, in ascending order.
+/// Returns the place at which a new link from `a` to `b` must be inserted to keep the ascending
+/// order.
 pub fn place_for(links: &[LinkRow], a: NodeId, b: NodeId) -> usize
     requires { find pair_cmp record { 0 = a; 1 = b } (map link_entry links.now) ≡ None }
     ensures { IsGapFor pair_cmp (map link_entry links.now) record { 0 = a; 1 = b } result }

@@ -1,4 +1,4 @@
-//! Tables whose keys are identifiers: the nodes of a world, and its clients' last orders.
+//! Tables whose keys are identifiers: the nodes of a world, and the last orders of its clients.
 
 ghost use Rattle.std.specs.Prelude.{◌≡◌, true, IsSome, IfOk, OnOk, OnErr, IsTrue, ◌↔◌};
 ghost use Rattle.std.specs.Option.{option_copied};
@@ -42,7 +42,7 @@ impl<const MOST: u8, V> Model for SlotTable<MOST, V> {
 }
 
 impl<const MOST: u8, V: Copy> SlotTable<MOST, V> {
-    /// Returns the empty table. It allocates nothing.
+    /// Returns the empty table. Allocates nothing.
     pub fn new(alloc: Global) -> Self
         ensures { result ≡ table.empty }
     {
@@ -51,7 +51,8 @@ impl<const MOST: u8, V: Copy> SlotTable<MOST, V> {
         }
     }
 
-    /// Returns the table with these entries, which must be in ascending order.
+    /// Returns the table with these entries, which must be in ascending order of their keys. Errors:
+    /// out of memory.
     pub fn from_sorted(alloc: Global, entries: &[(Identifier<MOST>, V)]) -> Result<Self, AllocError>
         requires { is_sorted nat_cmp entries.now ≡ true }
         ensures { IfOk result (λ made. made ≡ table.from_sorted entries.now) }
@@ -63,7 +64,7 @@ impl<const MOST: u8, V: Copy> SlotTable<MOST, V> {
         Ok(made)
     }
 
-    /// Returns the values with their keys, in ascending order.
+    /// Returns the values with their keys, in ascending order of the keys. Errors: out of memory.
     pub fn entries(&self, alloc: Global) -> Result<Vec<(Identifier<MOST>, V)>, AllocError>
         ensures { IfOk result (λ entries. entries.items ≡ table.entries self.now) }
     {
@@ -77,14 +78,14 @@ impl<const MOST: u8, V: Copy> SlotTable<MOST, V> {
         slots::count(&self.slots)
     }
 
-    /// Returns the value at a key, or None if there is none.
+    /// Returns the value at a key, or None if the key has no value.
     pub fn get(&self, key: Identifier<MOST>) -> Option<&V>
         ensures { option_copied result ≡ table.get self.now key.entry }
     {
         slots::value_at(&self.slots, key.number() as usize - 1)
     }
 
-    /// Stores a value at a key, replacing an existing one.
+    /// Stores a value at a key, and replaces the key's old value, if any. Errors: out of memory.
     pub fn insert(&mut self, key: Identifier<MOST>, value: V) -> Result<(), AllocError>
         ensures ok { OnOk result (self.new ≡ table.insert self.old key.entry value) }
         ensures err { OnErr result (self.new ≡ self.old) }
@@ -92,7 +93,7 @@ impl<const MOST: u8, V: Copy> SlotTable<MOST, V> {
         slots::put(&mut self.slots, key.number(), value)
     }
 
-    /// Replaces the value at a key, which must exist. It allocates nothing.
+    /// Replaces the value at a key, which must have a value. Allocates nothing.
     pub fn replace(&mut self, key: Identifier<MOST>, value: V)
         requires { IsSome (table.get self.old key) }
         ensures { self.new ≡ table.insert self.old key.entry value }
@@ -100,7 +101,7 @@ impl<const MOST: u8, V: Copy> SlotTable<MOST, V> {
         slots::replace(&mut self.slots, key.number(), value);
     }
 
-    /// Removes the value at a key, if there is one.
+    /// Removes the value at a key, if the key has a value.
     pub fn remove(&mut self, key: Identifier<MOST>)
         ensures { self.new ≡ table.remove self.old key.entry }
     {
@@ -116,7 +117,7 @@ impl<const MOST: u8, V: Copy> SlotTable<MOST, V> {
         slots::is_same_slots(&self.slots, &other.slots)
     }
 
-    /// Returns a copy of the table.
+    /// Returns a copy of the table. Errors: out of memory.
     pub fn copy(&self) -> Result<Self, AllocError>
         ensures { IfOk result (λ copy. copy ≡ self.now) }
     {

@@ -19,7 +19,8 @@ pub fn value_at<V>(slots: &[Option<V>], at: usize) -> Option<&V>
     }
 }
 
-/// Stores a value at a key. Slots are allocated at their first use.
+/// Stores a value at a key, and replaces the key's old value, if any. Slots are allocated at their
+/// first use. Errors: out of memory.
 pub fn put<V: Copy>(slots: &mut Vec<Option<V>>, key: u8, value: V) -> Result<(), AllocError>
     requires { 1 ≤ key }
     ensures ok { OnOk result (IsSetAt key (Some value) slots.new.items slots.old.items) }
@@ -33,7 +34,7 @@ pub fn put<V: Copy>(slots: &mut Vec<Option<V>>, key: u8, value: V) -> Result<(),
     Ok(())
 }
 
-/// Replaces the value at a key, which must exist.
+/// Replaces the value at a key, which must have a value.
 pub fn replace<V: Copy>(slots: &mut Vec<Option<V>>, key: u8, value: V)
     requires key { 1 ≤ key }
     requires there { IsSome (slot_at slots.old.items (key - 1)) }
@@ -43,7 +44,7 @@ pub fn replace<V: Copy>(slots: &mut Vec<Option<V>>, key: u8, value: V)
     slots[key as usize - 1] = Some(value);
 }
 
-/// Removes the value at a key, if there is one.
+/// Removes the value at a key, if the key has a value.
 pub fn take_out<V: Copy>(slots: &mut Vec<Option<V>>, key: u8)
     requires { 1 ≤ key }
     ensures set { IsSetAt key None slots.new.items slots.old.items }
@@ -68,7 +69,7 @@ pub fn count<V>(slots: &[Option<V>]) -> u8
     count
 }
 
-/// Returns the values with their keys, in ascending order.
+/// Returns the values with their keys, in ascending order of the keys. Errors: out of memory.
 pub fn entries<const MOST: u8, V: Copy>(
     alloc: Global,
     slots: &[Option<V>],
