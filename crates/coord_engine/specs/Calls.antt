@@ -13,7 +13,7 @@ use Rattle.coord_engine.specs.State.{GuardedState}
 use Rattle.coord_engine.specs.declared.collected.Collected.{Collected}
 use Rattle.coord_engine.specs.declared.collected.Collected.TheVariants.{Settled, Refused, Waiting}
 
--- the note of a claim: the number and the step of the claim, and the kind of its reply
+-- the note of a claim: the claim's step number, its step, and the kind of its reply
 abbrev pub note_of : Claim → Note
 note_of claim = record { step = claim.step; what = claim.what; kind = claim.kind }
 
@@ -44,8 +44,8 @@ RefusesTicket l claim Stranger = (claim.step ≤ settled_count l.log) × ¬ IsCo
 RefusesTicket l claim Stopped = (settled_count l.log < claim.step) × (is_some l.log.doubt ≡ true)
 RefusesTicket l claim refusal = ⊥
 
--- The answer to a ticket: the reply if the ticket's step is settled, a refusal if there will be no reply, or
--- that the ticket must wait.
+-- The answer to a ticket: its reply if its step is settled, a refusal if there will be no reply, and otherwise
+-- `Waiting`.
 abbrev pub CollectsAs : {D : Type 0} → LedgerState D → Claim → Collected → Type 0
 CollectsAs l claim (Settled reply) = (reply ≡ reply_of claim) × IsCollectable l.log claim
 CollectsAs l claim (Refused refusal back) = (back ≡ claim) × RefusesTicket l claim refusal

@@ -37,11 +37,11 @@ starts_at_once g = is_gathered g || (nat_le MAX_BATCH_STEPS (pending_count g) ||
 abbrev pub wakes_flusher : {D : Type 0} → Bool → GuardedState D → Bool
 wakes_flusher was_idle g = not (is_idle g) && (was_idle || starts_at_once g)
 
--- the state with the number of packets in hand set to n
+-- the state in which n packets are in hand
 abbrev pub with_in_hand : {D : Type 0} → GuardedState D → ℕ → GuardedState D
 with_in_hand g n = record g { in_hand = n }
 
--- the state with the number of steps that the next flight waits for set to n
+-- the state in which the next flight waits for n steps
 abbrev pub with_awaited : {D : Type 0} → GuardedState D → ℕ → GuardedState D
 with_awaited g n = record g { awaited = n }
 

@@ -1,5 +1,5 @@
--- The state of the engine's disk when the engine was created, and the images that a crash may have left since:
--- worlds after a prefix of the accepted steps.
+-- The state of the engine's disk when the engine was created, and what a crash may have left on it since: only
+-- images of worlds after a prefix of the accepted steps.
 use Rattle.std.specs.Prelude.{◌≡◌, ◌⊎◌, ℕ, ◌+◌, ◌≤◌, Bool, false, true, List, ◌++◌, Option, Some, None, Result, length, take, IsErrOf}
 use Rattle.coord_disk.specs.Model.DiskModel.{DiskModel}
 use Rattle.coord_disk.specs.Model.Moments.{LeavesOnly}
@@ -66,12 +66,12 @@ pub record IsAfterSome (base : World) (steps : List Step) (bytes : List ℕ) : T
   pub within : number ≤ length steps
   pub recovered : Recovered bytes (fold base (take number steps))
 
--- The world after a prefix of a trail is on the way from the trail's base to its last world.
+-- The world after a prefix of a trail is on the way from the trail's base to the world after the whole trail.
 abbrev pub AfterSomeIsOnTheWay : Type 0
 AfterSomeIsOnTheWay = (base : World) (steps : List Step) (bytes : List ℕ) → IsTrail base steps → IsAfterSome base steps bytes → IsOnTheWay base (fold base steps) bytes
 
--- The disk keeps the model exactly if it did in the state `first`. If it did, a crash at any moment since then
--- has left only worlds after a prefix of these steps.
+-- The disk keeps the model if and only if it did in the state `first`. If it did, a crash at any moment since
+-- then has left only worlds after a prefix of these steps.
 pub record StaysAlong {D : Type 0} (m : DiskModel D) (first : Past) (base : World) (steps : List Step) (now : D) : Type 0 where
   pub same_model : m.keeps_model now ≡ first.keeps_model
   pub moments : first.keeps_model ≡ true → HasLeft m first now (IsAfterSome base steps)

@@ -21,7 +21,7 @@ delivery_of step (output.Signalled u epoch) = Signal step u epoch
 abbrev pub deliveries_of : List Release → List Delivery
 deliveries_of released = map (λ r. delivery_of r.step r.output) released
 
--- The step that an arriving packet becomes: data is taken, and a receipt clears the data that it names.
+-- The step that an arriving packet becomes: `Take` for data, `Clear` for a receipt.
 abbrev pub step_of : Packet → Step
 step_of (Carried p) = Take p
 step_of (Receipted p) = Clear p
@@ -35,8 +35,8 @@ MayAsk may (Signal step node epoch) = may step node epoch
 abbrev pub MayAskAll : (ℕ → ℕ → ℕ → Type 0) → List Release → Type 0
 MayAskAll may released = (before after : List Release) (step node epoch : ℕ) → released ≡ before ++ record { step = step; output = output.Signalled node epoch } ∷ after → may step node epoch
 
--- `carried` and `signalled` give the possible states of a port after a request, from its state before, the
--- request and the answer.
+-- `carried` and `signalled` give the possible states of a port after a request, given its state before the
+-- request, the request and the answer.
 module _ {P : Type 0} (carried : P → ℕ → Packet → Bool → P → Type 0) (signalled : P → ℕ → ℕ → ℕ → Bool → P → Type 0) where
   -- This delivery was requested from the port.
   abbrev pub IsAsked : P → Delivery → P → Type 0

@@ -20,8 +20,8 @@ pub record GivesSignal (base : World) (steps : List Step) (step node epoch : ℕ
 abbrev pub HasReadSettled : TableId → List Step → List Step → Beginning → Type 0
 HasReadSettled history earlier settled read = read ≡ record { history = history; steps = earlier ++ settled }
 
--- the settled steps of a trail that starts at this world; `settled` counts all settled steps, including those
--- before the world
+-- the settled steps of a trail that starts at this world; `settled` counts all settled steps, including the
+-- steps that led to this world
 abbrev pub first_settled : World → List Step → ℕ → List Step
 first_settled base trail settled = take (settled - base.count) trail
 

@@ -21,8 +21,9 @@ pub record GuardedState (D : Type 0) : Type 0 where
 abbrev pub most_shares : ℕ
 most_shares = 65535
 
--- The basis of an engine: for its disk, whether the disk keeps the model, the bytes that it may hold, and how
--- often its device has failed; for the ledger over which the engine was created, its base and its steps.
+-- The basis of an engine: what contracts use of its disk (whether the disk keeps the model, which bytes it may
+-- hold, how often its device has failed), and the base and the steps of the ledger over which the engine was
+-- created.
 pub record Basis (D : Type 0) : Type 0 where
   pub keeps_model : D → Bool
   pub present : D → Present

@@ -1,6 +1,6 @@
 -- The answers of an engine's calls while other threads make calls too. A thread that takes the lock knows only
--- that the value under it satisfies the invariant of its type. So a call answers like a call on some state
--- that the value can have.
+-- that the value under it satisfies the invariant of its type. So a call's answer is right for some state that
+-- the value can have.
 use Rattle.std.specs.Prelude.{◌≡◌, ℕ, ◌≤◌, ◌<◌, false, true, List, is_some, take, Option, Result, Ok, Err, Some, IfNone, IfSome}
 use Rattle.atomic_table.specs.Seated.{TableId}
 use Rattle.coord_types.specs.declared.limits.TheConstants.{MAX_BATCH_STEPS}

@@ -12,7 +12,7 @@ sent u v n = Carried (record { from = u; to = v; inc = 3; number = n; msg = Abor
 abbrev pub receipt : ℕ → ℕ → ℕ → Packet
 receipt u v n = Receipted (record { from = u; to = v; inc = 3; number = n })
 
--- Later data of a lane replaces the lane's earlier data in its place.
+-- Later data of a lane takes the place of the lane's earlier data.
 abbrev pub LaterInPlace : Type 0
 LaterInPlace = with_packet (with_packet (with_packet [] (sent 1 2 1)) (sent 2 1 1)) (sent 1 2 2) ≡ sent 1 2 2 ∷ sent 2 1 1 ∷ []
 

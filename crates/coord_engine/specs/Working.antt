@@ -59,7 +59,7 @@ module _ {D : Type 0} (b : Basis D) where
     pub submits : AtSomeMoment b (Submits {D = D} (step_of p) answer notes later)
     pub follows : waits ≡ waits_after answer
 
-  -- The waiting packets were submitted in order, up to the first that still has to wait.
+  -- The waiting packets were submitted in order, up to the first packet that still has to wait.
   abbrev pub TriesAll : List Note → List Packet → List Note → List Packet → Type 0
   TriesAll notes [] later left = (later ≡ notes) × (left ≡ [])
   TriesAll notes (p ∷ ps) later left =

@@ -88,7 +88,7 @@ impl<D: Disk, L: Origin> Engine<D, L> {
         }
     }
 
-    /// Returns a share without notes, or None if all 65,535 are taken.
+    /// Returns a share without notes, or None if all 65,535 shares are taken.
     pub fn share<R: Wait>(&self, rt: &R) -> Option<Share<L>>
         ensures given { IfSome result (λ share. (share ≡ []) ×
             AtSomeMoment (based_on D.model L.base L.before) (λ g. g.given < most_shares)) }
@@ -100,8 +100,8 @@ impl<D: Disk, L: Origin> Engine<D, L> {
         guarded.share()
     }
 
-    /// Accepts a step, like the ledger, and appends its note to the caller's share. A repeat is not
-    /// noted. A finishing engine refuses every step as `Stopped`.
+    /// Accepts a step, like `Ledger::submit`, and appends its note to the caller's share. A repeat is
+    /// not noted. A finishing engine refuses every step as `Stopped`.
     pub fn submit<R: Wait>(
         &self,
         rt: &R,

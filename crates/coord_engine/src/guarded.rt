@@ -1,6 +1,7 @@
 //! The value under an engine's lock: the ledger, and the count of the callers' accepted steps.
 //!
-//! Each call of an engine takes the lock and calls a method here, whose contract states its effect.
+//! Each call of an engine takes the lock and calls a method of this module. The method's contract
+//! states the effect of the call.
 
 ghost use Rattle.std.specs.Prelude.{◌≡◌, ◌<◌, [], IfNone, IfSome, None};
 ghost use Rattle.coord_engine.specs.MonotoneLog.{Beginning};
@@ -120,7 +121,7 @@ impl<D: Disk, L: Origin> Guarded<D, L> {
         }
     }
 
-    /// Returns a share without notes, or None if all 65,535 are taken.
+    /// Returns a share without notes, or None if all 65,535 shares are taken.
     pub fn share(&mut self) -> Option<Share<L>>
         ensures some { IfSome result (λ share. (share ≡ []) × (self.old.given < most_shares) ×
             (self.new ≡ with_share self.old)) }

@@ -62,7 +62,7 @@ impl<G: NamedSteps> Play<(), Known> for WritesOn<G> {
     ghost then = { IsWrittenOn G.steps };
 }
 
-/// The update that compares the prefix of another token with the first token's.
+/// The update that compares another token's prefix with the first token's prefix.
 struct Compares;
 
 impl Play<(), Known> for Compares {

@@ -56,7 +56,7 @@ impl<L: Origin> Released<L> {
         self.into_releases().lose_rest()
     }
 
-    /// Returns the releases alone.
+    /// Returns the releases without their token.
     pub fn into_releases(self) -> Releases
         ensures { result ≡ self }
     {

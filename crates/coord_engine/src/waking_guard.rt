@@ -1,4 +1,4 @@
-//! The lock of an engine, which wakes the flusher when it is released.
+//! The lock of an engine. Releasing the lock wakes the flusher if that is due.
 
 ghost use Rattle.std.specs.Prelude.{◌≡◌};
 ghost use Rattle.std.specs.Sync.Mutex.{mutex_guard_value};

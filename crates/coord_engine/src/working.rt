@@ -39,7 +39,7 @@ fn submit<D: Disk, L: Origin>(
     }
 }
 
-/// Submits the waiting packets, in order, up to the first that still has to wait.
+/// Submits the waiting packets in order, up to the first packet that still has to wait.
 fn try_waiting<D: Disk, L: Origin>(
     guarded: &mut Guarded<D, L>,
     share: &mut Share<L>,

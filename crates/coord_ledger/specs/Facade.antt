@@ -1,4 +1,4 @@
--- The definitions and types that the proofs and the crates above use to talk about this crate.
+-- The definitions and types that the proofs and the crates above use when they refer to this crate.
 pub use Rattle.coord_types.specs.declared.outputs.Output.{Output}
 pub use Rattle.coord_types.specs.declared.refusals.Refusal.{Refusal}
 pub use Rattle.coord_types.specs.declared.steps.Kind.{Kind}

@@ -49,7 +49,7 @@ pub fn run_is_consistent()
     ensures { RunIsConsistent }
 {}
 
-/// If a run is followed by one more event with one of its possible answers, the result is a run.
+/// A run followed by one more event, with one of its possible answers, is again a run.
 #[tactic(auto, using(crate::proofs::machine::Consistent::run_goes_on))]
 pub fn run_goes_on()
     ensures { RunGoesOn }
@@ -82,9 +82,9 @@ pub fn released_between()
 {}
 
 /// Bounds the number of signals if nodes and links come and go, but no link joins the part with the
-/// rest. Since every node of the part was Ready, a ledger releases at most as many signals of a
-/// node of the part as resets were started and links dropped there, plus the node's own resets that
-/// were answered Finished.
+/// rest. From a moment at which every node of the part is Ready, a ledger releases at most as many
+/// signals of a node of the part as resets were started and links dropped there, plus the node's
+/// own resets that were answered Finished.
 pub fn released_with_drops()
     ensures { ReleasedWithDrops }
 {}
@@ -112,8 +112,8 @@ pub fn rebased_answers_alike()
     ensures { RebasedAnswersAlike }
 {}
 
-/// After each of these events except a crash, the ledger is still the same ledger with its base
-/// moved.
+/// After each event except a crash, a ledger whose base was moved is still the other ledger with
+/// its base moved.
 #[tactic(auto, using(crate::proofs::machine::Rebased::rebased_goes_on))]
 pub fn rebased_goes_on()
     ensures { RebasedGoesOn }

@@ -175,7 +175,7 @@ impl<D: Disk> Ledger<D> {
         self.front.count()
     }
 
-    /// Tests whether the ledger has stopped. A ledger stops when a torn flight returns, a flight whose
+    /// Tests whether the ledger has stopped. A ledger stops when a flight returns torn, because its
     /// device failed. From then on it accepts and flushes nothing.
     pub fn stopped(&self) -> bool
         ensures { result ≡ is_some self.now.log.doubt }

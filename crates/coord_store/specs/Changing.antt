@@ -13,7 +13,7 @@ use Rattle.coord_store.specs.declared.faults.CommitFault.{CommitFault}
 use Rattle.coord_store.specs.declared.faults.CommitFault.TheVariants.{OutOfMemory, Device, Stopped}
 
 -- The promises of a call that replaces a store's world by `next`. `device` is the fault that reports a failure
--- of the device; after it, the old or the new world may be on disk.
+-- of the device. After this fault, the old or the new world may be on disk.
 pub record Changes {D T E : Type 0} (m : DiskModel D) (next : World) (device : E) (old new : Kept D) (result : Result T E) : Type 0 where
   -- A crash at any moment of the call, even inside a checkpoint, leaves bytes that give the old or the new world.
   pub any_moment : m.keeps_model old.disk ≡ true → old.torn ≡ None → LeavesOnly m old.disk new.disk (GivesEither old.world next)

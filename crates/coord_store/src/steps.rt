@@ -126,8 +126,8 @@ fn is_fresh(world: &World, out: usize, index: usize, step: &Step) -> bool
 }
 
 /// Makes the world take the steps of the batch with this number. The world before all of them is
-/// the settled world. Before this world changes, the function counts the leading steps whose
-/// packets it has sent; a step needs nothing else of the settled world.
+/// the settled world. The function first counts the leading steps whose packets the settled world
+/// has sent; a step needs nothing else of the settled world.
 pub fn judge_all(world: &mut World, batch: usize, steps: &[Step]) -> Result<(), StoreFault>
     requires legal { Legal world.old }
     ensures world { OnOk result (world.new ≡ fold world.old steps.now) }

@@ -49,8 +49,8 @@ impl<D: Disk, L: Origin> Guarded<D, L> {
         self.ledger.pending()
     }
 
-    /// Sends the next flight out, like the ledger. The flight's token has read the settled steps.
-    /// Errors: out of memory.
+    /// Sends the next flight out, like `Ledger::begin_flush`. The flight's token has read the settled
+    /// steps. Errors: out of memory.
     pub fn begin(&mut self, history: &MonotoneLog) -> Result<Option<OwnFlight<D, L>>, AllocError>
         requires here { history.now ≡ L.history }
         ensures nothing { keeps_store self.old.ledger ≡ true → (result ≡ Ok None) ×
@@ -79,9 +79,9 @@ impl<D: Disk, L: Origin> Guarded<D, L> {
         }
     }
 
-    /// Takes back the flight that is out, like the ledger. The token of its releases has read the
-    /// settled steps, including the flight's own steps. Waiting threads must be woken: a reply may be
-    /// ready, or the ledger has stopped.
+    /// Takes back the flight that is out, like `Ledger::end_flush`. The token of its releases has read
+    /// the settled steps, including the flight's own steps. Waiting threads must be woken: a reply may
+    /// be ready, or the ledger has stopped.
     pub fn end(
         &mut self,
         history: &MonotoneLog,
@@ -120,8 +120,8 @@ impl<D: Disk, L: Origin> Guarded<D, L> {
         }
     }
 
-    /// Returns the packets to be sent again because they may have been lost, but no signal. Their step
-    /// number is 0. Errors: out of memory.
+    /// Returns the packets to be sent again because they may have been lost. No signal is among them,
+    /// and their step number is 0. Errors: out of memory.
     pub fn resend(&mut self, history: &MonotoneLog) -> Result<Released<L>, AllocError>
         requires here { history.now ≡ L.history }
         ensures again { IfOk result (λ releases. releases ≡ resent (settled_world self.old.ledger.log)) }

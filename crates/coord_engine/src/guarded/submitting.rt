@@ -11,8 +11,8 @@ use coord_ledger::{Handed, Ticket};
 use coord_types::{Refusal, Step};
 
 impl<D: Disk, L: Origin> Guarded<D, L> {
-    /// Accepts a step, like the ledger, and notes it in the caller's share. A repeat is not noted; it
-    /// is recognized because the trail does not grow.
+    /// Accepts a step, like `Ledger::submit`, and notes it in the caller's share. A repeat is not
+    /// noted.
     ///
     /// Room for the note is allocated first, so `OutOfMemory` may precede any other refusal. `Stopped`
     /// comes next, also if the engine is finishing.

@@ -77,8 +77,8 @@ StaysConsistent = (s : Machine) (e : Event) (a : Answer) → EventInRange e → 
 abbrev pub RunIsConsistent : Type 0
 RunIsConsistent = (s : Machine) (events : List Event) (given : List Answer) → AllByRecursion EventInRange events → IsConsistent s → Answered s events given → IsConsistent (run s events given)
 
--- If a run is followed by one more event with a possible answer, the longer list is a run, and ends in the
--- machine after that event.
+-- A run followed by one more event, with a possible answer, is again a run. It ends in the machine after that
+-- event.
 abbrev pub RunGoesOn : Type 0
 RunGoesOn = (s : Machine) (events : List Event) (given : List Answer) (e : Event) (a : Answer) → Answered s events given → IsOneOf a (answers (run s events given) e) →
     Answered s (events ++ e ∷ []) (given ++ a ∷ []) × (run s (events ++ e ∷ []) (given ++ a ∷ []) ≡ after (run s events given) e a)

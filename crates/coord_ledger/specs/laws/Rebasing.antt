@@ -1,5 +1,5 @@
--- The base of a ledger moves: a ledger that starts from a new base after a crash gives the answers that it
--- would have given from its old base.
+-- A ledger's base can move. After a crash a ledger starts from a new base, and gives the answers that it would
+-- have given from its old base.
 use Rattle.std.specs.Prelude.{◌≡◌, ℕ, ◌≤◌, false}
 use Rattle.coord_ledger.specs.declared.events.Answer.{Answer}
 use Rattle.coord_ledger.specs.declared.events.Event.{Event}
@@ -21,8 +21,8 @@ RebasedIsConsistent = (log : Log) (n : ℕ) → IsConsistentLog log → n ≤ lo
 abbrev pub RebasedAnswersAlike : Type 0
 RebasedAnswersAlike = (s : Machine) (n : ℕ) (e : Event) → IsConsistent s → n ≤ s.log.settled → answers (rebased_machine s n) e ≡ answers s e
 
--- Moving the base commutes with each event except a crash: after the event, the machine with the moved base is
--- the other machine after the event, with its base moved.
+-- Moving the base commutes with each event except a crash: moving the base before the event leads to the same
+-- machine as moving it after the event.
 abbrev pub RebasedGoesOn : Type 0
 RebasedGoesOn = (s : Machine) (n : ℕ) (e : Event) (a : Answer) → IsConsistent s → n ≤ s.log.settled → is_crash e ≡ false → IsOneOf a (answers s e) → after (rebased_machine s n) e a ≡ rebased_machine (after s e a) n
 

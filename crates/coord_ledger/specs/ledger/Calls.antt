@@ -23,7 +23,7 @@ use Rattle.coord_ledger.specs.machine.Answers.{cannot_flush}
 use Rattle.coord_ledger.specs.machine.Log.{Log, front_world, pending, settled_count, settled_world, with_step, world_after}
 use Rattle.coord_ledger.specs.machine.Submits.{verdict}
 
--- the claim that the reply to this step is this reply
+-- the claim for a step that gets this reply
 abbrev pub claimed : Step → Reply → Claim
 claimed what reply = record { step = reply.step; what = what; kind = reply.kind }
 
@@ -83,7 +83,7 @@ with_store_out l n = record l { out = Some n; disk = None }
 abbrev pub taken_back : {D : Type 0} → LedgerState D → ℕ → Mark → D → LedgerState D
 taken_back l n mark disk = record { log = log_back l.log n mark; out = None; disk = Some disk }
 
--- the releases of a flight when it is taken back
+-- the releases of a flight that is taken back with this mark
 abbrev pub releases_in : {D : Type 0} → FlightState D → Mark → List Release
 releases_in f New = []
 releases_in f Good = releases_of (outs f.world f.steps)

@@ -74,7 +74,7 @@ abbrev pub IsEventFault : Option Bool → Event → RunFaultKind → Type 0
 IsEventFault model e OutOfMemory = wants_memory e ≡ true
 IsEventFault model e (Store fault) = (e ≡ Crash) × IsOpenFault fault × (model ≡ Some true → IsPassing fault)
 
--- The driver now holds a disk that this event on its old disk has led to.
+-- The event led from the driver's old disk to a new disk, which the driver now holds.
 pub record DiskAfter {D : Type 0} (model : DiskModel D) (crashes : D → D → Type 0) (found : Machine) (touches : Bool) (e : Event) (old : D) (now : Option D) : Type 0 where
   pub new : D
   pub holds : now ≡ Some new

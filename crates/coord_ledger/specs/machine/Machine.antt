@@ -14,7 +14,7 @@ pub record FlightOut : Type 0 where
 pub record Machine : Type 0 where
   pub log : Log
   pub flight : Option FlightOut
-  pub tickets : List (Option Reply)  -- in the order in which they were issued; None for a collected ticket
+  pub tickets : List (Option Reply)  -- the tickets in the order in which they were issued; None for a collected ticket
   pub seen : ℕ  -- the settled count of the last view that was shown
   pub released : List Release  -- all releases ever, in order
   pub replied : List Reply  -- all replies ever collected, in order

@@ -48,7 +48,7 @@ fn adopt<D: CrashDisk>(alloc: Global, store: Store<D>) -> Result<Ledger<D>, (Run
 
 impl<D: CrashDisk> Driver<D> {
     /// Crashes the disk and opens it again; the flight is lost. Returns the number of steps of the
-    /// opened world, and the new driver. Otherwise returns the fault, and the disk.
+    /// opened world, and the new driver. If no ledger is made, returns the fault and the disk.
     pub fn crash(self, alloc: Global) -> Result<(u64, Self), (RunFaultKind, D)>
         ensures simulates { model_held D.model self ≡ Some true →
             IfOk result (λ opened. Simulates self Crash (Opened opened.0) opened.1) }
