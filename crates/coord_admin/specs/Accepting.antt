@@ -5,7 +5,9 @@ use Rattle.std.specs.declared.io.ErrorKind.TheVariants as kind
 use Rattle.coord_admin.specs.declared.accepting.Failure.{Failure}
 use Rattle.coord_admin.specs.declared.accepting.Failure.TheVariants.{OfClient, OfMeans, OfListener}
 
--- The reaction to each error number. Errors of a client: EPERM, EINTR, ENONET, EPROTO, ENOPROTOOPT, EOPNOTSUPP, ENETDOWN, ENETUNREACH, ECONNABORTED, ECONNRESET, EHOSTDOWN, EHOSTUNREACH; lack of resources: ENOMEM, ENFILE, EMFILE, ENOBUFS.
+-- The reaction to each error number. Errors of a client are EPERM, EINTR, ENONET, EPROTO, ENOPROTOOPT,
+-- EOPNOTSUPP, ENETDOWN, ENETUNREACH, ECONNABORTED, ECONNRESET, EHOSTDOWN and EHOSTUNREACH. Resources are
+-- lacking after ENOMEM, ENFILE, EMFILE and ENOBUFS.
 abbrev pub numbered : List (ℕ × Failure)
 numbered =
     (1, OfClient) ∷ (4, OfClient) ∷ (64, OfClient) ∷ (71, OfClient) ∷ (92, OfClient) ∷ (95, OfClient)

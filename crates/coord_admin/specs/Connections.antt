@@ -33,7 +33,7 @@ has_closed (Err f) = false
 -- is old
 module _ {D : Type 0} (answers : D → Request → Answer → D → Type 0) (keeps : D → ℕ → Type 0) (most : ℕ) where
   -- A connection began while the desk kept fewer steps than `most`, and was served. It was cut only if the
-  -- desk kept at least twice `most` steps at its end.
+  -- desk kept at least twice `most` steps when the connection ended.
   abbrev pub IsServed : D → Connection → D → Type 0
   IsServed d c e = HasKeptFewer keeps d most × Served answers d c.talk.bytes_read c.talk.bytes_written c.ended e × (c.ended ≡ Ok Cut → HasKept keeps e (2 * most))
 

@@ -50,7 +50,7 @@ impl Failure {
     }
 }
 
-/// Classifies an error by its error number of Linux.
+/// Classifies an error by its Linux error number.
 fn numbered(code: u32) -> Failure
     ensures { result ≡ failure_in numbered code }
 {

@@ -21,8 +21,8 @@ use coord_types::MAX_BATCH_STEPS;
 use std::alloc::{AllocError, Global};
 use std::collections::VecDeque;
 
-/// Posted orders that have no reply yet, at most as many as fit into a flight. All its memory is
-/// allocated when it is created.
+/// Posted orders that have no reply yet, at most as many as fit into a flight. All memory of a queue is
+/// allocated when the queue is created.
 pub struct Queue<D: Desk> {
     pub(crate) posted: VecDeque<D::Posted>,
     /// A buffer for the replies to the posted orders, empty except while they are written.

@@ -15,7 +15,7 @@ use serde_json::Value;
 use std::alloc::Global;
 use std::str;
 
-/// Returns the request of a line, or the line's fault. `line` is None if it was too long.
+/// Returns the request of a line, or the line's fault. `line` is None if the line was too long.
 pub fn read_line(alloc: Global, line: Option<&[u8]>) -> Result<Request, LineFault>
     ensures value { result ≢ Err OutOfMemory → result ≡ asked_by (option_copied line.entry) }
     ensures memory { result ≡ Err OutOfMemory → IsText (option_copied line.entry) }

@@ -68,6 +68,6 @@ link_faults w a b = if is_linked w a b then flat_map (letter_faults w a b) link_
 abbrev pub faults_from : World → ℕ → List Violation
 faults_from w a = flat_map (link_faults w a) (nodes_from (a + 1))
 
--- all violations: first those by nodes, then those by links
+-- all violations: first the violations by nodes, then the violations by links
 abbrev pub faults : World → List Violation
 faults w = flat_map (node_faults w) (nodes_from 1) ++ flat_map (faults_from w) (nodes_from 1)

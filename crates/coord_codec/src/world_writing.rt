@@ -20,8 +20,8 @@ use coord_types::{Identifier, Kind, Mode, Msg, NodeId, Session, Version};
 use coord_world::{LinkRow, World};
 use std::alloc::AllocError;
 
-/// An entry of one of a world's tables, such as a node or a client's last order. It is encoded as a
-/// row.
+/// An entry of one of a world's tables, such as a node or a client's last order. Each entry is
+/// encoded as a row.
 trait Row: Copy {
     /// The encoding of the entry's row, given the version and the entry with its number.
     ghost text: { ℕ → ℕ × Self → List ℕ };

@@ -15,7 +15,7 @@ IsOfCreation (Store fault) = IsCreateFault fault
 IsOfCreation (Refused refusal) = Unit {0}
 IsOfCreation fault = ⊥
 
--- If this is a fault of the store, creating a store on a device with these bytes returns it.
+-- If this fault is a fault of the store, creating a store on a device with these bytes returns this fault.
 abbrev pub RefusesCommitted : List ℕ → ℕ → Fault → Type 0
 RefusesCommitted bytes half_size (Store fault) = RefusesCreate bytes half_size fault
 RefusesCommitted bytes half_size fault = Unit {0}

@@ -18,7 +18,7 @@ pub record IsLegalLine (bytes : Option (List ℕ)) (line : List ℕ) : Type 0 wh
   pub given : IfSome bytes (λ known. Recovered known world)
   pub counted : line ≡ legal_line world.count
 
--- The snapshot in these bytes violates a predicate, and this is the line for it.
+-- The snapshot in these bytes violates a predicate, and this is the line for that predicate.
 pub record IsViolatedLine (bytes : Option (List ℕ)) (line : List ℕ) : Type 0 where
   pub violation : Violation
   pub refused : IfSome bytes (λ known. RefusesOpen known (Violated violation))

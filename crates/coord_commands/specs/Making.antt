@@ -51,8 +51,8 @@ StaysKnown before after = IfSome before (λ old. IfSome after (λ new. new ≡ o
 abbrev pub KeepsTaken : Option (List ℕ) → Option (List ℕ) → Type 0
 KeepsTaken before after = IfSome before (λ old. 0 < length old → IfSome after (λ new. new ≡ old))
 
--- The disk after memory ran out. It is unchanged if it was not empty; otherwise it is empty, or has the
--- topology's store without any step.
+-- The disk after memory ran out: unchanged if it was not empty; otherwise empty, or with the topology's store
+-- without any step.
 pub record LeavesWithoutMemory (topology : Content) (before after : Option (List ℕ)) : Type 0 where
   pub taken : KeepsTaken before after
   pub empty : IfSome before (λ old. length old ≡ 0 → IfSome after (λ new. (length new ≡ 0) ⊎ IsStore topology (no_world 2) new))

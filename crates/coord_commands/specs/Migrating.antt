@@ -89,7 +89,8 @@ abbrev pub EndsRaising : {D : Type 0} → DiskModel D → Option Present → Opt
 EndsRaising model before after fault =
     ((fault ≡ Store Device) × (after ≡ before)) ⊎ RaisesNamed model (failed_in_migration fault) before after
 
--- The end of `migrate`, and the bytes that a crash may have left on the named disk at each moment of it.
+-- The end of `migrate`, and the bytes that a crash may have left on the named disk at each moment of the
+-- command.
 abbrev pub EndsMigrating : {D : Type 0} → DiskModel D → Option Present → Option Present → ℕ → Streams → Streams → Type 0
 EndsMigrating model before after =
     CommandEnds (λ fault. IsOfMigrating before after fault × EndsRaising model before after fault) (λ line. IsMigratedLine before after line × RaisesNamed model 0 before after)

@@ -74,7 +74,7 @@ impl Folder for MemFolder {
         self.disk.take().ok_or(DiskFault)
     }
 
-    /// Puts the disk back, or drops it if it has another name.
+    /// Puts the disk back, or drops it if the folder's disk has another name.
     fn close(&mut self, name: &str, disk: MemDisk) {
         if self.name.as_str() == name {
             self.disk = Some(disk);

@@ -48,7 +48,7 @@ abbrev pub each : {X : Type 0} → (Data → Option X) → Items → Option (Lis
 each read no_items = Some []
 each read (item d ds) = with_both (λ x xs. x ∷ xs) (read d) (each read ds)
 
--- the entries of an array; an absent array has none
+-- the entries of an array; an absent array has no entries
 abbrev pub entries_of : {X : Type 0} → (Data → Option X) → Option Data → Option (List X)
 entries_of read None = Some []
 entries_of read (Some (array ds)) = each read ds

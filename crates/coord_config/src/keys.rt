@@ -73,8 +73,8 @@ fn items_have_just(names: &[&str], array: &Array) -> bool
     true
 }
 
-/// Tests whether each table in the array at this key has exactly these keys. If there is no array,
-/// it returns true.
+/// Tests whether each table in the array at this key has exactly these keys. Returns true if there
+/// is no array.
 fn entries_have_just(names: &[&str], table: &Table, key: &str) -> bool
     ensures { result ≡ entries_have_just (map (λ name. name.now) names.now)
         (get_member key.now (table_view table.now)) }

@@ -39,7 +39,7 @@ fn half_of(table: &Table) -> Option<u64>
     }
 }
 
-/// Returns the node id at a key of a table, or None if there is no valid one.
+/// Returns the node id at a key of a table, or None if there is no valid id at that key.
 fn node_id_at(table: &Table, key: &str) -> Option<NodeId>
     ensures { result ≡ number_at key.now 1 MAX_NODES (table_view table.now) }
 {

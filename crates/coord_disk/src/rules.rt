@@ -19,7 +19,7 @@ pub struct Blip {
     left: Option<u64>,
 }
 
-/// Fails one call. If it is a write, its first bytes are still written.
+/// Fails one call. If that call is a write, its first bytes are still written.
 #[derive(Drop)]
 pub struct Tear {
     blip: Blip,
@@ -32,7 +32,7 @@ pub type FuseDisk<D> = FailingDisk<D, Fuse>;
 /// A disk that fails one call.
 pub type BlipDisk<D> = FailingDisk<D, Blip>;
 
-/// A disk that fails one call. If that is a write, its first bytes are still written.
+/// A disk that fails one call. If that call is a write, its first bytes are still written.
 pub type TornDisk<D> = FailingDisk<D, Tear>;
 
 impl Rule for Fuse {

@@ -71,16 +71,16 @@ asked_lines s Version2 given = []
 
 -- ---- possible answers
 
--- If its events get these answers, the request may print this and leave the drill in the state `t`: the
--- event machine allows the answers, and memory did not run out.
+-- If the events of the request get these answers, the request may print this text and leave the drill in the
+-- state `t`: the event machine allows the answers, and memory did not run out.
 pub record IsAnswered (s : DrillState) (a : Asked) (given : List Answer) (reported : List ℕ) (t : DrillState) : Type 0 where
   pub answered : Answered (machine_of s) (line_events s.holds a given) given
   pub with_memory : AllByRecursion (λ answer. answer ≢ Refused OutOfMemory) given
   pub printed : reported ≡ asked_lines s a given
   pub goes_on : t ≡ after_asked s a given
 
--- If its events get these answers, the line with this number may print this text and leave the drill in this
--- state. A bad line makes no request.
+-- If the events of the line with this number get these answers, the line may print this text and leave the
+-- drill in this state. A bad line makes no request.
 abbrev pub Responds : DrillState → ℕ → Option Request → List Answer → List ℕ → DrillState → Type 0
 Responds s n None given reported t = (given ≡ []) × (reported ≡ bad_line n) × (t ≡ s)
 Responds s n (Some r) given reported t = IsAnswered s (asked (front_world s.log) r) given reported t

@@ -34,8 +34,8 @@ abbrev pub UnlessSkipped : Bool → DrillState → List Answer → List ℕ → 
 UnlessSkipped true s given reported t Otherwise = (given ≡ []) × (reported ≡ []) × (t ≡ s)
 UnlessSkipped false s given reported t Otherwise = Otherwise
 
--- If its events get these answers, the line with this number may print this text and leave the drill in
--- this state. A line over the limit is bad, even if it is a comment.
+-- If the events of the line with this number get these answers, the line may print this text and leave
+-- the drill in this state. A line over the limit is bad, even if it is a comment.
 abbrev pub LineResponds : DrillState → ℕ → Line → List Answer → List ℕ → DrillState → Type 0
 LineResponds s n None given reported t = Responds s n None given reported t
 LineResponds s n (Some line) given reported t = UnlessSkipped (is_skipped line) s given reported t (Responds s n (asked_by s line) given reported t)
@@ -56,6 +56,6 @@ abbrev pub Prints : DrillState → ℕ → List Line → List ℕ → Type 0
 Prints s n [] text = text ≡ []
 Prints s n (l ∷ ls) text = PrintsOn (LineResponds s n l) (λ t rest. Prints t (n + 1) ls rest) text
 
--- A drill may print this for its input. It begins in version 1.
+-- A drill that begins in version 1 may print this text for this input.
 abbrev pub IsDrilled : List ℕ → List ℕ → Type 0
 IsDrilled input text = Prints (drill_over (no_world 1)) 1 (lines_of input) text

@@ -49,7 +49,7 @@ abbrev pub EndsEarly : {D : Type 0} → DiskModel D → (D → D → Type 0) →
 EndsEarly disk crashes c lines refused text = Breaks disk crashes c lines text (λ q others written. StopsDrill disk crashes q others written refused)
 
 -- A piece of the input was handled, except for `rest`: the lines that the piece completed were carried out,
--- and the partial line at its end is kept.
+-- and the partial line at the piece's end is kept.
 pub record TakesPiece {D : Type 0} (disk : DiskModel D) (crashes : D → D → Type 0) (c : Console D) (piece rest text : List ℕ) (new : Console D) : Type 0 where
   pub ended : List Line
   pub lines : (more : List ℕ) → lines_on c.line (piece ++ more) ≡ ended ++ lines_on new.line (rest ++ more)

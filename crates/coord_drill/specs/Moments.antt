@@ -77,8 +77,8 @@ pub record Hands {D : Type 0} (disk : DiskModel D) (crashes : D → D → Type 0
 abbrev pub GivesRaised : {D : Type 0} → DriverState D → List ℕ → Type 0
 GivesRaised d = GivesEither (settled_world d.ledger.log) (risen (settled_world d.ledger.log))
 
--- The ledger's store was migrated, and is the store of the new ledger. If the ledger had not stopped, its disk gave the
--- settled world at each moment, in its own version or in version 2.
+-- The ledger's store was migrated, and is the store of the new ledger. If the old ledger had not stopped, its
+-- disk gave the settled world at each moment, in its own version or in version 2.
 pub record RaisesTo {D : Type 0} (disk : DiskModel D) (crashes : D → D → Type 0) (d new : DriverState D) : Type 0 where
   pub begins : MayBegin disk crashes new
   pub old : D

@@ -136,7 +136,7 @@ impl<D: CrashDisk> Drill<D> {
     }
 }
 
-/// Creates a store of version 1 on a disk, and a ledger over it.
+/// Creates a store of version 1 on a disk, and a ledger over the store.
 fn new_ledger<D: CrashDisk>(alloc: Global, disk: D) -> Result<Ledger<D>, (Fault, D)>
     ensures made { IfOk result (IsMade D.model disk) }
     ensures fault { IfErr result (λ refused. IsOfDisk refused.0) }

@@ -57,7 +57,8 @@ impl<'a> Words<'a> {
         number_in(self.next()?)
     }
 
-    /// Returns the next word as the number of a node, 1 to 64.
+    /// Removes the next word and returns it as the number of a node, 1 to 64. Returns None for any
+    /// other word.
     #[tactic(auto, unfolding(crate::specs::Grammar::node))]
     pub fn node(&mut self) -> Option<NodeId>
         ensures { ReadsWords (node.read self.old) result self.new }
@@ -65,7 +66,8 @@ impl<'a> Words<'a> {
         NodeId::new(small_number_in(self.next()?)?)
     }
 
-    /// Returns the next word as the number of a group, 1 to 16.
+    /// Removes the next word and returns it as the number of a group, 1 to 16. Returns None for any
+    /// other word.
     #[tactic(auto, unfolding(crate::specs::Grammar::group))]
     pub fn group(&mut self) -> Option<Group>
         ensures { ReadsWords (group.read self.old) result self.new }
@@ -73,7 +75,8 @@ impl<'a> Words<'a> {
         Group::new(small_number_in(self.next()?)?)
     }
 
-    /// Returns the next word as the number of a client, 1 to 16.
+    /// Removes the next word and returns it as the number of a client, 1 to 16. Returns None for any
+    /// other word.
     #[tactic(auto, unfolding(crate::specs::Grammar::client))]
     pub fn client(&mut self) -> Option<Client>
         ensures { ReadsWords (client.read self.old) result self.new }

@@ -1,4 +1,4 @@
-//! Writes a text. After a failure, exactly a proper prefix of it was written.
+//! Writes a text. After a failure, exactly a proper prefix of the text was written.
 
 ghost use Rattle.std.specs.Prelude.{◌≡◌, ◌≢◌, OnOk, OnErr, IfErr};
 ghost use Rattle.std.specs.Io.KnownBytes.{Appends};

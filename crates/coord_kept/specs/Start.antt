@@ -61,7 +61,7 @@ abbrev pub is_named : List ℕ → Option Line → Bool
 is_named boot None = false
 is_named boot (Some name) = bytes_eq name boot
 
--- whether a row names this boot; if it does not, its `loaded` is ignored
+-- whether a row names this boot; if the row does not, its `loaded` is ignored
 abbrev pub is_of_boot : List ℕ → Data → Bool
 is_of_boot boot d = not (length boot == 0) && is_named boot (option_and_then as_str (get (codes "boot") d))
 

@@ -9,8 +9,8 @@ use std::io;
 use std::io::{ErrorKind, Write};
 
 /// Writes a whole text, with one call of `write` if the writer takes all of it; an interrupted call
-/// is repeated. If the call fails, a prefix of the text was written, and nothing else. It returns
-/// the writer's error, or `WriteZero` if the writer took nothing, or did not take everything in
+/// is repeated. After a failure, a prefix of the text was written, and nothing else. Errors: the
+/// writer's error, or `WriteZero` if the writer took nothing, or did not take everything in
 /// `MOST_CALLS` calls; no clause states which error.
 pub fn write_whole<W: Write>(writer: &mut W, text: &[u8]) -> io::Result<()>
     ensures ok { OnOk result (Appends (W.contents writer.old) (W.contents writer.new) text.now) }

@@ -25,7 +25,7 @@ pub record AreLinked (links : List LinkView) (x y : ℕ) : Type 0 where
   pub shown : IsOneOf link links
   pub ends : ((link.a ≡ x) × (link.b ≡ y)) ⊎ ((link.a ≡ y) × (link.b ≡ x))
 
--- a path from u to v: each of its nodes is linked with the one before it
+-- a path from u to v: each node of the path is linked with the node before it
 abbrev pub IsWay : List LinkView → ℕ → List ℕ → ℕ → Type 0
 IsWay links u [] v = u ≡ v
 IsWay links u (x ∷ way) v = AreLinked links u x × IsWay links x way v

@@ -28,7 +28,7 @@ abbrev pub line_with : ℕ → Option Command → Option Line
 line_with last None = None
 line_with last (Some x) = Some (record { number = last + 1; command = x })
 
--- the line of the order in hand, with the number after the last one; None if no order is in hand
+-- the line of the order in hand, with the number after the client's last number; None if no order is in hand
 abbrev pub line_of : Kept → Option Line
 line_of kept = line_with kept.last kept.in_hand
 

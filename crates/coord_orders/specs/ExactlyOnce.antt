@@ -23,7 +23,7 @@ pub record IsOnce (c : ℕ) (base : World) (first : ℕ) (e : Exchange) : Type 0
   -- The client's orders in the trail are the orders that the client noted as done, with their replies and in
   -- order, followed by at most the order in hand. So no refused order is in the trail
   pub orders : (more : List Session) × ((orders_of c base e.trail ≡ e.done ++ more) × IsInHand e.book.kept more)
-  -- the orders noted as done are settled, so no crash removes one
+  -- the orders noted as done are settled, so no crash removes any of them
   pub settled : (more : List Session) × (orders_of c base (take e.settled e.trail) ≡ e.done ++ more)
   -- the numbers of the orders noted as done rise by one, so no order occurs twice
   pub numbers : Counts first e.book.kept.last e.done

@@ -46,8 +46,8 @@ pub record IsLastKeptOrder (w : World) (turns : List Turn) (c : ℕ) (o : Sessio
   pub last : AllByRecursion (IsNotBy c) (steps_of rest)
   pub replied : o.reply ≡ reply (led w before) (Order c o.number o.command)
 
--- After the turns, the world keeps for a client the reply to its last order among them, or the reply that it kept
--- before if they have no order of the client.
+-- After the turns, the world keeps for a client the reply to its last order among them. If the turns have no
+-- order of the client, the world keeps the reply that it kept before.
 abbrev pub KeepsLast : World → List Turn → ℕ → Type 0
 KeepsLast w turns c =
     ((o : Session) × ((get (led w turns).sessions c ≡ Some o) × IsLastKeptOrder w turns c o))

@@ -1,9 +1,9 @@
 -- A worked example: the life of a small store.
 --
--- First start: order 1 of client 1 adds node 1, and is settled and collected; its order 2, which adds node 2, is
--- accepted as step 2 and lost. Second start: the store is migrated. Third start: order 1 arrives again and gets its old
--- reply; order 2 now adds node 3, as step 2, and its commit is cut off, but the step is kept. Last start: order 2
--- arrives again, and gets its reply.
+-- First start: order 1 of client 1 adds node 1, and is settled and collected; order 2 of the client, which adds
+-- node 2, is accepted as step 2 and lost. Second start: the store is migrated. Third start: order 1 arrives
+-- again and gets its old reply; order 2 now adds node 3, as step 2, and its commit is cut off, but the step is
+-- kept. Last start: order 2 arrives again, and gets its reply.
 use Rattle.std.specs.Prelude.{◌≡◌, List, [], ◌∷◌}
 use Rattle.coord_types.specs.declared.steps.Command.TheVariants.{Add}
 use Rattle.coord_types.specs.declared.steps.Kind.TheVariants.{Done}

@@ -1,4 +1,4 @@
--- The law of names: each name that the server prints is read as the value that it was printed for.
+-- The law of names: each name that the server prints is read as the value for which it was printed.
 use Rattle.std.specs.Prelude.{◌≡◌, Some}
 use Rattle.std.specs.List.{AllByRecursion}
 use Rattle.coord_types.specs.Names.{kind_name, refusal_name}

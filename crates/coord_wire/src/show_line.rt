@@ -166,7 +166,7 @@ fn count_at(value: &Value, name: &str) -> Option<u64>
     value.get(name).and_then(Value::as_u64)
 }
 
-/// Returns the view that a line's value shows, or None if it is not an answer to `show`.
+/// Returns the view that a line's value shows, or None if the line is not an answer to `show`.
 fn shown_of(alloc: Global, value: &Value) -> Result<Option<View>, AllocError>
     ensures { IfOk result (λ shown. shown ≡ shown_of (view value.now)) }
 {

@@ -28,8 +28,8 @@ pub record LeavesOnly {D : Type 0} (m : DiskModel D) (old new : D) (P : List ℕ
 abbrev pub AddsNothing : {D : Type 0} → DiskModel D → D → D → Type 0
 AddsNothing m old new = m.keeps_model old ≡ true → LeavesOnly m old new (IsImage (m.present old))
 
--- A list of calls leaves the content unchanged, and a crash at any moment of it leaves only bytes that it could have
--- left at its beginning.
+-- A list of calls leaves the content unchanged. A crash at any moment of these calls leaves only bytes that a
+-- crash could have left before them.
 pub record IsUntouched {D : Type 0} (m : DiskModel D) (old new : D) : Type 0 where
   pub same : m.present new ≡ m.present old
   pub any_moment : LeavesOnly m old new (IsImage (m.present old))

@@ -39,8 +39,8 @@ range_of at bytes = record { start = at; stop = at + length bytes }
 abbrev pub written_at : ℕ → List ℕ → Present → Present
 written_at at bytes disk = record { synced = disk.synced; read = overwritten disk.read at bytes; written = range_of at bytes ∷ disk.written }
 
--- The effect of a write, whether it succeeds or fails: no byte outside its range changes. If the range begins past the
--- end, zeros fill the gap.
+-- The effect of a write, whether it succeeds or fails: no byte outside the write's range changes. If the range
+-- begins past the end, zeros fill the gap.
 pub record WritesWithin (at : ℕ) (bytes : List ℕ) (old new : Present) : Type 0 where
   pub synced : new.synced ≡ old.synced
   pub written : (i : ℕ) → is_within (range_of at bytes ∷ old.written) i ≡ false → is_within new.written i ≡ false

@@ -20,7 +20,7 @@ pub fn open_locked<R: Files<File = File>>(rt: &R, path: &str) -> io::Result<Syst
     Ok(SystemFile::over(file, Some(folder)))
 }
 
-/// Opens the file read-only; if it has to be created, opens its folder too.
+/// Opens the file read-only. If the file has to be created, opens its folder too.
 pub fn open_unlocked<R: Files<File = File>>(rt: &R, path: &str) -> io::Result<SystemFile<File>> {
     refuse_other_kinds(rt, path)?;
     match File::open(rt, path) {

@@ -176,8 +176,8 @@ fn land<D: CrashDisk>(mut driver: Driver<D>) -> Result<Landing<D>, (Fault, D)>
     }
 }
 
-/// Takes back the flight that is out. If memory for its releases runs out, drops the driver and returns
-/// the disk.
+/// Takes back the flight that is out. If memory for the flight's releases runs out, drops the driver
+/// and returns the disk.
 fn take_back<D: CrashDisk>(mut driver: Driver<D>) -> Result<(Releases, Driver<D>), (Fault, D)>
     ensures base { IfOk result (λ r. r.1.ledger.log.base ≡ driver.ledger.log.base) }
     ensures released { IfOk result (λ r. r.0 ≡ settling_releases driver.ledger.log
