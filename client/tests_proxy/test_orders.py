@@ -10,7 +10,7 @@ import time
 import unittest
 from typing import Any
 
-from case import OWN, Case, until
+from case import OWN, Case, unread, until
 from resetd_client import Orders, Port
 
 
@@ -171,6 +171,18 @@ class Impatient(Case):
         self.assertGreaterEqual(time.monotonic() - began, 0.5)
         self.server.start()
         self.assertEqual(self.asked_again()["kind"], "started")
+
+    def test_one_whose_line_waits_for_the_reset_of_another_is_ended(self) -> None:
+        """The proxy takes that line only after it has judged the reset, but its time counts from when it came."""
+        self.server.kill()
+        for line in ({"op": "show"}, {"op": "watch"}, {"op": "reset", "node": 2, "epoch": 0}):
+            with self.subTest(line), self.proxy.connect() as one, self.proxy.connect() as other:
+                one.send({"op": "reset", "node": 1, "epoch": 0})
+                until("that it was read", lambda: unread(one) == 0)
+                began = time.monotonic()
+                other.send(line)
+                self.assertEqual(other.line(), b"")
+                self.assertGreaterEqual(time.monotonic() - began, 0.5)
 
     def asked_again(self) -> dict[str, Any]:
         """The same order once more, until it is answered."""

@@ -1,6 +1,7 @@
 //! A client's connection.
 
-ghost use Rattle.std.specs.Prelude.{◌≡◌, ◌++◌, ◌∷◌, [], length, true, false, OnOk, List, ℕ, None};
+ghost use Rattle.std.specs.Prelude.{◌≡◌, ◌++◌, ◌∷◌, [], length, true, false, OnOk, List, ℕ, None, Some};
+ghost use Rattle.std.specs.Option.{unwrap_or};
 ghost use Rattle.std.specs.Duration.{as_nanos};
 ghost use Rattle.proxy_core.specs.declared.proxy.Admission.TheVariants.{Queued, Denied, Deferred};
 ghost use Rattle.proxy_streams.specs.Inboxes.{after_line, new_inbox};
@@ -34,7 +35,7 @@ pub(crate) struct Connection {
     pub since: Duration,
     pub inbox: Inbox,
     outbox: Outbox,
-    /// When each of its lines was taken that has no answer.
+    /// When each of its lines was taken that has no answer, or was kept from being taken before that.
     pub asked: VecDeque<Duration>,
     /// There may be bytes to read.
     pub is_readable: bool,
@@ -48,6 +49,8 @@ pub(crate) struct Connection {
     pub reset: Option<(NodeId, u64)>,
     /// Its next line waits until no reset is judged.
     pub is_parked: bool,
+    /// When its next line was kept from being taken, since a reset was judged; None if it was not.
+    pub kept_since: Option<Duration>,
     /// It is among those that have something to do.
     pub is_active: bool,
     /// Since when its client has taken none of its answers.
@@ -71,7 +74,7 @@ impl Connection {
         ensures arguments { (result.stream ≡ stream) × (result.number ≡ number) × (result.role ≡ role) × (result.since ≡ since) }
         ensures empty { (result.header.items ≡ []) × (result.inbox ≡ new_inbox) × (result.outbox ≡ []) × (result.asked.items ≡ []) }
         ensures open { (result.is_readable ≡ true) × (result.is_closing ≡ false) × (result.has_ended ≡ false) × (result.blocked_since ≡ None) }
-        ensures idle { (result.is_deferred ≡ false) × (result.reset ≡ None) × (result.is_parked ≡ false) × (result.is_active ≡ false) }
+        ensures idle { (result.is_deferred ≡ false) × (result.reset ≡ None) × (result.is_parked ≡ false) × (result.kept_since ≡ None) × (result.is_active ≡ false) }
         ensures blind { (result.is_watching ≡ false) × (result.view_after ≡ None) × (result.owes_view ≡ false) }
     {
         Connection {
@@ -89,6 +92,7 @@ impl Connection {
             is_deferred: false,
             reset: None,
             is_parked: false,
+            kept_since: None,
             is_active: false,
             blocked_since: None,
             is_watching: false,
@@ -150,6 +154,13 @@ impl Connection {
         }
     }
 
+    /// Notes that its next line is kept from being taken, unless that was noted before.
+    pub fn keep(&mut self, now: Duration)
+        ensures { self.new ≡ record self.old { kept_since = Some (unwrap_or self.old.kept_since now) } }
+    {
+        self.kept_since = Some(self.kept_since.unwrap_or(now));
+    }
+
     /// Returns an exchange of its oldest line without an answer.
     pub fn exchange<'l, 'a>(
         &self,
@@ -184,11 +195,13 @@ impl Connection {
         ensures who { (self.new.number ≡ self.old.number) × (self.new.role ≡ self.old.role) }
         ensures queued { admission ≡ Queued → OnOk result ((self.new.inbox ≡ after_line self.old.inbox) × (self.new.outbox ≡ self.old.outbox)) }
         ensures denied { admission ≡ Denied → OnOk result ((self.new.inbox ≡ after_line self.old.inbox) × (self.new.outbox ≡ self.old.outbox ++ (not_allowed ++ 10 ∷ []))) }
+        ensures since { admission ≡ Queued → OnOk result (self.new.asked.items ≡ self.old.asked.items ++ (unwrap_or self.old.kept_since at.now ∷ [])) }
         ensures deferred { admission ≡ Deferred → OnOk result ((self.new.inbox ≡ self.old.inbox) × (self.new.outbox ≡ self.old.outbox) × (self.new.is_deferred ≡ true)) }
     {
         match admission {
             Admission::Queued => {
-                self.asked.push_back(at.now)?;
+                let since = self.kept_since.take().unwrap_or(at.now);
+                self.asked.push_back(since)?;
                 self.inbox.drop_line();
             }
             Admission::Denied => {
@@ -218,6 +231,7 @@ impl Connection {
         self.outbox.push_line(recorded.answer())?;
         self.asked.pop_front();
         self.inbox.drop_line();
+        self.kept_since = None;
         self.is_deferred = false;
         self.reset = None;
         Ok(())
@@ -235,6 +249,7 @@ impl Connection {
         self.asked.pop_front();
         if self.reset.is_some() {
             self.inbox.drop_line();
+            self.kept_since = None;
             self.reset = None;
         }
         self.is_deferred = false;

@@ -65,6 +65,7 @@ impl<G: Gateway> EventLoop<G> {
             }
             if connection.inbox.complete_line() {
                 if self.resets.is_holding {
+                    connection.keep(self.at.now);
                     self.park(place)?;
                     return Ok(false);
                 }

@@ -92,6 +92,14 @@ impl<G: Gateway> EventLoop<G> {
         }
     }
 
+    /// Returns whether a line that came at this moment has had no answer for too long.
+    fn is_unanswered(&self, since: Option<Duration>) -> bool {
+        match since {
+            Some(since) => self.at.now.saturating_sub(since) >= self.settings.answer_timeout,
+            None => false,
+        }
+    }
+
     fn is_late(&self, place: usize) -> bool {
         let Some(connection) = self.connections.get(place) else {
             return false;
@@ -101,10 +109,10 @@ impl<G: Gateway> EventLoop<G> {
         {
             return true;
         }
-        if let Some(asked) = connection.asked.front() {
-            if self.at.now.saturating_sub(*asked) >= self.settings.answer_timeout {
-                return true;
-            }
+        if self.is_unanswered(connection.asked.front().copied())
+            || self.is_unanswered(connection.kept_since)
+        {
+            return true;
         }
         match connection.blocked_since {
             Some(since) => self.at.now.saturating_sub(since) >= self.settings.stuck,

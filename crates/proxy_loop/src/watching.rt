@@ -68,7 +68,8 @@ impl<G: Gateway> EventLoop<G> {
             connection.is_watching = true;
         }
         connection.view_after = Some(self.own.views);
-        connection.asked.push_back(self.at.now)?;
+        let since = connection.kept_since.take().unwrap_or(self.at.now);
+        connection.asked.push_back(since)?;
         connection.is_deferred = true;
         self.own.wants_view = true;
         Ok(())
