@@ -26,7 +26,7 @@ impl LastLine {
         }
     }
 
-    /// Tests whether a signal of this step at this node may follow the last one.
+    /// Tests whether a signal of this step at this node may follow the last printed signal.
     pub fn is_before(self, step: u64, node: NodeId) -> bool
         ensures { result ≡ is_next self step node }
     {
