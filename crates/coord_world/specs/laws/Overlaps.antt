@@ -81,7 +81,7 @@ abbrev pub AskedReachesAll : Type 0
 AskedReachesAll = (w : World) (steps before rest : List Step) (part : ℕ → Bool) (c n u : ℕ) → BeginsReady w steps part → PartReady (fold w steps) part →
     steps ≡ before ++ Order c n (Reset u) ∷ rest → part u ≡ true → (v : ℕ) → Connected w u v → 1 ≤ signals_of v (outs w steps)
 
--- a node's epoch rises by one with each of its signals
+-- while no node or link is added or removed, a node's epoch rises by one with each of its signals
 abbrev pub EpochsCountSignals : Type 0
 EpochsCountSignals = (w : World) (steps : List Step) → InRange w → Legal w → InTurn w steps → All (λ s. changes_topology s ≡ false) steps →
     (v : ℕ) → (state (fold w steps) v).epoch ≡ (state w v).epoch + signals_of v (outs w steps)

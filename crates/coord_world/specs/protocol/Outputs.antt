@@ -33,7 +33,7 @@ signals (d ∷ ds) = if d.1.finished then Signalled d.0 d.1.state.epoch ∷ sign
 abbrev pub front_packet : ℕ × ℕ → Lane → Msg → DataPacket
 front_packet k l m = record { from = k.0; to = k.1; inc = l.inc; number = l.base + 1; msg = m }
 
--- whether the lane's front had the same incarnation and number before
+-- whether the lane had this front before the step: a front with the same incarnation and number
 abbrev pub had_front : Option Lane → Lane → Bool
 had_front None l = false
 had_front (Some o) l = not (is_nil o.queue) && (o.inc == l.inc) && (o.base == l.base)

@@ -80,7 +80,7 @@ pub fn push_fronts_of_both(
     }
 }
 
-/// Appends the packet of a message, if the lane is empty and the message becomes its front.
+/// Appends the packet of a message if the lane is empty, so that the message becomes the front.
 fn push_front(
     links: &LinkTable,
     from: NodeId,
