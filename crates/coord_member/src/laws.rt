@@ -10,10 +10,9 @@ ghost use Rattle.coord_member.specs.Refusals.{RefusersAsk};
 ghost use Rattle.coord_member.specs.Text.{PartyTextInjective};
 ghost use Rattle.coord_member.specs.WorkedRun.{WorkedRun};
 
-/// No start ever hears of two starts of one member; all starts that a talking start has heard of
-/// have talked in its run; and no start talks in two runs. This holds for any number of members
-/// that lose no files, whatever views they see, in any order, and however late or often messages
-/// are heard.
+/// No start ever hears of two starts of one member. All starts that a talking start has heard of have talked in its
+/// run. No start talks in two runs, and at most one start of a member talks in a run. This holds for any number of
+/// members that lose no files, whatever views they see, in any order, and however late or often messages are heard.
 pub fn no_mix()
     ensures { NoMix }
 {}
