@@ -20,7 +20,8 @@ pub record IsLeftOf (kept read : Kept) : Type 0 where
   pub history : (party : List Entry) → IsOneOf party kept.history → IsOneOf party read.history
   pub start : (read.begun ≡ None) ⊎ ((read.begun ≡ kept.begun) × (read.party ≡ kept.party))
 
--- A member that reads this back continues like a member that has crashed or lost its work, and whose history has more parties
+-- A member that reads back such a state continues like a member that has crashed or lost its work, and whose history has more
+-- parties
 abbrev pub LeftIsEnough : Type 0
 LeftIsEnough =
     (kept read : Kept) (row : Row) (now : List Entry) → IsLeftOf kept read →

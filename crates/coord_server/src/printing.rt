@@ -23,7 +23,7 @@ use std::thread::Promise;
 pub struct Printed<W: Write> {
     pub printer: Printer<W>,
     pub reader: LogPrefix,
-    /// The reason why the first line was not printed, if it was requested and not printed.
+    /// If the first line was requested and not printed, the reason.
     pub unprinted: Option<ServerFault>,
 }
 

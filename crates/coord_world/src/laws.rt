@@ -1,5 +1,4 @@
-//! Laws of the protocol, over the definitions alone: functions without a body whose contracts state
-//! the laws.
+//! Laws of the protocol, over the definitions alone. Each is the contract of an empty function.
 
 ghost use Rattle.coord_world.specs.laws.Laws.{FreshOverItself, LanesAreShort, NextKeepsLegal, NextKeepsRanges, RowsGiveWorld, RowsHaveFewAborts, RowsOfWorldFit, ViewOfNext};
 ghost use Rattle.coord_world.specs.laws.Cycles.{NoParentCycle};
@@ -78,9 +77,9 @@ pub fn rows_give_world()
     ensures { RowsGiveWorld }
 {}
 
-/// Suppose that a list of steps in turn begins and ends with every node Ready, adds or removes no node and no link, and
-/// starts exactly one reset. Then each node that links connect with the initiator is signalled exactly once, and every
-/// other signal comes from a step that is answered Finished.
+/// Suppose that every node is Ready before and after a list of steps in turn, and that the steps do not add or remove
+/// nodes or links, and start exactly one reset. Then each node that links connect with the initiator is signalled
+/// exactly once, and every other signal comes from a step that is answered Finished.
 pub fn once_per_wave()
     ensures { OncePerWave }
 {}
@@ -92,15 +91,15 @@ pub fn asked_is_signalled()
 {}
 
 /// Suppose that no link leaves a part of the nodes, every node of the part is Ready before and after the steps, and the
-/// steps add or remove no node and no link. Then each node that links connect with the node of a reset started in the
+/// steps do not add or remove nodes or links. Then each node that links connect with the node of a reset started in the
 /// part is signalled at least once, however many resets were started.
 pub fn once_or_more()
     ensures { OnceOrMore }
 {}
 
-/// Suppose that no link leaves a part of the nodes, every node of the part is Ready before the steps, and the steps add
-/// or remove no node and no link. Then, at any time, a node of the part that has a link was signalled at most as often
-/// as resets were started in the part.
+/// Suppose that no link leaves a part of the nodes, every node of the part is Ready before the steps, and the steps do
+/// not add or remove nodes or links. Then, at any time, a node of the part that has a link was signalled at most as
+/// often as resets were started in the part.
 pub fn no_more_than_started()
     ensures { NoMoreThanStarted }
 {}
@@ -113,8 +112,8 @@ pub fn no_more_with_drops()
     ensures { NoMoreWithDrops }
 {}
 
-/// Under the conditions of `no_more_than_started`, a node of the part without a link is signalled
-/// exactly as often as its resets are answered Finished.
+/// Under the conditions of `no_more_than_started`, a node of the part that has no link is signalled exactly as often as
+/// its resets are answered Finished.
 pub fn alone_as_finished()
     ensures { AloneAsFinished }
 {}
@@ -149,9 +148,8 @@ pub fn epochs_rise_together()
     ensures { EpochsRiseTogether }
 {}
 
-/// The bounds of `asked_reaches_all` and `no_more_than_started` hold for the steps of a history
-/// between two moments at which every node of a part that no link leaves is Ready, if these steps
-/// add or remove no node and no link.
+/// The bounds of `asked_reaches_all` and `no_more_than_started` hold for the steps of a history between two moments at
+/// which every node of a part that no link leaves is Ready, if these steps do not add or remove nodes or links.
 pub fn bound_between()
     ensures { BoundBetween }
 {}

@@ -24,7 +24,7 @@ pub struct Sight {
     pub settled: u64,
 }
 
-/// The due action for a view, and the texts that must be on disk before it.
+/// The due action for a view, and the texts that must be on disk before the action.
 #[derive(Drop, Debug)]
 pub struct Judgement {
     pub due: Due,
@@ -242,7 +242,7 @@ pub(crate) fn judge(
     judged
 }
 
-/// Returns the tag of the start in a file, given the view that a line shows; empty if the start has no tag.
+/// Returns the tag of a file's start, given the view that a line shows; empty if the start has no tag.
 pub(crate) fn tag(
     alloc: Global,
     show: &str,

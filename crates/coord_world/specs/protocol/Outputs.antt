@@ -62,7 +62,7 @@ abbrev pub outs : World → List Step → List StepOutcome
 outs w [] = []
 outs w (s ∷ ss) = record { reply = reply w s; outputs = outputs w s } ∷ outs (next w s) ss
 
--- the packets that a lane sends again: its front, and the receipt of the front if the other end has taken it
+-- the packets that a lane sends again: its front, and the receipt of the front if the other end has taken the front
 abbrev pub again_by : ℕ × ℕ → Lane → List Msg → List Output
 again_by k l [] = []
 again_by k l (m ∷ ms) = Sent (front_packet k l m) ∷ (if is_front_taken l then Receipted (receipt (front_packet k l m)) ∷ [] else [])
