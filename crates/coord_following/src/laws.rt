@@ -1,5 +1,4 @@
-//! The laws of members that follow one coordinator: functions without a body whose contracts state
-//! the laws.
+//! The laws of members that follow one coordinator. Each is the contract of an empty function.
 
 ghost use Rattle.coord_following.specs.Fences.{NewerHasMore, OlderStaysOut};
 ghost use Rattle.coord_following.specs.Ledgers.{NoMixOverALedger};

@@ -1,4 +1,4 @@
-//! Laws of the lane machine: functions without a body whose contracts state the laws.
+//! Laws of the lane machine. Each is the contract of an empty function.
 
 ghost use Rattle.coord_link.specs.Moves.{LaneLaw};
 ghost use Rattle.coord_link.specs.WorkedRun.{ResetLane};

@@ -59,7 +59,7 @@ behind_all r (f ∷ fences) = behind_all (behind r f) fences
 abbrev pub LaterIsGreater : Type 0
 LaterIsGreater = (r : Resource) (g f : Fence) (between : List Fence) → accepts r g ≡ true → accepts (behind_all (behind r g) between) f ≡ true → (f.tag ≡ g.tag) ⊎ (g.count < f.count)
 
--- a start is never accepted again once a start of another run is accepted after it
+-- once a resource has accepted a start and then a start of another run, it never accepts the first start again
 abbrev pub NoStartReturns : Type 0
 NoStartReturns =
     (r : Resource) (f g : Fence) (between later : List Fence) → (f.tag ≡ g.tag → ⊥) → accepts r f ≡ true → accepts (behind_all (behind r f) between) g ≡ true →

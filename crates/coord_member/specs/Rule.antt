@@ -13,7 +13,7 @@ use Rattle.coord_member.specs.declared.rule.Change.TheVariants.{Keeps, Drops, No
 pub record Kept : Type 0 where
   pub begun : Option ℕ  -- the epoch of the present work
   pub party : Option (List Entry)  -- the party with which the present start first talked
-  pub history : List (List Entry)  -- the parties with which any start of this member first talked
+  pub history : List (List Entry)  -- the parties with which the starts of this member first talked
 
 abbrev pub new_kept : Kept
 new_kept = record { begun = None; party = None; history = [] }

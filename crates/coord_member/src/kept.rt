@@ -34,7 +34,7 @@ impl Model for Kept {
     } };
 }
 
-/// The due action, and the state that must be on disk before it.
+/// The due action, and the state that must be on disk before the action.
 #[derive(Drop, Debug)]
 pub struct Judged {
     pub due: Due,

@@ -1,4 +1,4 @@
-//! The laws of members: functions without a body whose contracts state the laws.
+//! The laws of members. Each is the contract of an empty function.
 
 ghost use Rattle.coord_member.specs.Cautious.{MoreOnlyForbids, NoMixWithMore};
 ghost use Rattle.coord_member.specs.Fair.{NoMixFair};
@@ -10,22 +10,21 @@ ghost use Rattle.coord_member.specs.Refusals.{RefusersAsk};
 ghost use Rattle.coord_member.specs.Text.{PartyTextInjective};
 ghost use Rattle.coord_member.specs.WorkedRun.{WorkedRun};
 
-/// No start ever hears of two starts of one member; all starts that a talking start has heard of
-/// have talked in its run; and no start talks in two runs. This holds for any number of members
-/// that lose no files, whatever views they see, in any order, and however late or often messages
-/// are heard.
+/// No start ever hears of two starts of one member. All starts that a talking start has heard of have talked in its
+/// run. No start talks in two runs, and at most one start of a member talks in a run. This holds for any number of
+/// members that lose no files, whatever views they see, in any order, and however late or often messages are heard.
 pub fn no_mix()
     ensures { NoMix }
 {}
 
-/// The same holds for members that may lose all their files at any moment, provided that the views that they see are a
-/// store's history: a confirmed epoch does not fall while its node exists, and no removed link returns.
+/// The conclusions of `no_mix` hold even if members may lose all their files at any moment, provided that the views that
+/// they see are a store's history: a confirmed epoch does not fall while its node exists, and no removed link returns.
 pub fn no_mix_where_files_are_lost()
     ensures { NoMixHonest }
 {}
 
-/// Both laws at once: some members keep their files and may see any views, while others may lose their files and see a
-/// store's history.
+/// The conclusions of `no_mix` hold if some members keep their files and may see any views, while others may lose their
+/// files and see a store's history.
 pub fn no_mix_where_some_files_are_lost()
     ensures { NoMixFair }
 {}

@@ -11,8 +11,8 @@ use coord_types::{Group, Mode, Msg, NodeId, NodeSet, Version};
 use std::alloc::{AllocError, Global};
 use std::marker::Model;
 
-/// A node: its group, its mode in a reset, and the number of resets that it has finished.
-/// Contracts see it as its state, and each call's contract cites the reset rule of the same name.
+/// A node: its group, its mode in a reset, and the number of resets that it has finished. Contracts see the node's
+/// state, and the contract of each call cites the reset rule of the same name.
 #[derive(Clone, Copy, PartialEq, Eq, Debug)]
 pub struct Node {
     group: Group,

@@ -73,7 +73,7 @@ module _ {D : Type 0} (b : Basis D) {V : Type 0} (talked : V → List Talk → V
   abbrev pub IsClosed : {P : Type 0} → ℕ → P → V → V → DeskState P → Type 0
   IsClosed most port v w desk = ServedToClose (DeskAnswers b) (DeskKeeps b) most talked v (new_desk port) w desk
 
-  -- Such a desk served the callers, and no caller closed it.
+  -- A desk over this port began without notes and served the callers, and no caller closed it.
   abbrev pub ServedWhileOpen : {P : Type 0} → ℕ → P → V → V → DeskState P → Type 0
   ServedWhileOpen most port v w desk = ServedOpen (DeskAnswers b) (DeskKeeps b) most talked v (new_desk port) w desk
 
@@ -93,7 +93,7 @@ module _ {D : Type 0} (b : Basis D) {V : Type 0} (talked : V → List Talk → V
 
     -- How the desk served in an instance that ended like this, after its engine was taken apart. If memory for the next instance
     -- ran out, this instance rested. If the instance did not begin, nobody was served. If its engine could not be closed, the
-    -- desk had served until one of the ends above.
+    -- desk had served until one of the ends of `ServesInstance`.
     abbrev pub LeavesInstance : {P : Type 0} → P → V → V → DeskState P → InstanceEnd → Type 0
     LeavesInstance port v w desk end.Unfollowed = ServesInstance port v w desk end.Resting
     LeavesInstance port v w desk (end.Ended (Some fault.NotBegun)) = talked v [] w × (desk ≡ new_desk port)

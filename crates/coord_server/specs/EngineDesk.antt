@@ -63,7 +63,7 @@ Replies {D} b (Err why) (Err refusal) before now = (refusal ≡ why) × (now ≡
 
 -- A reply is returned once its step is settled. A refusal comes either from the submission, or later, while the desk waits for
 -- the reply. In the second case the step was accepted, and the same order gets the reply if it is sent again. `read` are the
--- steps that the desk had read before, and `now` those that it has read now.
+-- steps that the desk had read before, and `now` the steps that it has read now.
 abbrev pub AnswersOrder : {D : Type 0} → Basis D → Step → Result Reply Refusal → List Note → List Note → List Step → List Step → Type 0
 AnswersOrder {D} b s (Ok reply) before after read now = (claim : Claim) × AcceptsOrder b s claim before after × AtMomentAnswered b read now (λ g. CollectsAs {D = D} g.ledger claim (Settled reply))
 AnswersOrder {D} b s (Err refusal) before after read now =

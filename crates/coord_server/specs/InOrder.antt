@@ -76,12 +76,12 @@ pub record WritesInOrder (base : World) (first : List Step) (talk : Talk) (last 
   pub broken : ((torn ≡ []) × (part ≡ [])) ⊎ ((t : Returned) × (torn ≡ t ∷ []) × IsFirstPart part (reply_line t.answer))
   pub text_is : talk.bytes_written ≡ reply_lines (map (λ t. t.answer) returned) ++ part
 
--- The outputs of these connections, one after another, are in order in the same sense.
+-- The outputs of these connections, one after another, are in order as in `WritesInOrder`.
 abbrev pub AllInOrder : World → List Step → List Connection → List Step → Type 0
 AllInOrder base first [] last = StartsWith last first
 AllInOrder base first (c ∷ cs) last = (now : List Step) × WritesInOrder base first c.talk now × AllInOrder base now cs last
 
--- Everything that an instance's desk replied or showed over its connections is in order in this sense, and follows from the
+-- Everything that an instance's desk replied or showed over its connections is in order as in `AllInOrder`, and follows from the
 -- settled steps that the desk has read. This holds whether or not a caller closed the desk.
 abbrev pub AnsweredInOrder : Type 0 → Type 0 → {V : Type 0} → (V → List Talk → V → Type 0) → Type 0
 AnsweredInOrder D P {V} talked =

@@ -14,8 +14,8 @@ use Rattle.coord_server.specs.Ending.{IsInstance}
 use Rattle.coord_server.specs.Instances.{HaveRested, InstanceRun, all_steps}
 use Rattle.coord_server.specs.declared.instance.Instance.{Instance}
 
--- A crash at any moment between the two states of the store leaves bytes that give the world after a prefix of these steps. The
--- disk keeps the model if it did before.
+-- If the disk keeps the model, a crash at any moment between the two states of the store leaves bytes that give the world after a
+-- prefix of these steps. The disk keeps the model now if it did before.
 pub record KeepsAlong {D : Type 0} (m : DiskModel D) (first : Kept D) (steps : List Step) (now : Kept D) : Type 0 where
   pub same_model : m.keeps_model now.disk ≡ m.keeps_model first.disk
   pub moments : m.keeps_model first.disk ≡ true → LeavesOnly m first.disk now.disk (IsAfterSome first.world steps)

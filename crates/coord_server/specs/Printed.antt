@@ -68,7 +68,7 @@ pub record IsTornSignal {W : Type 0} (may : ℕ → ℕ → ℕ → Type 0) (q :
   pub next : is_next q.last signal.step signal.node ≡ true
   pub part : IsFirstPart torn (signal_line signal.node signal.epoch)
 
--- The reason why the first line was requested but not printed, if that happened: memory ran out, or the output failed.
+-- If the first line was requested and not printed, the reason: memory ran out, or the output failed.
 abbrev pub IsUnprintedFor : {W : Type 0} → PrinterState W → Option ServerFault → Type 0
 IsUnprintedFor p None = Unit {0}
 IsUnprintedFor p (Some fault.OutOfMemory) = Unit {0}

@@ -83,7 +83,7 @@ InstanceGives left bytes =
     ⊎ ((size : ℕ) × (has_stopped left.store ≡ true) × (left.settled + size ≤ left.base.count + length left.trail.items)
     × Recovered bytes (fold left.base (take (left.settled - left.base.count + size) left.trail.items)))
 
--- Any bytes that a crash may leave on an instance's disk give such a world.
+-- If the disk keeps the model, any bytes that a crash may leave of an instance's disk give a world as in `InstanceGives`.
 abbrev pub InstancesLeaveSteps : Type 0 → Type 0 → Type 0
 InstancesLeaveSteps D P =
     (b : Basis D) (desk : DeskState P) (left : Closed D) → IsOneHistory b desk left

@@ -148,7 +148,7 @@ fn show<D: Disk, L: Origin, R: Wait>(
     engine.show(rt, seen, reader)
 }
 
-/// Sends the packets that may have been lost to a port again, and returns their number.
+/// Passes to a port again the packets that may have been lost, and returns their number.
 fn resend<D: Disk, L: Origin, P: Port, R: Wait>(
     rt: &R,
     engine: &Engine<D, L>,

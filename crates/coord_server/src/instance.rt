@@ -200,8 +200,8 @@ fn share_with_room<D: Disk, L: Origin, R: Wait>(rt: &R, engine: &Engine<D, L>) -
     Some(share)
 }
 
-/// Returns the remaining parts of an instance that did not begin, the callers, none of whom was served,
-/// and the parts of its engine.
+/// Returns what remains of an instance that did not begin: the parts of its engine, and the callers, none of whom was
+/// served.
 fn unbegun<D: Disk, L: Origin, C, O: SignalSource, R: Wait + Clock>(
     setting: &Setting<'_, R, O>,
     engine: Engine<D, L>,

@@ -285,9 +285,9 @@ fn start_over<D: Disk, O: SignalSource, R: Wait>(
     }
 }
 
-/// Returns the start of the next instance, the authority of the history, and the callers; or the last
-/// instance. An instance is the last if it has ended, or if it rests but can't continue, because its
-/// store has stopped or memory for the next one ran out.
+/// Returns the start of the next instance, the authority to write the history, and the callers; or the last instance.
+/// An instance is the last if it has ended, or if it rests but can't continue, because its store has stopped or memory
+/// for the next one ran out.
 fn next_of<D: Disk, C, O: SignalSource, R: Wait>(
     setting: &Setting<'_, R, O>,
     instance: Instance<D, C>,

@@ -5,8 +5,8 @@ ghost use Rattle.coord_server.specs.Lines.{after_line, is_next, nothing_since};
 
 use coord_types::NodeId;
 
-/// The last printed signal: the number of its step, its node, and whether it was the second signal of
-/// that step. A step sends at most two signals: those of the two ends of a dropped link.
+/// The last printed signal: the number of its step, its node, and whether it was the second signal of that step. A step
+/// sends at most two signals; two come only from the two ends of a dropped link.
 #[derive(Clone, Copy, Debug, Drop)]
 pub struct LastLine {
     pub step: u64,
@@ -26,7 +26,7 @@ impl LastLine {
         }
     }
 
-    /// Tests whether a signal of this step at this node may follow the last one.
+    /// Tests whether a signal of this step at this node may follow the last printed signal.
     pub fn is_before(self, step: u64, node: NodeId) -> bool
         ensures { result ≡ is_next self step node }
     {

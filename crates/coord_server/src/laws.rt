@@ -54,10 +54,10 @@ pub fn run_answers_from_one_history<D: Disk, C: Callers, W: Write, O: SignalSour
     ensures { RunAnswersFromOneHistory D.model C.talked C.failed W.contents O.gives }
 {}
 
-/// Bounds the printed signals between two moments of the settled steps at which every node of a part is
-/// Ready. No link leaves the part, and no node or link comes or goes meanwhile. Then a server prints at
-/// most as many signals of a linked node as resets were started in the part, and the steps in between
-/// signal each node that is connected with one whose reset was accepted.
+/// Bounds the printed signals between two moments of the settled steps at which every node of a part is Ready. No link
+/// leaves the part, and in between no node or link is added or removed. Then a server prints at most as many signals of
+/// a linked node of the part as resets were started in the part. The steps in between signal, at least once, each node
+/// that is connected with a node of the part whose reset was accepted.
 pub fn printed_between<D: Disk, C: Callers, W: Write>()
     ensures { PrintedBetween D.model C.talked C.failed W.contents }
 {}

@@ -12,7 +12,7 @@ use std::marker::Model;
 use std::sync::{Mutex, Wait};
 use std::{array, mem};
 
-/// The number of workers. A node belongs to the worker whose number is the node's number modulo this.
+/// The number of workers. A node belongs to the worker whose number is the node's number modulo `WORKERS`.
 pub const WORKERS: u8 = 8;
 
 /// The channels to the workers, and the gathered packets for each worker, both indexed by the worker's

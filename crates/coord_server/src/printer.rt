@@ -59,7 +59,8 @@ impl<W: Write> Printer<W> {
         self.last.step <= steps
     }
 
-    /// Prints the line of a signal of this step, if the signal may follow the last one.
+    /// Prints the line of a signal of this step, if the signal may follow the last one. Returns whether the line was
+    /// written.
     fn print_step(&mut self, step: u64, node: NodeId, epoch: u64) -> bool
         ensures written { result ≡ true →
             Appends (W.contents self.old.output) (W.contents self.new.output)
@@ -128,10 +129,10 @@ impl<W: Write + TakableOutput> Printer<W> {
     }
 }
 
-/// Prints a server's lines: its address, and signals of the history that `O` names. It can't print
-/// anything else. Each line is written and flushed at once. If a write fails, a prefix of the line may
-/// have been written, and no more lines are printed. Signals are printed in the order of their steps,
-/// each once. Like for a `Printer`, contracts see `PrinterState`.
+/// Prints a server's lines: its address, and signals of the history that `O` names. It can't print anything else. Each
+/// line is written and flushed at once. If a write fails, a prefix of the line may have been written, and no more lines
+/// are printed. Signals are printed in the order of their steps, each once. Contracts see `PrinterState`, as for a
+/// `Printer`.
 #[derive(Drop)]
 pub struct SignalPrinter<W: Write, O: SignalSource> {
     printer: Printer<W>,
@@ -178,9 +179,9 @@ impl<W: Write, O: SignalSource> SignalPrinter<W, O> {
         self.printer.is_broken()
     }
 
-    /// Prints `signal N EPOCH`: a step has ended a reset at node N. Returns whether the line was
-    /// written. If it was not, the output has failed, or the signal may not follow the last one: in
-    /// that case no part of its line was written, and it counts as lost.
+    /// Prints `signal N EPOCH`: a step has ended a reset at node N. Returns whether the line was written. If it was
+    /// not, either the output has failed, or the signal may not follow the last one. In the second case no part of the
+    /// line was written, and the signal counts as lost.
     pub fn print_signal(&mut self, signal: &Signal<O>) -> bool
         ensures written { result ≡ true →
             Appends (W.contents self.old.output) (W.contents self.new.output)

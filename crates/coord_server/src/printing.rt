@@ -23,7 +23,7 @@ use std::thread::Promise;
 pub struct Printed<W: Write> {
     pub printer: Printer<W>,
     pub reader: LogPrefix,
-    /// The reason why the first line was not printed, if it was requested and not printed.
+    /// If the first line was requested and not printed, the reason.
     pub unprinted: Option<ServerFault>,
 }
 
@@ -133,8 +133,8 @@ pub struct Printing<W: Write + Drop, O: SignalSource> {
 
 #[tactic(auto, using(crate::proofs::Starts::printed_none))]
 impl<W: Write + Drop, O: SignalSource> Printing<W, O> {
-    /// Prints the received address, and then the received signals, and returns the printer. A clause can state only the
-    /// signal type's invariant about the content of a channel.
+    /// Prints the received address, and then the received signals, and returns the printer. About the content of a
+    /// channel, a clause can state only the invariant of the signal type.
     pub fn print<R: Wait>(self, rt: &R) -> Printed<W>
         ensures printed { IsPrinted W.contents (O.gives result.reader.steps)
             self.printer result.printer }

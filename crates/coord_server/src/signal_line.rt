@@ -7,7 +7,7 @@ use arrayvec::ArrayString;
 use coord_types::NodeId;
 use itoa::Buffer;
 
-/// The bytes of the longest line, which has a node of three digits and an epoch of twenty digits.
+/// The length of the longest line in bytes: its node has three digits and its epoch twenty.
 const SIGNAL_LINE_BYTES: usize = 32;
 
 /// Returns `signal N EPOCH` with a line feed. Allocates nothing.

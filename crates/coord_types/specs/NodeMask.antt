@@ -16,7 +16,7 @@ is_set bits i = bit_at bits i == 1
 abbrev pub nodes_of : ℕ → set.NodeSet
 nodes_of bits = nodes_where (is_set bits) MAX_NODES
 
--- the number whose bit k is set if and only if k is below n and the test of k is true
+-- the number whose bit k is set if and only if k is less than n and passes the test
 unfoldable pub bits_where : (ℕ → Bool) → ℕ → ℕ
 bits_where test zero = 0
 bits_where test (suc n) = if test n then bits_where test n + 2 ^ n else bits_where test n

@@ -121,8 +121,8 @@ pub struct Reply {
     pub kind: Kind,
 }
 
-/// A client's last order and its reply. They are kept so that a repeated order is answered again
-/// instead of being carried out again.
+/// A client's last order and its reply. A world keeps them, so it answers a repeated order without carrying it out
+/// again.
 #[derive(Clone, Copy, Debug, PartialEq, Eq)]
 pub struct Session {
     pub number: u64,

@@ -1,5 +1,4 @@
-//! Laws of the protocol, over the definitions alone: functions without a body whose contracts state
-//! the laws.
+//! Laws of the protocol, over the definitions alone. Each is the contract of an empty function.
 
 ghost use Rattle.coord_world.specs.laws.Laws.{FreshOverItself, LanesAreShort, NextKeepsLegal, NextKeepsRanges, RowsGiveWorld, RowsHaveFewAborts, RowsOfWorldFit, ViewOfNext};
 ghost use Rattle.coord_world.specs.laws.Cycles.{NoParentCycle};
@@ -36,8 +35,8 @@ pub fn view_of_next()
     ensures { ViewOfNext }
 {}
 
-/// In a legal world, a lane has at most 3 messages in transit, and its queue has at most 4
-/// messages.
+/// In a legal world, a lane has at most 3 messages in transit, and its queue has at most 4 messages, of which at most 2
+/// are Aborts.
 pub fn lanes_are_short()
     ensures { LanesAreShort }
 {}
@@ -49,15 +48,15 @@ pub fn no_parent_cycle()
     ensures { NoParentCycle }
 {}
 
-/// In a world of version 1 in its ranges, the predicates demand nothing of distances: H holds for
-/// each link, and N holds for a node if N without the condition on the distance does.
+/// In a world of version 1 in its ranges, the predicates demand nothing of distances: H holds for each link, and N
+/// holds for a node if N without its condition on the distance does.
 #[tactic(auto, using(crate::proofs::legal::Versions::version_1_asks_no_distance))]
 pub fn version_1_asks_no_distance()
     ensures { Version1AsksNoDistance }
 {}
 
-/// A legal world of version 1 in which every node is Ready stays legal if its version is changed to 2, because all its
-/// distances are 0.
+/// A legal world of version 1 in which every node is Ready stays legal and in its ranges, and keeps its resend list, if
+/// its version is changed to 2: all its distances are 0.
 pub fn raised_is_legal()
     ensures { RaisedIsLegal }
 {}
@@ -78,9 +77,9 @@ pub fn rows_give_world()
     ensures { RowsGiveWorld }
 {}
 
-/// A list of steps in turn begins and ends with every node Ready, adds or removes no node and no link, and starts
-/// exactly one reset. Then each node that links connect with the initiator is signalled exactly once, and every other
-/// signal comes from a step that is answered Finished.
+/// Suppose that every node is Ready before and after a list of steps in turn, and that the steps do not add or remove
+/// nodes or links, and start exactly one reset. Then each node that links connect with the initiator is signalled
+/// exactly once, and every other signal comes from a step that is answered Finished.
 pub fn once_per_wave()
     ensures { OncePerWave }
 {}
@@ -91,29 +90,30 @@ pub fn asked_is_signalled()
     ensures { AskedIsSignalled }
 {}
 
-/// No link leaves a part of the nodes, every node of the part is Ready before and after the steps, and the steps add or
-/// remove no node and no link. Then each node that links connect with the node of a reset started in the part is
-/// signalled at least once, however many resets were started.
+/// Suppose that no link leaves a part of the nodes, every node of the part is Ready before and after the steps, and the
+/// steps do not add or remove nodes or links. Then each node that links connect with the node of a reset started in the
+/// part is signalled at least once, however many resets were started.
 pub fn once_or_more()
     ensures { OnceOrMore }
 {}
 
-/// Every node of a part that no link leaves is Ready at first, and the steps add or remove no node
-/// and no link. Then, at any time, a node of the part that has a link was signalled at most as
+/// Suppose that no link leaves a part of the nodes, every node of the part is Ready before the steps, and the steps do
+/// not add or remove nodes or links. Then, at any time, a node of the part that has a link was signalled at most as
 /// often as resets were started in the part.
 pub fn no_more_than_started()
     ensures { NoMoreThanStarted }
 {}
 
-/// Every node of a part that no link leaves is Ready at first. The steps may add and remove nodes and links, but never
-/// link a node of the part with a node outside it. Then a node of the part is signalled at most as often, in total, as
-/// resets were started in the part, links of the part were dropped, and resets of the node were answered Finished.
+/// Suppose that no link leaves a part of the nodes, every node of the part is Ready before the steps, and the steps
+/// never link a node of the part with a node outside it; they may add and remove nodes and links otherwise. Then a node
+/// of the part is signalled at most as often, in total, as resets were started in the part, links of the part were
+/// dropped, and resets of the node were answered Finished.
 pub fn no_more_with_drops()
     ensures { NoMoreWithDrops }
 {}
 
-/// Under the conditions of `no_more_than_started`, a node of the part without a link is signalled
-/// exactly as often as its resets are answered Finished.
+/// Under the conditions of `no_more_than_started`, a node of the part that has no link is signalled exactly as often as
+/// its resets are answered Finished.
 pub fn alone_as_finished()
     ensures { AloneAsFinished }
 {}
@@ -148,15 +148,14 @@ pub fn epochs_rise_together()
     ensures { EpochsRiseTogether }
 {}
 
-/// The bounds of `asked_reaches_all` and `no_more_than_started` hold for the steps of a history
-/// between two moments at which every node of a part that no link leaves is Ready, if these steps
-/// add or remove no node and no link.
+/// The bounds of `asked_reaches_all` and `no_more_than_started` hold for the steps of a history between two moments at
+/// which every node of a part that no link leaves is Ready, if these steps do not add or remove nodes or links.
 pub fn bound_between()
     ensures { BoundBetween }
 {}
 
-/// The bound of `no_more_with_drops` holds for the steps of a history after a moment at which every node of a part is
-/// Ready, under the same conditions.
+/// The bound of `no_more_with_drops` holds for the steps of a history after a moment, if the conditions of that law
+/// hold at this moment and for these steps.
 pub fn bound_with_drops()
     ensures { BoundWithDrops }
 {}
@@ -166,7 +165,8 @@ pub fn trail_keeps_worlds()
     ensures { TrailKeepsWorlds }
 {}
 
-/// The first n steps of a trail are a trail, and the remaining steps are a trail from the world after them.
+/// The first n steps of a trail are a trail, and the remaining steps are a trail from the world after them. Together
+/// they have the world and the outputs of the whole trail.
 pub fn trail_is_cut()
     ensures { TrailIsCut }
 {}

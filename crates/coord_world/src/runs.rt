@@ -1,5 +1,5 @@
-//! Worked runs from the empty world: functions without a body whose contracts state the verdict on
-//! each step and its outputs.
+//! Worked runs from the empty world. Each is the contract of an empty function, which states the verdict on each step
+//! and its outputs.
 
 ghost use Rattle.coord_world.specs.laws.ReleasedRun.{ReleasedRun};
 ghost use Rattle.coord_world.specs.laws.WorkedSteps.{Distances, DropInAbort, DropInConverge, DropsCount, NotAllAfterEach, Overlaps, StoredRun, StoredWave, TwoInitiators, TwoInitiatorsWithDistances};
@@ -61,7 +61,7 @@ pub fn drop_in_converge()
     ensures { DropInConverge }
 {}
 
-/// A wave of version 2 along a path of three nodes, whose first link is dropped.
+/// A wave of version 2 along a path of three nodes. The first link of the path is dropped.
 #[tactic(auto, using(crate::proofs::WorkedRuns::distances_compute))]
 pub fn distances()
     ensures { Distances }

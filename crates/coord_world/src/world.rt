@@ -26,7 +26,7 @@ use coord_types::{Client, NodeId, Output, Refusal, Reply, Session, Step, Version
 use std::alloc::{AllocError, Global};
 use std::marker::Model;
 
-/// A step's reply, and the outputs to be released after it, in order.
+/// A step's reply, and the outputs to release after the reply, in order.
 #[derive(Drop, Debug)]
 pub struct StepOutcome {
     pub reply: Reply,

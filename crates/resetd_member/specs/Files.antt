@@ -61,7 +61,7 @@ pub record IsReadFence (node : ℕ) (file : List ℕ) (generation : ℕ) (word :
   pub read : seen_in node file ≡ Some (seen start)
   pub is : IsFenceOf start generation word made
 
--- a fence, or the reason why there is none
+-- the fence of the file's start, or the reason why there is none
 abbrev pub IsFenceFor : ℕ → List ℕ → ℕ → List ℕ → Result Brought Fault → Type 0
 IsFenceFor node file generation word (Ok fence) = IsReadFence node file generation word (Ok fence)
 IsFenceFor node file generation word (Err OutOfMemory) = Unit {0}

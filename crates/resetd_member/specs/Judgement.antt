@@ -39,7 +39,7 @@ pub record IsShown (show : List ℕ) (node : ℕ) (row : Row) (party : List Entr
   pub read : IsReadOf view node own row party
   pub settled_is : settled ≡ view.settled
 
--- the line is an answer to `show`, but the node does not exist in it
+-- the line is an answer to `show`, but does not have the node
 pub record IsAbsent (show : List ℕ) (node : ℕ) : Type 0 where
   pub view : Shown
   pub shown : shown_in show ≡ Ok view
@@ -73,7 +73,7 @@ begun_at (Some epoch) (Some e) = if epoch == e then Some epoch else None
 abbrev pub first_known : Start → List Entry → Option (List Entry)
 first_known kept party = option_map (λ lines. known lines.items party) kept.party
 
--- the required text of the file of the start after this change; empty if the file does not change
+-- the text that the start's file must have after this change; empty if the file does not change
 abbrev pub start_after : ℕ → Option ℕ → List (String Global) → ℕ → Change → List ℕ
 start_after node begun lines settled Keeps = []
 start_after node begun lines settled Drops = start_text node None None None

@@ -105,8 +105,8 @@ pub extern "C" fn resetd_carried(
     give(carried(alloc, node, start, boot), out, length)
 }
 
-/// Writes the fence of the start in a file: its count and its tag. The tag is empty if the start has no fence yet.
-/// Returns the status.
+/// Writes the count and the tag of the fence of a file's start. The tag is empty if the start has no fence yet. Returns
+/// the status.
 #[unsafe(no_mangle)]
 pub extern "C" fn resetd_fence(
     alloc: Global,

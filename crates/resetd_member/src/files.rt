@@ -80,7 +80,7 @@ fn fence_of(
     Ok((count, tag))
 }
 
-/// Returns the fence of the start in a file.
+/// Returns the fence of a file's start.
 pub(crate) fn fence_in(
     alloc: Global,
     node: u8,

@@ -24,7 +24,7 @@ pub struct Sight {
     pub settled: u64,
 }
 
-/// The due action for a view, and the texts that must be on disk before it.
+/// The due action for a view, and the texts that must be on disk before the action.
 #[derive(Drop, Debug)]
 pub struct Judgement {
     pub due: Due,
@@ -32,7 +32,7 @@ pub struct Judgement {
     pub epoch: u64,
     /// The required text of the file of the start; empty if the file does not change.
     pub start: String,
-    /// The line to add to the history before that; empty if there is none.
+    /// The line to add to the history before the file of the start is written; empty if there is none.
     pub line: String,
     /// The offset in the history at which to write the line.
     pub history_size: usize,
@@ -56,7 +56,7 @@ pub struct Judged {
     pub history_size: usize,
 }
 
-/// Returns the part of the view that the member of a node sees. `show` is a line that answers `show`.
+/// Returns the part of a view that the member of a node sees. The line `show` answers a request for a view.
 pub(crate) fn look_at(alloc: Global, show: &str, node: NodeId) -> Result<Sight, Fault>
     ensures { IsLooked show.now node result }
 {
@@ -242,7 +242,7 @@ pub(crate) fn judge(
     judged
 }
 
-/// Returns the tag of the start in a file, given the view that a line shows; empty if the start has no tag.
+/// Returns the tag of a file's start, given the view that a line shows; empty if the start has no tag.
 pub(crate) fn tag(
     alloc: Global,
     show: &str,

@@ -37,7 +37,7 @@ abbrev pub fronts_sent : Links → ℕ → List (ℕ × Msg) → List Output
 fronts_sent links u [] = []
 fronts_sent links u (s ∷ ss) = front_sent (lane_at links u s.0) (u, s.0) s.1 ++ fronts_sent links u ss
 
--- the packet of the message after a lane's front, which becomes the front when the present front is cleared
+-- the packet of the message after a lane's front; that message becomes the front once the present front is cleared
 abbrev pub front_behind : Option Lane → ℕ × ℕ → List Output
 front_behind None k = []
 front_behind (Some l) k = packets_of k (cleared l) (behind_front l.queue)

@@ -12,7 +12,7 @@ use Rattle.coord_world.specs.laws.Trails.{IsTrail}
 use Rattle.coord_world.specs.laws.Waves.{Connected, changes_topology, signals_of, started}
 
 -- Every node of the part is Ready after the earlier steps, and again after the steps in between. No link leaves the part, and the
--- steps in between add or remove no node and no link
+-- steps in between do not add or remove nodes or links
 pub record IsReadyAgain (base : World) (earlier between : List Step) (part : ℕ → Bool) : Type 0 where
   pub same_topology : All (λ s. changes_topology s ≡ false) between
   pub is_part : IsPart (fold base earlier) part

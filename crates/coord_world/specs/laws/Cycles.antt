@@ -17,6 +17,6 @@ abbrev pub IsChain : World → ℕ → List ℕ → ℕ → Type 0
 IsChain w u [] v = u ≡ v
 IsChain w u (x ∷ path) v = IsAbove w u x × IsChain w x path v
 
--- in a legal world of version 2, such a path never returns to its first node
+-- in a legal world of version 2, no chain of parents returns to its first node
 abbrev pub NoParentCycle : Type 0
 NoParentCycle = (w : World) (u : ℕ) (path : List ℕ) → InRange w → Legal w → w.version ≡ 2 → IsChain w u path u → path ≡ []

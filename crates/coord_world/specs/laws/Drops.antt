@@ -31,11 +31,11 @@ pub record BeginsApart (w : World) (steps : List Step) (part : ℕ → Bool) : T
   pub kept_apart : All (KeepsApart part) steps
   pub ready_before : PartReady w part
 
--- how often resets were started in the part, links of it were dropped, and resets of v were answered Finished, in total
+-- in total, the number of resets started in the part, of links of the part dropped, and of resets of v answered Finished
 abbrev pub most_signals : World → List Step → (ℕ → Bool) → ℕ → ℕ
 most_signals w steps part v = count_by part (started w steps) + count_by (drops_in part) steps + count_by (λ u. u == v) (finished_at w steps)
 
--- after such steps, each node of the part was signalled at most that often
+-- each node of the part is signalled at most `most_signals` times by steps of `BeginsApart`
 abbrev pub NoMoreWithDrops : Type 0
 NoMoreWithDrops = (w : World) (steps : List Step) (part : ℕ → Bool) → BeginsApart w steps part → (v : ℕ) → part v ≡ true →
     signals_of v (outs w steps) ≤ most_signals w steps part v

@@ -28,7 +28,7 @@ IsPart w part = (a b : ℕ) → is_linked w a b ≡ true → part a ≡ part b
 abbrev pub PartReady : World → (ℕ → Bool) → Type 0
 PartReady w part = (v : ℕ) → part v ≡ true → (state w v).mode ≡ Ready
 
--- steps in turn that add or remove no node and no link; every node of the part is Ready before them
+-- steps in turn that do not add or remove nodes or links; every node of the part is Ready before them
 pub record BeginsReady (w : World) (steps : List Step) (part : ℕ → Bool) : Type 0 where
   pub in_range : InRange w
   pub legal : Legal w
@@ -43,7 +43,8 @@ abbrev pub OnceOrMore : Type 0
 OnceOrMore = (w : World) (steps : List Step) (part : ℕ → Bool) → BeginsReady w steps part → PartReady (fold w steps) part →
     All (λ u. part u ≡ true → (v : ℕ) → Connected w u v → 1 ≤ signals_of v (outs w steps)) (started w steps)
 
--- after such steps, a node of the part that has a link was signalled at most as often as resets were started in the part
+-- a node of the part that has a link is signalled at most as often as resets are started in the part, even if not every node is
+-- Ready at the end
 abbrev pub NoMoreThanStarted : Type 0
 NoMoreThanStarted = (w : World) (steps : List Step) (part : ℕ → Bool) → BeginsReady w steps part →
     (v x : ℕ) → part v ≡ true → is_linked w v x ≡ true → signals_of v (outs w steps) ≤ count_by part (started w steps)
@@ -81,7 +82,7 @@ abbrev pub AskedReachesAll : Type 0
 AskedReachesAll = (w : World) (steps before rest : List Step) (part : ℕ → Bool) (c n u : ℕ) → BeginsReady w steps part → PartReady (fold w steps) part →
     steps ≡ before ++ Order c n (Reset u) ∷ rest → part u ≡ true → (v : ℕ) → Connected w u v → 1 ≤ signals_of v (outs w steps)
 
--- a node's epoch rises by one with each of its signals
+-- while no node or link is added or removed, a node's epoch rises by one with each of its signals
 abbrev pub EpochsCountSignals : Type 0
 EpochsCountSignals = (w : World) (steps : List Step) → InRange w → Legal w → InTurn w steps → All (λ s. changes_topology s ≡ false) steps →
     (v : ℕ) → (state (fold w steps) v).epoch ≡ (state w v).epoch + signals_of v (outs w steps)

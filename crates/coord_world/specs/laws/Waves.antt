@@ -48,7 +48,7 @@ abbrev pub started : World → List Step → List ℕ
 started w [] = []
 started w (s ∷ ss) = started_by (reply w s).kind s ++ started (next w s) ss
 
--- The steps are one wave from u. Every node is Ready before and after them, they add or remove no node and no link, and they
+-- The steps are one wave from u. Every node is Ready before and after them, they do not add or remove nodes or links, and they
 -- start exactly one reset, at u
 pub record IsWave (w : World) (steps : List Step) (u : ℕ) : Type 0 where
   pub in_range : InRange w

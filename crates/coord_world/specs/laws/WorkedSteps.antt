@@ -126,7 +126,7 @@ start_again =
 abbrev pub Overlaps : Type 0
 Overlaps = IsOverlap two_starts (1 ∷ 2 ∷ []) 1 × IsOverlap start_again (1 ∷ 1 ∷ []) 2
 
--- a path of three nodes; the first two start resets whose waves meet, and the first node is signalled
+-- a path of three nodes; in `two_meet`, the first two start resets whose waves meet, and the first node is signalled
 abbrev pub path_linked : List Step
 path_linked = order 1 (Add 1 1) ∷ order 2 (Add 2 1) ∷ order 3 (Add 3 1) ∷ order 4 (Join 1 2) ∷ order 5 (Join 2 3) ∷ []
 

@@ -96,7 +96,7 @@ abbrev pub or_repeat : Option Session → ℕ → Command → Result Verdict Ref
 or_repeat None n x verdict = verdict
 or_repeat (Some o) n x verdict = if (o.number == n) && same_command o.command x then Ok (Repeat o.reply) else verdict
 
--- acceptance: the verdict on a step of a front world, given the settled world
+-- acceptance: the front world's verdict on a step, given the settled world
 abbrev pub accepts : World → World → Step → Result Verdict Refusal
 accepts front settled (Order c n x) = or_repeat (get front.sessions c) n x (judged front settled (Order c n x))
 accepts front settled (Take p) = judged front settled (Take p)

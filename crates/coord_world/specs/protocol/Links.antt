@@ -92,8 +92,8 @@ owes_ack e = is_abort e.mode && e.child
 abbrev pub waits_for_ready : End → Bool
 waits_for_ready e = is_converge e.mode && e.child
 
--- B: if this end awaits an acknowledgement, it is in exactly one place: as the Abort in transit to the other end, at the other
--- end, which owes it, or as the Ack in transit back. Otherwise these three places are empty
+-- B: if this end awaits an acknowledgement, the acknowledgement is in exactly one place: as the Abort in transit to the other
+-- end, at the other end, which owes it, or as the Ack in transit back. Otherwise these three places are empty
 abbrev pub has_ack_in_one_place : Link → Bool
 has_ack_in_one_place l = (aborts l.out + one (owes_ack l.there) + acks l.back) == one l.here.awaits
 
@@ -113,14 +113,13 @@ has_ready_for_child l = not (waits_for_ready l.there) || not (readies l.out == 0
 abbrev pub has_one_parent_at_most : Link → Bool
 has_one_parent_at_most l = not (l.here.child && l.there.child)
 
--- G: a Ready is in transit only if this end is Ready, or the other end is its parent, or an Abort is in transit on the
+-- G: a Ready is in transit only if this end is Ready, or the other end is this end's parent, or an Abort is in transit on the
 -- same lane
 abbrev pub has_no_early_ready : Link → Bool
 has_no_early_ready l = is_ready l.here.mode || l.here.child || not (aborts l.out == 0) || (readies l.out == 0)
 
--- H: each Abort in transit carries the distance that this end sends. If this end is the parent of the other end, which
--- is in a reset, and no Ready is in transit to it, the other end has that distance. In version 1 all distances are 0,
--- so H always holds
+-- H: each Abort in transit carries the distance that this end sends. If the other end is in a reset, this end is its parent, and
+-- no Ready is in transit to it, then the other end has that distance. In version 1 all distances are 0, so H always holds
 abbrev pub has_right_distances : Link → Bool
 has_right_distances l = (strays l.here.carries l.out == 0) && (is_ready l.there.mode || not l.there.child || not (readies l.out == 0) || (l.there.distance == l.here.carries))
 

@@ -33,7 +33,7 @@ signals (d ∷ ds) = if d.1.finished then Signalled d.0 d.1.state.epoch ∷ sign
 abbrev pub front_packet : ℕ × ℕ → Lane → Msg → DataPacket
 front_packet k l m = record { from = k.0; to = k.1; inc = l.inc; number = l.base + 1; msg = m }
 
--- whether the lane's front had the same incarnation and number before
+-- whether the lane had this front before the step: a front with the same incarnation and number
 abbrev pub had_front : Option Lane → Lane → Bool
 had_front None l = false
 had_front (Some o) l = not (is_nil o.queue) && (o.inc == l.inc) && (o.base == l.base)
@@ -62,7 +62,7 @@ abbrev pub outs : World → List Step → List StepOutcome
 outs w [] = []
 outs w (s ∷ ss) = record { reply = reply w s; outputs = outputs w s } ∷ outs (next w s) ss
 
--- the packets that a lane sends again: its front, and the receipt of the front if the other end has taken it
+-- the packets that a lane sends again: its front, and the receipt of the front if the other end has taken the front
 abbrev pub again_by : ℕ × ℕ → Lane → List Msg → List Output
 again_by k l [] = []
 again_by k l (m ∷ ms) = Sent (front_packet k l m) ∷ (if is_front_taken l then Receipted (receipt (front_packet k l m)) ∷ [] else [])

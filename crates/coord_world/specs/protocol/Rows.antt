@@ -104,7 +104,7 @@ pub record LanesCarryWithin (n : ℕ) (r : LinkRow) : Type 0 where
   pub forth : CarryWithin n r.forth.queue
   pub back : CarryWithin n r.back.queue
 
--- these lists are the rows of a world
+-- the conditions under which these lists are the rows of a world
 pub record RowsFit (rows : Rows) : Type 0 where
   pub first : 1 ≤ rows.version
   pub last : rows.version ≤ MAX_VERSIONS

@@ -12,7 +12,7 @@ use coord_node::{Effects, Node};
 use coord_types::{DataPacket, Msg, NodeId};
 use std::alloc::{AllocError, Global};
 
-/// A node's new state, and its messages.
+/// A node, its new state, and the effects of its transition.
 #[derive(Drop, Debug)]
 pub struct NodeTransition {
     pub id: NodeId,

@@ -58,7 +58,7 @@ pub fn push_fronts(
     Ok(())
 }
 
-/// Appends the packets of both ends' messages that become fronts, those of the lesser end first.
+/// Appends the packets of the messages that become fronts at the two ends of a link, the lesser end first.
 pub fn push_fronts_of_both(
     links: &LinkTable,
     first: &NodeTransition,
@@ -80,7 +80,7 @@ pub fn push_fronts_of_both(
     }
 }
 
-/// Appends the packet of a message, if the lane is empty and the message becomes its front.
+/// Appends the packet of a message if the lane is empty, so that the message becomes the front.
 fn push_front(
     links: &LinkTable,
     from: NodeId,
@@ -136,8 +136,8 @@ pub fn front_behind(
     Ok(vec![in alloc; Output::Sent(packet)]?)
 }
 
-/// Appends the packets that a lane resends: its front, and the receipt of the front if the other
-/// end has taken it.
+/// Appends the packets that a lane resends: its front, and the receipt of the front if the other end has taken the
+/// front.
 fn push_again(entry: &((NodeId, NodeId), Lane), outputs: &mut Vec<Output>) -> Result<(), AllocError>
     requires { HasNumber entry.now }
     ensures { OnOk result (outputs.new.items ≡
