@@ -154,8 +154,8 @@ pub record Keeps (r : Rules) (w : Run) : Type 0 where
   pub renumbered : (place : ℕ) → count_by (is_first_at place) w.sent ≤ 1 + count_by (refuses_number_at r place) w.answers
   -- each other line sent repeats, byte for byte, such a first line for the same request
   pub again : AllByRecursion (λ s. s.is_first ≡ false → IsKnown w.sent s) w.sent
-  -- an answered line was sent after all lines sent for older requests of its connection, unless the answer refuses the line's number
-  -- and the line was not sent before with that number
+  -- an answered line was sent after all lines sent for older requests of its connection, unless the answer refuses the line's
+  -- number and the line was not sent before with that number
   pub in_order : IsInOrder r w
   -- the serial numbers of the lines sent are 0, 1, 2 ..
   pub serial : AreSerial 0 w.sent

@@ -1,5 +1,5 @@
 -- What the proxy and the server's session rule guarantee together: an unnumbered order is carried out at most once, and a client
--- that is told that its order was carried out has the answer to its own order.
+-- that gets a reply to such an order gets the reply to its own order.
 use Rattle.std.specs.Prelude.{◌≡◌, ℕ, ◌≤◌, ◌<◌, ◌==◌, ◌&&◌, Bool, true, List, count_by, Contains}
 use Rattle.proxy_core.specs.Rules.{Rules}
 use Rattle.proxy_core.specs.Run.{Sent, Answer, Count, Run, Event, new_run, run}

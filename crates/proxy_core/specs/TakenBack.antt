@@ -6,7 +6,7 @@ use Rattle.proxy_core.specs.Numbers.{IsNumberRefused}
 use Rattle.proxy_core.specs.Run.{Sent, Count, Event, new_run, run, first_place}
 use Rattle.proxy_core.specs.Session.{CountsAreRight}
 
--- each line sent for an order that is taken back has the number that `taken_back` returns, or the server refused the line's number
+-- each line sent for an order that is taken back has the number that `taken_back` returns, or the server refused its number
 abbrev pub TakenBackNumber : Type 0
 TakenBackNumber = (r : Rules) (events : List Event) (c n : ℕ) → taken_back c (run r new_run events).proxy ≡ Some n
     → (s : Sent) → Contains (run r new_run events).sent s → s.is_unnumbered ≡ true → s.place ≡ first_place (run r new_run events).in_flight
