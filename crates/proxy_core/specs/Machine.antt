@@ -13,7 +13,7 @@ use Rattle.proxy_core.specs.Pending.{Pending, is_from, step}
 pub record Proxy : Type 0 where
   pub flight : List Pending  -- the lines that were sent, or are to be sent again; the next answer is to the first line
   pub waiting : List Pending  -- the waiting lines, in the order in which they may fly
-  pub refused : ℕ  -- how many of the first waiting lines were in this flight until the server refused their numbers
+  pub refused : ℕ  -- how many waiting lines, the first ones, were in this flight until the server refused their numbers
   pub is_up : Bool  -- the proxy is connected to the server
   pub is_resent : Bool  -- the flight was sent before, over a connection that broke
   pub number : ℕ  -- the number before the first number of the flight
@@ -162,11 +162,11 @@ keeps_up together own a = (together && a.is_unnumbered) || not (is_among a.from 
 abbrev pub may_fill : Bool → Bool → Kind → ℕ → List ℕ → List ℕ → Bool → Pending → Bool
 may_fill counted together kind room stay own leads a = leads || (is_begun kind && (may_join counted kind room stay a && keeps_up together own a))
 
--- the connections that have a line that stays, after this line
+-- the connections with a line that stays, up to and including this line
 abbrev pub stay_after : Bool → Pending → List ℕ → List ℕ
 stay_after goes a stay = if goes then stay else a.from ∷ stay
 
--- the connections that have an unnumbered order in the flight, after this line
+-- the connections with an unnumbered order in the flight, up to and including this line
 abbrev pub own_after : Bool → Pending → List ℕ → List ℕ
 own_after goes a own = if goes && a.is_unnumbered then a.from ∷ own else own
 
@@ -264,7 +264,7 @@ abbrev pub is_counted_after : Rules → List ℕ → Proxy → Bool
 is_counted_after r answer f =
     f.is_counted && (r.uses_number answer || (r.is_refusal answer || (r.refuses_number answer && (f.has_refusal && not f.is_resent))))
 
--- the state after an answer to an unnumbered order, as far as it is about numbers
+-- the proxy's numbers after an answer to an unnumbered order
 abbrev pub after_number : Rules → List ℕ → Proxy → Proxy
 after_number r answer f = record f {
   number = next f.number;
@@ -281,7 +281,7 @@ begins_query (a ∷ more) = a.is_query
 abbrev pub view_after : List ℕ → List Pending → Option (List ℕ)
 view_after answer flight = if begins_query flight && length flight == 1 then Some answer else None
 
--- the state after the first line of the flight has got its answer
+-- the state after the first line of the flight gets its answer
 abbrev pub after_first_answer : Rules → List ℕ → Proxy → Proxy
 after_first_answer r answer f = record f {
   flight = rest f.flight;

@@ -13,7 +13,8 @@ AreSerial n (s ∷ more) = (s.serial ≡ n) × AreSerial (n + 1) more
 abbrev pub asks_again : Rules → Answer → Bool
 asks_again r h = h.sent.is_first && (h.sent.is_unnumbered && r.refuses_number h.answer)
 
--- each line that has another answer was sent after every line sent for an older request of the same connection
+-- each answered line was sent after every line sent for an older request of its connection, unless the answer asks for another
+-- number
 abbrev pub IsInOrder : Rules → Run → Type 0
 IsInOrder r w = (h : Answer) (s : Sent) → Contains w.answers h → asks_again r h ≡ false → Contains w.sent s → s.from ≡ h.sent.from → s.place < h.sent.place → s.serial < h.sent.serial
 
@@ -44,11 +45,11 @@ pub record AreTwo (w : Run) (s t : Sent) : Type 0 where
   pub second_own : t.is_unnumbered ≡ true
   pub before : s.serial < t.serial
 
--- a line has another number than an earlier line for the same request only if the server refused the earlier line's number
+-- two lines for the same request have different numbers only if the server refused the number of the earlier line
 abbrev pub HasOneNumber : Rules → Run → Type 0
 HasOneNumber r w = (s t : Sent) → AreTwo w s t → s.place ≡ t.place → (s.number ≡ t.number) ⊎ IsNumberRefused r w.answers s
 
--- a line has the same number as an earlier line for another request, below the greatest number, only if it is known that the
--- earlier line did not use the number
+-- two lines for different requests have the same number, below the greatest number, only if it is known that the earlier line did
+-- not use the number
 abbrev pub IsFresh : Rules → Run → Type 0
 IsFresh r w = (s t : Sent) → AreTwo w s t → s.number ≡ t.number → t.number < 18446744073709551615 → (s.place ≡ t.place) ⊎ IsUnused r w.answers w.counts s

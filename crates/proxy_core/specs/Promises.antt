@@ -71,16 +71,15 @@ pub record IsAllowed (r : Rules) (requests : List Request) (s : Sent) : Type 0 w
 abbrev pub is_once_at : ℕ → Sent → Bool
 is_once_at place s = (s.place == place) && s.is_once
 
--- the line was sent for the request at this place, and is the first one sent for it with the same number
+-- the line is a new one for the request at this place: no line was sent for the request with the same number before
 abbrev pub is_first_at : ℕ → Sent → Bool
 is_first_at place s = (s.place == place) && s.is_first
 
--- the answer refuses the number of the line that was sent for the request at this place, and no line was sent before for the
--- request with that number
+-- the answer refuses the number of a new line for the request at this place
 abbrev pub refuses_number_at : Rules → ℕ → Answer → Bool
 refuses_number_at r place h = (h.sent.place == place) && asks_again r h
 
--- among the lines sent is a first one for the same request, with the same number and the same bytes
+-- the lines sent include a new line for the same request, with the same number and the same bytes
 abbrev pub IsKnown : List Sent → Sent → Type 0
 IsKnown sent s = (t : Sent) × Contains sent t × (t.is_first ≡ true) × (t.place ≡ s.place) × (t.number ≡ s.number) × (t.line ≡ s.line)
 
@@ -149,20 +148,19 @@ pub record Keeps (r : Rules) (w : Run) : Type 0 where
   pub allowed : AllByRecursion (IsAllowed r w.requests) w.sent
   -- for each request, a line that must not be sent twice is sent at most once
   pub once : (place : ℕ) → count_by (is_once_at place) w.sent ≤ 1
-  -- the request at a place is sent for the first time, or with another number, at most once, and once more for each time that the
-  -- server refused its number when the number was sent the first time
+  -- for each request, at most one line is sent that repeats no earlier line, and one more for each answer that refuses the number
+  -- of such a new line
   pub renumbered : (place : ℕ) → count_by (is_first_at place) w.sent ≤ 1 + count_by (refuses_number_at r place) w.answers
-  -- each other line sent repeats, byte for byte, such a first line for the same request
+  -- each other line sent repeats, byte for byte, a new line for the same request
   pub again : AllByRecursion (λ s. s.is_first ≡ false → IsKnown w.sent s) w.sent
   -- an answered line was sent after all lines sent for older requests of its connection, unless the answer refuses the line's
   -- number and the line was not sent before with that number
   pub in_order : IsInOrder r w
   -- the serial numbers of the lines sent are 0, 1, 2 ..
   pub serial : AreSerial 0 w.sent
-  -- a line has another number than an earlier line for the same request only if the server refused the earlier line's number
+  -- two lines for the same request have different numbers only if the server refused the number of the earlier line
   pub one_number : HasOneNumber r w
-  -- a line has the same number as an earlier line for another request only if it is known that the earlier line did not use the
-  -- number
+  -- two lines for different requests have the same number only if it is known that the earlier line did not use the number
   pub fresh : IsFresh r w
   -- a line that needs a view is sent only if the answer to the line sent just before it permits it and has already been heard
   pub follow_views : FollowViews r w

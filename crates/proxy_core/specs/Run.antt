@@ -173,7 +173,7 @@ abbrev pub broke : Run → Option ℕ → Run
 broke w None = record w { proxy = after_broken None w.proxy; wire = [] }
 broke w (Some c) = record w { proxy = after_broken (Some c) w.proxy; in_flight = rest w.in_flight; queued = without c w.queued; ended = c ∷ w.ended; wire = [] }
 
--- the order's connection counts as ended. If the loop keeps the connection open, the loop gives it another number
+-- the run after an order is taken back: the order's connection counts as ended. If the loop keeps it open, it gets another number
 abbrev pub took : Run → Option ℕ → Run
 took w None = w
 took w (Some number) = record w { proxy = after_taken (Some number) w.proxy; in_flight = rest w.in_flight; queued = without (sender_of w.proxy.flight) w.queued; ended = sender_of w.proxy.flight ∷ w.ended }

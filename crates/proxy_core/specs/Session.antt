@@ -20,7 +20,7 @@ pub record Session (r : Rules) (w : Run) (done : List Sent) : Type 0 where
   pub once : (n : ℕ) → count_by (has_number n) done ≤ 1
   -- if an answer refuses a sent line's number, that sent line is not carried out
   pub number_refused : (h : Answer) → Contains w.answers h → r.refuses_number h.answer ≡ true → Contains done h.sent → ⊥
-  -- an order that is refused on its merits had the next number, so no line with this number that was sent by then was carried out
+  -- an order that is refused on its merits had the next number, so neither it nor an earlier line with its number was carried out
   pub order_refused : (h : Answer) → Contains w.answers h → h.sent.is_unnumbered ≡ true → r.is_refusal h.answer ≡ true
       → (s : Sent) → Contains done s → s.is_unnumbered ≡ true → s.number ≡ h.sent.number → h.sent.serial < s.serial
   -- a reply to an order means that a line with its number, sent no later, was carried out, if no other process orders as the
@@ -38,7 +38,7 @@ CountsAreRight w done = (c : Count) → Contains w.counts c → (s : Sent) → C
 abbrev pub AtMostOnce : Type 0
 AtMostOnce = (r : Rules) (events : List Event) (done : List Sent) → Session r (run r new_run events) done → (place : ℕ) → count_by (is_order_at place) done ≤ 1
 
--- if the loop finds the last numbers right, a reply to an unnumbered order means that exactly this request was carried out
+-- if the loop finds the right last numbers, a reply to an unnumbered order means that exactly this request was carried out
 abbrev pub OwnReplies : Type 0
 OwnReplies = (r : Rules) (events : List Event) (done : List Sent) → Session r (run r new_run events) done → CountsAreRight (run r new_run events) done
     → (h : Answer) → Contains (run r new_run events).answers h → h.sent.is_unnumbered ≡ true → r.uses_number h.answer ≡ true

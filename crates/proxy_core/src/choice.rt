@@ -25,7 +25,7 @@ pub(crate) enum Kind {
     Orders,
 }
 
-/// One round of choosing the next flight: the chosen lines, their kind, and the room left.
+/// The result of one round of choosing the next flight: the chosen lines, their kind, and the room left.
 #[derive(Debug, Drop)]
 pub(crate) struct Round {
     picks: Vec<bool>,
@@ -42,7 +42,7 @@ impl Model for Round {
 }
 
 /// Chooses the next flight. Returns for each waiting line whether it flies, or None if no line may fly. If
-/// `is_together`, several unnumbered orders of a connection may fly together, else only one of them.
+/// `is_together`, several unnumbered orders of a connection may fly together, else only one.
 /// Errors: out of memory.
 #[tactic(auto, using(crate::proofs::Picks::led_long, crate::proofs::Picks::none_led, crate::proofs::Picks::some_led))]
 pub(crate) fn choose(

@@ -35,7 +35,7 @@ pub fn taken_back_number()
 {}
 
 /// If the loop finds the right last numbers, and after an order was sent finds one below the order's number, the order
-/// as it was sent is never carried out. Then the connection of an order that was taken back may send it again.
+/// is never carried out with that number. Then the connection of an order that was taken back may send it again.
 pub fn taken_back_in_time()
     ensures { TakenBackInTime }
 {}
@@ -62,8 +62,8 @@ pub fn worked_session()
     ensures { WorkedSession }
 {}
 
-/// Runs in which several orders of one connection fly together, and the orders after a refused order fly again in
-/// order.
+/// Runs in which several orders of one connection fly together. The orders after a refused order fly again, in the
+/// same order.
 pub fn worked_turn()
     ensures { WorkedTurn }
 {}

@@ -4,7 +4,7 @@ ghost use Rattle.std.specs.Prelude.{◌≡◌};
 
 use std::marker::Model;
 
-/// A request line that has no answer yet. Contracts see its bytes.
+/// A request line that has no answer yet. Contracts see the line as its bytes.
 #[derive(Debug, Drop)]
 pub struct Pending {
     from: u64,

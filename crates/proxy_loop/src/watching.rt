@@ -24,7 +24,7 @@ pub(crate) struct Views {
     pub is_fresh: bool,
     /// When the next view is requested.
     pub ask_at: Duration,
-    /// From when on the watchers are sent the next view even if its rows have not changed.
+    /// The time from which watchers are sent the next view even if its rows have not changed.
     pub beat_at: Duration,
     /// The path of the file that the server's signals are printed to.
     pub signals: Option<String>,
@@ -190,7 +190,7 @@ impl<G: Gateway> EventLoop<G> {
     }
 }
 
-/// Returns the part of a view's line that has the rows of nodes and links: between the counts at its begin and its end.
+/// Returns the part of a view's line that has the rows of nodes and links, between the counts at both ends.
 fn rows_of(view: &[u8]) -> &[u8] {
     match (memchr(b',', view), memrchr(b',', view)) {
         (Some(begin), Some(end)) => view.get(begin..end).unwrap_or(view),

@@ -57,7 +57,7 @@ name_of names role = unwrap_or (principal_of names role) []
 abbrev pub RecordsFor : List ℕ → Exchange → Audit → Audit → Type 0
 RecordsFor name e old new = (who : Bor (List ℕ)) × (who.now ≡ name) × RecordsExchange who e old new
 
--- the begin and the end of a connection each add an audit line within the quota, but only if its principal may order
+-- the beginning and the end of a connection each add an audit line within the quota, but only if its principal may order
 abbrev pub RecordsBegin : Bool → List ℕ → ℕ → Moment → Audit → Audit → Type 0
 RecordsBegin true name role at old new = (who : Bor (List ℕ)) × (who.now ≡ name) × RecordsConnection role at (event.Begins who) old new
 RecordsBegin false name role at old new = new ≡ old

@@ -27,7 +27,7 @@ pub(crate) fn judge_reset(
     verdict_of(alloc, judge_line(alloc, view, node, epoch)?)
 }
 
-/// Returns what the loop does with a reset that was judged so. Errors: out of memory.
+/// Returns what the loop does with a reset that has this judgement. Errors: out of memory.
 fn verdict_of(alloc: Global, judged: Judged) -> Result<Verdict, AllocError>
     ensures { IfOk result (λ verdict. Gives verdict judged) }
 {
