@@ -12,8 +12,8 @@ TakenBackNumber = (r : Rules) (events : List Event) (c n : ℕ) → taken_back c
     → (s : Sent) → Contains (run r new_run events).sent s → s.is_unnumbered ≡ true → s.place ≡ first_place (run r new_run events).in_flight
     → (s.number ≡ n) ⊎ IsNumberRefused r (run r new_run events).answers s
 
--- if the loop finds the right last numbers, and after an unnumbered order was sent finds one below the order's number, the order is
--- never carried out with that number
+-- if the loop finds the right last numbers, and after an unnumbered order was sent finds one below the order's number, the order
+-- is never carried out with that number
 abbrev pub TakenBackInTime : Type 0
 TakenBackInTime = (r : Rules) (events : List Event) (done : List Sent) → CountsAreRight (run r new_run events) done
     → (s : Sent) → s.is_unnumbered ≡ true → (c : Count) → Contains (run r new_run events).counts c → s.serial < c.sent → c.last < s.number → Contains done s → ⊥
