@@ -27,19 +27,18 @@ access_principals a = map string_bytes a.principals.items
 abbrev pub principal_of : List (List ℕ) → ℕ → Option (List ℕ)
 principal_of names role = if role == 0 then None else slice_get names (role - 1)
 
--- A principal that already has a role gets a role that it has, and the table does not change.
+-- For a principal that already has a role, the call returns a role of that principal, and the table does not change.
 abbrev pub KeepsItsRole : {E : Type 0} → List (List ℕ) → List (List ℕ) → List ℕ → Result (Option ℕ) E → Type 0
 KeepsItsRole before after name result = (has : ℕ) → principal_of before has ≡ Some name
     → (role : ℕ) × (principal_of before role ≡ Some name) × (result ≡ Ok (Some role)) × (after ≡ before)
 
--- whether a command is a probe: an order of the proxy's client that the server always refuses, with a refusal
--- that depends on the order's number
+-- whether a command is a probe, which confirms epoch 0. The server always refuses a probe, and the refusal depends on the order's
+-- number
 abbrev pub is_probe : Command → Bool
 is_probe (command.Confirm u e) = e == 0
 is_probe x = false
 
--- whether the proxy itself sends a request: only for the settled world, and to find the last number of its
--- client
+-- whether the proxy itself may send a request: only `show`, or a probe as its own client, which finds the client's last number
 abbrev pub is_own : Request → Bool
 is_own (Order c n x) = c == PROXY_CLIENT && is_probe x
 is_own Show = true
@@ -62,12 +61,11 @@ abbrev pub request_or_none : Result Request LineFault → Option Request
 request_or_none (Ok r) = Some r
 request_or_none (Err fault) = None
 
--- the request of a line, or None if the line has a fault
+-- the request that a line makes, or None if the line has a fault
 unfoldable pub request_from : List ℕ → Option Request
 request_from line = request_or_none (asked_by (Some line))
 
--- whether a request is sent to the server; the proxy answers `watch` itself, because the server has no such
--- request
+-- whether a request is sent to the server; the proxy answers `watch` itself, because the server has no such request
 abbrev pub is_for_server : Request → Bool
 is_for_server Watch = false
 is_for_server r = true

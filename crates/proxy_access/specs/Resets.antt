@@ -1,4 +1,4 @@
--- What a view says of a reset that names an epoch.
+-- What a view says about a reset that names an epoch.
 use Rattle.std.specs.Prelude.{◌≡◌, ℕ, ◌==◌, not, Bool, true, false, List, Option, Some, None, Result, Ok, Err, find, if◌then◌else◌}
 use Rattle.std.specs.List.{list_all}
 use Rattle.std.specs.Str.{is_utf8}
@@ -26,7 +26,8 @@ is_ready_mode Converge = false
 abbrev pub is_outside : NodeView → Bool
 is_outside row = is_ready_mode row.mode
 
--- the node has another epoch, or a reset has begun at it, or one is under way elsewhere, or the reset goes
+-- what becomes of a reset of a node that names an epoch. It is refused if the view has no such node, or if the node has another
+-- epoch. It joins a reset in progress at the node. It waits while a reset is in progress only elsewhere. Otherwise it goes
 abbrev pub judged_of : Shown → ℕ → Option NodeView → Judged
 judged_of v epoch None = Refused UnknownNode
 judged_of v epoch (Some row) =
@@ -37,7 +38,7 @@ judged_of v epoch (Some row) =
 abbrev pub judged_by : Shown → ℕ → ℕ → Judged
 judged_by v node epoch = judged_of v epoch (find (is_of node) v.nodes)
 
--- a text that is no view says nothing
+-- a text that is not a view decides nothing, so the reset waits
 abbrev pub judged_if : Result Shown ReadFault → ℕ → ℕ → Judged
 judged_if (Ok v) node epoch = judged_by v node epoch
 judged_if (Err fault) node epoch = Waits
@@ -58,7 +59,7 @@ abbrev pub names_epoch : Request → Bool
 names_epoch (ResetAt node epoch) = true
 names_epoch r = false
 
--- the view has the reset's node with its epoch, and no reset is under way
+-- in the view, the node of the reset has the epoch that the reset names, and no reset is in progress
 abbrev pub permits : List ℕ → Request → Bool
 permits view (ResetAt node epoch) = goes (judged_from view node epoch)
 permits view r = false

@@ -1,4 +1,4 @@
-//! The policy, and the principals of the roles.
+//! The policy, and the principal that each role belongs to.
 
 ghost use Rattle.std.specs.Prelude.{◌≡◌, ◌≢◌, ◌≤◌, ℕ, [], length, map, string_bytes, take, IfNone, IfOk, IfSome, MatchOption, OnErr, Some};
 ghost use Rattle.std.specs.Option.{option_copied};
@@ -14,7 +14,7 @@ use std::alloc::{AllocError, Global};
 pub const PROXY_ROLE: u32 = 0;
 
 impl Access {
-    /// Returns a table without principals.
+    /// Returns a table with this policy and no principals.
     pub fn new(alloc: Global, policy: Policy) -> Self
         ensures rules { access_rules result ≡ policy.rules.items }
         ensures principals { access_principals result ≡ [] }
@@ -25,8 +25,8 @@ impl Access {
         }
     }
 
-    /// Returns the role of a principal, which stays the same from then on. Returns None if
-    /// `MOST_PRINCIPALS` others already have one, and an error if memory runs out.
+    /// Returns the role of a principal, and gives the principal a role if it has none. The role stays the same from
+    /// then on. Returns None if `MOST_PRINCIPALS` other principals already have a role. Errors: out of memory.
     #[tactic(auto, using(crate::proofs::Roles::kept, crate::proofs::Roles::kept_all, crate::proofs::Roles::role_of_last))]
     pub fn role_of(&mut self, alloc: Global, principal: &str) -> Result<Option<u32>, AllocError>
         ensures role { IfOk result (λ found. MatchOption found (length (access_principals self.old) ≡ MOST_PRINCIPALS) (λ role. principal_of (access_principals self.new) role ≡ Some principal.now)) }
@@ -60,7 +60,7 @@ impl Access {
         Some(name.as_str())
     }
 
-    /// Replaces the rules by those of another policy. The principals keep their roles.
+    /// Replaces the policy. The principals keep their roles.
     pub fn replace(&mut self, policy: Policy)
         ensures rules { access_rules self.new ≡ policy.rules.items }
         ensures principals { access_principals self.new ≡ access_principals self.old }
@@ -68,7 +68,7 @@ impl Access {
         self.policy = policy;
     }
 
-    /// Tests whether connections with this role may do more than show and watch.
+    /// Tests whether connections in this role may send any request other than `show` and `watch`.
     pub fn may_order(&self, role: u32) -> bool
         ensures { result ≡ may_order_if (access_rules self.now) (principal_of (access_principals self.now) role) }
     {
@@ -78,7 +78,7 @@ impl Access {
         self.policy.may_order(name)
     }
 
-    /// Tests whether connections with this role may send this request.
+    /// Tests whether connections in this role may send this request.
     pub fn may(&self, role: u32, request: &Request) -> bool
         ensures { result ≡ may (access_rules self.now) (access_principals self.now) role request.now }
     {

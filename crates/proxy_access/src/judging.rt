@@ -1,4 +1,4 @@
-//! Implements the policy that the proxy's core requires.
+//! Implements the `Policy` trait of the proxy's core for `Access`.
 
 ghost use Rattle.std.specs.Prelude.{◌≡◌, IfOk};
 ghost use Rattle.proxy_access.specs.Access.{core_rules, is_for_server, is_own, is_probe, access_principals, request_from, access_rules};
@@ -69,7 +69,7 @@ impl Policy for Access {
     }
 }
 
-/// Returns the request of a line, or None if the line has a fault. Returns an error if memory runs out.
+/// Returns the request that a line makes, or None if the line has a fault. Errors: out of memory.
 #[tactic(auto, unfolding(crate::specs::Access::request_from))]
 fn read(alloc: Global, line: &[u8]) -> Result<Option<Request>, AllocError>
     ensures { IfOk result (λ request. request ≡ request_from line.now) }
@@ -81,7 +81,7 @@ fn read(alloc: Global, line: &[u8]) -> Result<Option<Request>, AllocError>
     }
 }
 
-/// Tests whether a request is one of the server's.
+/// Tests whether a request is sent to the server. The proxy answers `watch` itself.
 fn is_for_server(request: &Request) -> bool
     ensures { result ≡ is_for_server request.now }
 {

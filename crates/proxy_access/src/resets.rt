@@ -1,4 +1,4 @@
-//! Resets that name an epoch: by which views they may go.
+//! Resets that name an epoch: what a view says about each.
 
 ghost use Rattle.std.specs.Prelude.{◌≡◌, find, IfOk};
 ghost use Rattle.std.specs.List.{list_all};
@@ -12,15 +12,17 @@ use proxy_request::Request;
 use std::alloc::{AllocError, Global};
 use std::str;
 
-/// What becomes of a reset that names an epoch.
+/// What becomes of a reset that names an epoch, according to a view.
 #[derive(Clone, Copy, Debug, PartialEq, Eq)]
 pub enum Judged {
-    /// Its node has the epoch, and no reset is under way.
+    /// The node has the named epoch, and no reset is in progress: the reset may be sent.
     Goes,
-    /// Its node has the epoch, and a reset is under way that has not reached it.
+    /// The node has the named epoch and takes part in no reset, but a reset is in progress elsewhere. Either the reset
+    /// has not reached the node, or the node has already gone through it. A view that cannot be read gives this too.
     Waits,
-    /// A reset has reached its node. The settled steps are this many.
+    /// The node has the named epoch and takes part in a reset. The value is the number of settled steps.
     Joined(u64),
+    /// The view has no such node, or the node has another epoch.
     Refused(Refusal),
 }
 
@@ -31,7 +33,8 @@ pub(crate) fn names_epoch(request: &Request) -> bool
     matches!(request, Request::ResetAt(_, _))
 }
 
-/// Returns whether a request is a reset that may go by the line of a view. Errors: out of memory.
+/// Returns whether a request is a reset that names an epoch, and the view in this line permits it. Errors: out of
+/// memory.
 pub(crate) fn permits(alloc: Global, view: &[u8], request: &Request) -> Result<bool, AllocError>
     ensures { IfOk result (λ may. may ≡ permits view.now request.now) }
 {
@@ -43,8 +46,8 @@ pub(crate) fn permits(alloc: Global, view: &[u8], request: &Request) -> Result<b
     }
 }
 
-/// Judges a reset of a node that names an epoch by the line of a view. One that cannot be read says nothing. Errors: out
-/// of memory.
+/// Judges a reset of a node that names an epoch by the view in a line. If the line cannot be read as a view, the reset
+/// waits. Errors: out of memory.
 pub fn judge_line(
     alloc: Global,
     view: &[u8],
@@ -86,7 +89,7 @@ fn judge(view: &View, node: NodeId, epoch: u64) -> Judged
     }
 }
 
-/// Returns the row of a node.
+/// Returns the row of a node in a view, or None if the view has no such node.
 fn row_of(nodes: &[NodeView], node: NodeId) -> Option<&NodeView>
     ensures { option_copied result ≡ find (is_of node) nodes.now }
 {

@@ -5,10 +5,10 @@ ghost use Rattle.proxy_access.specs.declared.table.TheConstants.{MOST_PRINCIPALS
 
 use proxy_policy::Policy;
 
-/// The maximum number of principals that may connect before the proxy is restarted.
+/// The maximum number of principals that may get a role before the proxy is restarted.
 pub const MOST_PRINCIPALS: usize = 65_535;
 
-/// A policy, and the principals that have connected.
+/// A policy, and the principals that have a role.
 #[derive(Debug, Drop)]
 pub struct Access {
     pub(crate) policy: Policy,

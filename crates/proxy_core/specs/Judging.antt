@@ -1,4 +1,4 @@
--- The judgement of a line.
+-- What the rules say about a line from a connection in a role.
 use Rattle.std.specs.Prelude.{ℕ, List}
 use Rattle.proxy_core.specs.declared.policy.Judgement.{Judgement}
 use Rattle.proxy_core.specs.Rules.{Rules}

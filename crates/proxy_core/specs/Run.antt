@@ -1,4 +1,4 @@
--- A run of the proxy: everything that arrives and leaves, over its clients' connections and over those to the server.
+-- A run of the proxy: everything that arrives and leaves, over its clients' connections and over its connections to the server.
 use Rattle.std.specs.Prelude.{ℕ, ◌+◌, ◌==◌, not, Bool, true, false, List, [], ◌∷◌, ◌++◌, Option, Some, None, if◌then◌else◌, filter, length}
 use Rattle.proxy_core.specs.declared.proxy.Admission.{Admission}
 use Rattle.proxy_core.specs.declared.proxy.Admission.TheVariants.{Queued, Denied, Deferred}
@@ -10,7 +10,7 @@ use Rattle.proxy_core.specs.Machine.{Proxy, new_proxy, admission, after_admissio
 
 -- a line that was accepted from a connection
 pub record Request : Type 0 where
-  pub place : ℕ  -- the number of lines taken before it, which no code knows
+  pub place : ℕ  -- the number of lines accepted before this one; no code keeps it
   pub from : ℕ
   pub role : ℕ
   pub line : List ℕ
@@ -18,32 +18,31 @@ pub record Request : Type 0 where
 -- a line that was written to the server
 pub record Sent : Type 0 where
   pub from : ℕ  -- the connection of the request
-  pub place : ℕ  -- of the request
-  pub serial : ℕ  -- the number of lines written before it
+  pub place : ℕ  -- the place of the request
+  pub serial : ℕ  -- the number of lines written before this one
   pub line : List ℕ
-  pub number : ℕ  -- the one that it has if the proxy numbers it
-  pub is_once : Bool  -- it must not be sent twice
-  pub is_unnumbered : Bool  -- it has a number of the proxy
-  pub is_first : Bool  -- it was not sent before with this number
-  pub taken : ℕ  -- the number of lines that had been taken when it was written
+  pub number : ℕ  -- the line's number, if the proxy numbers the line
+  pub is_once : Bool  -- the line must not be sent twice
+  pub is_unnumbered : Bool  -- the line has a number that the proxy gave it
+  pub is_first : Bool  -- the line was not sent before with this number
+  pub taken : ℕ  -- the number of lines that had been accepted when this one was written
 
 -- an answer that a connection received
 pub record Delivery : Type 0 where
   pub to : ℕ
-  pub place : ℕ  -- of the request
-  pub answer : Option (List ℕ)  -- None: the proxy denies the line
+  pub place : ℕ  -- the place of the request
+  pub answer : Option (List ℕ)  -- None if the proxy denied the line
 
--- an answer of the server, and the sent line that it answers: over each connection, the k-th answer is to the k-th
--- line
+-- an answer of the server, with the sent line that it answers: over each connection, the k-th answer is to the k-th line
 pub record Answer : Type 0 where
   pub sent : Sent
   pub answer : List ℕ
-  pub heard : ℕ  -- the number of lines that had been written when it was heard
+  pub heard : ℕ  -- the number of lines that had been written when the answer was heard
 
--- a last number that the loop found
+-- a last number of the proxy's client that the loop found
 pub record Count : Type 0 where
   pub last : ℕ
-  pub sent : ℕ  -- the number of lines that had been written by then
+  pub sent : ℕ  -- the number of lines that had been written when the loop found it
 
 pub record Run : Type 0 where
   pub proxy : Proxy
@@ -53,19 +52,19 @@ pub record Run : Type 0 where
   pub delivered : List Delivery
   pub ended : List ℕ  -- the connections that have ended
   pub sent : List Sent  -- each line that was ever written to the server
-  pub wire : List Sent  -- the lines written over the present connection that it has brought no answer to
+  pub wire : List Sent  -- the lines that were written over the present connection and have no answer yet
   pub answers : List Answer
   pub counts : List Count
 
 pub data Event : Type 0 where
   Arrives : (c role : ℕ) → (line : List ℕ) → Event  -- a line arrives from a connection in this role
   Leaves : (c : ℕ) → Event  -- a connection ends
-  Flies : (picks : List Bool) → Event  -- these waiting lines become the flight, if they may
-  Follows : (c role : ℕ) → (line : List ℕ) → Event  -- a line that needs a view arrives from a connection in this role, and is sent if it may follow the view that was just heard
+  Flies : (picks : List Bool) → Event  -- these waiting lines become the flight, if they may go
+  Follows : (c role : ℕ) → (line : List ℕ) → Event  -- a line that needs a view arrives from a connection in this role; it is sent if it may follow the view that was just heard
   Answers : (answer : List ℕ) → Event  -- the server answers
   Breaks : Event  -- the connection to the server breaks
-  TakesBack : (c : ℕ) → Event  -- the loop takes the first order of the flight back, if it is of this connection, and that to the server is down
-  Connects : Event  -- a new one stands, unless a line that needs a view is to be taken back first
+  TakesBack : (c : ℕ) → Event  -- the loop takes back the flight's first line, if this is an unnumbered order of connection c and the server's connection is down
+  Connects : Event  -- the proxy connects to the server again, unless a line that needs a view has to be taken back first
   Counts : (last : ℕ) → Event  -- the loop found the last number of the proxy's client
 
 abbrev pub new_run : Run
@@ -101,7 +100,7 @@ abbrev pub first_place : List Request → ℕ
 first_place [] = 0
 first_place (a ∷ more) = a.place
 
--- the lines of a flight as they are written, each with the place of its request
+-- the lines of a flight as they are written to the server, each with the place of its request
 abbrev pub written : Rules → ℕ → Bool → ℕ → ℕ → List Request → List Pending → List Sent
 written r taken first serial number asks [] = []
 written r taken first serial number asks (x ∷ xs) =
@@ -120,7 +119,7 @@ went r picks w = record w {
 abbrev pub by_view : Run → Run
 by_view w = record w { proxy = record (w.proxy) { needs_view = true } }
 
--- a line that needs a view is accepted and written at once
+-- a line that needs a view is accepted and written at once, or denied, or not taken
 abbrev pub followed : Rules → Run → ℕ → ℕ → List ℕ → Admission → Run
 followed r w c role line Queued = by_view (went r (true ∷ []) (came r w c role line Queued))
 followed r w c role line Denied = came r w c role line Denied
@@ -139,7 +138,7 @@ abbrev pub answer_of : ℕ → List Sent → List ℕ → List Answer
 answer_of heard [] answer = []
 answer_of heard (s ∷ more) answer = record { sent = s; answer = answer; heard = heard } ∷ []
 
--- an ended connection receives nothing
+-- the deliveries with this answer added, unless its connection has ended: an ended connection receives nothing
 abbrev pub delivered_too : List ℕ → List Delivery → ℕ → ℕ → List ℕ → List Delivery
 delivered_too ended delivered c place answer = if is_ended c ended then delivered else delivered ++ record { to = c; place = place; answer = Some answer } ∷ []
 
@@ -174,14 +173,14 @@ abbrev pub broke : Run → Option ℕ → Run
 broke w None = record w { proxy = after_broken None w.proxy; wire = [] }
 broke w (Some c) = record w { proxy = after_broken (Some c) w.proxy; in_flight = rest w.in_flight; queued = without c w.queued; ended = c ∷ w.ended; wire = [] }
 
--- the order's connection ends: if the loop keeps it, it has another number from then on
+-- the run after an order is taken back: the order's connection counts as ended. If the loop keeps it open, it gets another number
 abbrev pub took : Run → Option ℕ → Run
 took w None = w
 took w (Some number) = record w { proxy = after_taken (Some number) w.proxy; in_flight = rest w.in_flight; queued = without (sender_of w.proxy.flight) w.queued; ended = sender_of w.proxy.flight ∷ w.ended }
 
 -- ----
 
--- an ended connection sends nothing, and no answer arrives without a connection to the server
+-- the run after an event. An ended connection sends nothing, and no answer arrives while the proxy isn't connected to the server
 abbrev pub happens : Rules → Run → Event → Run
 happens r w (Arrives c role line) = if is_ended c w.ended then w else came r w c role line (admission r c role line w.proxy)
 happens r w (Leaves c) = record w { proxy = without_connection c w.proxy; queued = without c w.queued; ended = c ∷ w.ended }

@@ -1,6 +1,6 @@
--- Runs with known results. In the first run, the server refuses the first one of two orders without a number on its merits, so that
--- it refuses the number of the second; that one is sent again with the number that is free, its connection breaks, and it is sent
--- again.
+-- Runs with known results. In the first run, the server refuses the first of two unnumbered orders on its merits, so it also
+-- refuses the number of the second order. The second order is sent again with the free number. Then the server's connection
+-- breaks, and the order is sent once more.
 use Rattle.std.specs.Prelude.{◌≡◌, ℕ, ◌==◌, ◌||◌, not, Bool, true, false, List, [], ◌∷◌, Some, map}
 use Rattle.proxy_core.specs.Rules.{Rules}
 use Rattle.proxy_core.specs.Pending.{Pending}
@@ -12,8 +12,8 @@ abbrev pub begins_with : ℕ → List ℕ → Bool
 begins_with n [] = false
 begins_with n (x ∷ xs) = x == n
 
--- lines 1 and 3 are orders without a number, and every other line is a query; answer 0 is a reply, 1 refuses a number, 2 an order. Line
--- 3 needs a view, and the views that begin with 7 permit it
+-- a line that begins with 1 or 3 is an unnumbered order, and every other line is a query. An answer that begins with 0 is a
+-- reply, with 1 refuses a number, and with 2 refuses an order. A line that begins with 3 needs a view that begins with 7
 abbrev pub worked_rules : Rules
 worked_rules = record {
   allows = λ role line. true;
@@ -29,7 +29,7 @@ worked_rules = record {
   permits = λ view line. begins_with 7 view;
 }
 
--- connections 5 and 6, and the last number 9
+-- connections 5 and 6 send an order each, and the last number found is 9
 abbrev pub worked_events : List Event
 worked_events =
     Arrives 5 0 (1 ∷ []) ∷ Arrives 6 0 (1 ∷ []) ∷ Connects ∷ Counts 9 ∷ Flies (true ∷ true ∷ []) ∷ Answers (2 ∷ []) ∷ Answers (1 ∷ [])
@@ -47,8 +47,9 @@ pub record WorkedRun : Type 0 where
   pub firsts : map (λ (s : Sent). s.is_first) worked_run.sent ≡ true ∷ true ∷ true ∷ false ∷ []
   pub delivered : worked_run.delivered ≡ delivery 5 0 (2 ∷ []) ∷ delivery 6 1 (0 ∷ []) ∷ []
 
--- three orders of connection 5 and one of connection 6 fly together. The server carries out the first one and refuses the second one
--- on its merits, so it refuses the numbers of the other two. They wait again, before an order of connection 5 that arrived meanwhile
+-- three orders of connection 5 and one of connection 6 fly together. The server carries out the first order and refuses the
+-- second on its merits, so it refuses the numbers of the other two. These two wait again, before an order of connection 5 that
+-- arrived during the flight
 abbrev pub turn_events : List Event
 turn_events =
     Arrives 5 0 (1 ∷ 1 ∷ []) ∷ Arrives 5 0 (1 ∷ 2 ∷ []) ∷ Arrives 5 0 (1 ∷ 3 ∷ []) ∷ Arrives 6 0 (1 ∷ 4 ∷ []) ∷ Connects ∷ Counts 9 ∷ Flies (true ∷ true ∷ true ∷ true ∷ [])
@@ -57,16 +58,16 @@ turn_events =
 abbrev pub turn_run : Run
 turn_run = run worked_rules new_run turn_events
 
--- they fly again, and the server carries them out
+-- the two orders fly again, with the one that arrived, and the server carries out all three
 abbrev pub again_run : Run
 again_run = run worked_rules turn_run (Flies (true ∷ true ∷ true ∷ []) ∷ Answers (0 ∷ []) ∷ Answers (0 ∷ []) ∷ Answers (0 ∷ []) ∷ [])
 
--- they fly again, and the server refuses the number of the first one but carries out the others, which its rule forbids. Connection 5
--- ends, since the answer to its last order would come before that to an older one
+-- the three orders fly, and the server refuses the number of the first but carries out the others, which its rule forbids.
+-- Connection 5 ends, because the answer to its last order would come before the answer to an older order
 abbrev pub overtaken_run : Run
 overtaken_run = run worked_rules turn_run (Flies (true ∷ true ∷ true ∷ []) ∷ Answers (1 ∷ []) ∷ Answers (0 ∷ []) ∷ Answers (0 ∷ []) ∷ [])
 
--- an order of connection 5 that arrived with a number of its own, or without one
+-- an order of connection 5: an unnumbered one if `own` is true, else one that arrived with a number
 abbrev pub order : Bool → Pending
 order own = record { from = 5; line = 1 ∷ []; is_once = false; is_query = false; is_unnumbered = own }
 
@@ -83,7 +84,7 @@ pub record WorkedTurn : Type 0 where
   pub ended : overtaken_run.ended ≡ 5 ∷ []
   pub dropped : overtaken_run.queued ≡ []
 
--- connection 6 asks for a view, and connection 5 for what needs one
+-- the run in which connection 6 asks for a view and gets this answer; `follows` is a line of connection 5 that needs a view
 abbrev pub viewed : List ℕ → Run
 viewed answer = run worked_rules new_run (Connects ∷ Counts 9 ∷ Arrives 6 0 (4 ∷ []) ∷ Flies (true ∷ []) ∷ Answers answer ∷ [])
 
@@ -96,18 +97,18 @@ sent_after answer events = map (λ (s : Sent). s.place) (run worked_rules (viewe
 pub record WorkedView : Type 0 where
   pub permitted : sent_after (7 ∷ []) (follows ∷ []) ≡ 0 ∷ 1 ∷ []
   pub not_permitted : sent_after (8 ∷ []) (follows ∷ []) ≡ 0 ∷ []
-  -- it does not wait as other lines do
+  -- the line that needs a view does not wait as other lines do
   pub not_queued : sent_after (7 ∷ []) (Arrives 5 0 (3 ∷ []) ∷ Flies (true ∷ []) ∷ []) ≡ 0 ∷ []
-  -- an order was sent after the view, or the connection broke
+  -- the line is not sent if an order was sent after the view, or if the server's connection broke after the view
   pub overtaken : sent_after (7 ∷ []) (Arrives 6 0 (1 ∷ []) ∷ Flies (true ∷ []) ∷ Answers (0 ∷ []) ∷ follows ∷ []) ≡ 0 ∷ 1 ∷ []
   pub broken : sent_after (7 ∷ []) (Breaks ∷ Connects ∷ follows ∷ []) ≡ 0 ∷ []
-  -- it is not sent again: the loop takes it back
+  -- the line is not sent again after a break: the loop takes it back
   pub once : sent_after (7 ∷ []) (follows ∷ Breaks ∷ Connects ∷ []) ≡ 0 ∷ 1 ∷ []
   pub taken_back : sent_after (7 ∷ []) (follows ∷ Breaks ∷ TakesBack 5 ∷ Connects ∷ []) ≡ 0 ∷ 1 ∷ []
-  -- nor is it given another number
+  -- the line is not sent with another number after its number was refused
   pub refused : sent_after (7 ∷ []) (follows ∷ Answers (1 ∷ []) ∷ Flies (true ∷ []) ∷ []) ≡ 0 ∷ 1 ∷ []
 
--- the server carried out the third sending, and nothing else
+-- the third sent line, the only one that the server carried out in the first run
 abbrev pub third_sending : Sent
 third_sending = record { from = 6; place = 1; serial = 2; line = 10 ∷ 1 ∷ []; number = 10; is_once = false; is_unnumbered = true; is_first = true; taken = 2 }
 

@@ -17,7 +17,7 @@ use std::marker::Model;
 pub(crate) enum Kind {
     /// The flight has no line yet.
     Any,
-    /// Its line must not be sent twice, and flies alone.
+    /// One line that must not be sent twice, and so flies alone.
     Alone,
     /// Queries.
     Queries,
@@ -25,7 +25,7 @@ pub(crate) enum Kind {
     Orders,
 }
 
-/// One round of choosing the next flight: the chosen lines, their kind, and the room left.
+/// The result of one round of choosing the next flight: the chosen lines, their kind, and the room left.
 #[derive(Debug, Drop)]
 pub(crate) struct Round {
     picks: Vec<bool>,
@@ -41,8 +41,9 @@ impl Model for Round {
     ghost view = { λ r. record { picks = r.picks.items; kind = r.kind; room = r.room } };
 }
 
-/// Chooses the next flight, and returns for each waiting line whether it flies, or None if none may. The
-/// unnumbered orders of a connection fly together, or one at a time. Errors: out of memory.
+/// Chooses the next flight. Returns for each waiting line whether it flies, or None if no line may fly. If
+/// `is_together`, several unnumbered orders of a connection may fly together, else only one.
+/// Errors: out of memory.
 #[tactic(auto, using(crate::proofs::Picks::led_long, crate::proofs::Picks::none_led, crate::proofs::Picks::some_led))]
 pub(crate) fn choose(
     alloc: Global,
@@ -60,7 +61,8 @@ pub(crate) fn choose(
     Ok(Some(fill(alloc, waiting, is_counted, is_together, &first)?))
 }
 
-/// The first round: the first waiting line of each connection, if it may fly. Errors: out of memory.
+/// Runs the first round: picks the first waiting line of each connection, if the line may fly. Errors: out of
+/// memory.
 fn lead(alloc: Global, waiting: &VecDeque<Pending>, is_counted: bool) -> Result<Round, AllocError>
     ensures { IfOk result (λ round. round ≡ led is_counted waiting.now.items) }
 {
@@ -79,7 +81,7 @@ fn lead(alloc: Global, waiting: &VecDeque<Pending>, is_counted: bool) -> Result<
     Ok(Round { picks, kind, room })
 }
 
-/// The second round: further lines while there is room. Errors: out of memory.
+/// Runs the second round: adds further lines to those of the first round while there is room. Errors: out of memory.
 fn fill(
     alloc: Global,
     waiting: &VecDeque<Pending>,
@@ -115,7 +117,7 @@ fn fill(
 }
 
 /// Returns whether a line may fly: there is room, its number is known, it is of the flight's kind, and
-/// its connection is none of `staying`.
+/// its connection is not in `staying`.
 fn is_joining(
     is_counted: bool,
     kind: Kind,
@@ -131,8 +133,9 @@ fn is_joining(
         && !staying.contains(&pending.from())
 }
 
-/// Returns whether a line flies in the second round: it did in the first one, or it may join. After an
-/// unnumbered order of its connection only another one may, if those of a connection fly together.
+/// Returns whether a line flies in the second round: the first round picked it, or it may join. After an
+/// unnumbered order that flies, a line of the same connection may join only if it is an unnumbered order too,
+/// and if `is_together`.
 fn is_filling(
     leads: bool,
     is_counted: bool,
@@ -151,7 +154,7 @@ fn is_filling(
             && ((is_together && pending.is_unnumbered()) || !unnumbered.contains(&pending.from())))
 }
 
-/// Returns whether a line may fly with lines of a kind.
+/// Returns whether a line may fly in a flight of this kind.
 fn is_of_kind(kind: Kind, pending: &Pending) -> bool
     ensures { result ≡ joins kind pending.now }
 {
@@ -163,7 +166,7 @@ fn is_of_kind(kind: Kind, pending: &Pending) -> bool
     }
 }
 
-/// Returns the kind of the flight after this line, if it flies.
+/// Returns the flight's kind after this line, which joins the flight if `goes`.
 fn kind_with(goes: bool, kind: Kind, pending: &Pending) -> Kind
     ensures { result ≡ kind_after goes kind pending.now }
 {
@@ -179,22 +182,23 @@ fn kind_with(goes: bool, kind: Kind, pending: &Pending) -> Kind
     }
 }
 
-/// Returns the room after a line, if it flies.
+/// Returns how many more lines the flight has room for after a line, which joins the flight if `goes`.
 fn room_with(goes: bool, room: usize) -> usize
     ensures { result ≡ room_after goes room }
 {
     if goes { room.saturating_sub(1) } else { room }
 }
 
-/// Returns the room after a line of the second round. The lines of the first one took theirs before.
+/// Returns how many more lines the flight has room for after a line of the second round. A line of the first round
+/// takes no more room.
 fn room_left(leads: bool, goes: bool, room: usize) -> usize
     ensures { result ≡ room_after (not leads && goes) room }
 {
     room_with(!leads && goes, room)
 }
 
-/// Adds a line's connection to one of the sets, if the line stays, or if it is an unnumbered order that
-/// flies. Errors: out of memory.
+/// Adds a line's connection to `staying` if the line does not fly, or to `unnumbered` if the line is an unnumbered
+/// order that flies. Errors: out of memory.
 fn note(
     staying: &mut BTreeSet<u64>,
     unnumbered: &mut BTreeSet<u64>,
@@ -212,7 +216,7 @@ fn note(
     Ok(())
 }
 
-/// Takes the picked lines out of the waiting ones. Errors: out of memory; nothing changes.
+/// Removes the picked lines from the waiting lines, and returns them. Errors: out of memory; nothing changes.
 pub(crate) fn take_out(
     alloc: Global,
     waiting: &mut VecDeque<Pending>,

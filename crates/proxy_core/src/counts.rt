@@ -1,4 +1,4 @@
-//! The number of lines of each connection that are without an answer.
+//! The number of each connection's lines that have no answer.
 
 ghost use Rattle.std.specs.Prelude.{◌≡◌, ◌-◌, ◌==◌, ℕ, OnErr, OnOk, if◌then◌else◌};
 ghost use Rattle.proxy_core.specs.Held.{held_at};
@@ -6,7 +6,7 @@ ghost use Rattle.proxy_core.specs.Held.{held_at};
 use std::alloc::AllocError;
 use std::collections::BTreeMap;
 
-/// Returns the number of lines of a connection.
+/// Returns the number of a connection's lines that have no answer.
 pub(crate) fn held_by(held: &BTreeMap<u64, usize>, connection: u64) -> usize
     ensures { result ≡ held_at held.now connection }
 {
@@ -16,7 +16,7 @@ pub(crate) fn held_by(held: &BTreeMap<u64, usize>, connection: u64) -> usize
     }
 }
 
-/// Sets the number of lines of a connection. Errors: out of memory; nothing changes.
+/// Sets the number of a connection's lines. Errors: out of memory; nothing changes.
 pub(crate) fn hold(
     held: &mut BTreeMap<u64, usize>,
     connection: u64,
@@ -29,7 +29,7 @@ pub(crate) fn hold(
     Ok(())
 }
 
-/// Subtracts a number of lines of a connection, and drops the entry if none is left.
+/// Subtracts `count` from the number of a connection's lines, and removes the entry if no line is left.
 pub(crate) fn release(held: &mut BTreeMap<u64, usize>, connection: u64, count: usize)
     ensures { (c : ℕ) → held_at held.new c ≡ (if connection == c then held_at held.old c - count else held_at held.old c) }
 {

@@ -1,9 +1,10 @@
-//! The core of the proxy, a state machine: which request lines wait for the server, which ones are in
-//! flight, and whose each answer is. It reads and writes nothing: a loop over sockets calls it.
+//! The core of the proxy, a state machine: which request lines wait for the server, which lines are in
+//! flight, and which connection each answer goes to. The core does no input or output: a loop over sockets
+//! calls it.
 //!
-//! `specs/Machine.antt` defines what each call does, `specs/Run.antt` a whole run of the proxy, with all
-//! that comes to it and leaves it, and `specs/Promises.antt` what holds of every run. The main theorem is
-//! `laws::every_run`.
+//! `specs/Machine.antt` defines what each call does. `specs/Run.antt` defines a whole run of the proxy, with
+//! everything that arrives and leaves. `specs/Promises.antt` defines what holds for every run. The main
+//! theorem is `laws::every_run`.
 #![tactic(auto)]
 
 mod choice;

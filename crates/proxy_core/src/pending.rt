@@ -4,7 +4,7 @@ ghost use Rattle.std.specs.Prelude.{◌≡◌};
 
 use std::marker::Model;
 
-/// A request line that has no answer yet. Contracts see its bytes.
+/// A request line that has no answer yet. Contracts see the line as its bytes.
 #[derive(Debug, Drop)]
 pub struct Pending {
     from: u64,
@@ -43,35 +43,36 @@ impl Pending {
         }
     }
 
-    /// The connection that sent it.
+    /// Returns the number of the connection that sent the line.
     pub fn from(&self) -> u64
         ensures { result ≡ self.now.from }
     {
         self.from
     }
 
-    /// The line as it came, without its line feed.
+    /// Returns the line as it arrived, without its line feed.
     pub fn line(&self) -> &[u8]
         ensures { result.now ≡ self.now.line }
     {
         self.line.as_slice()
     }
 
-    /// Whether it must not be sent to the server a second time.
+    /// Returns whether the line must not be sent to the server a second time.
     pub fn is_once(&self) -> bool
         ensures { result ≡ self.now.is_once }
     {
         self.is_once
     }
 
-    /// Whether it is a query: the server changes nothing for it.
+    /// Returns whether the line is a query: the server changes nothing for it.
     pub fn is_query(&self) -> bool
         ensures { result ≡ self.now.is_query }
     {
         self.is_query
     }
 
-    /// Whether it is an order without a client and a number, which the proxy spells with its own.
+    /// Returns whether the line is an order that arrived without a client and a number. The proxy sends such an order
+    /// with its own client and number.
     pub fn is_unnumbered(&self) -> bool
         ensures { result ≡ self.now.is_unnumbered }
     {

@@ -1,4 +1,4 @@
-//! How the proxy reads lines and answers, and who may send what.
+//! How the proxy reads lines and answers, and who may send which lines.
 
 ghost use Rattle.std.specs.Prelude.{◌≡◌, IfOk};
 ghost use Rattle.proxy_core.specs.Judging.{judgement};
@@ -6,22 +6,22 @@ ghost use Rattle.proxy_core.specs.Rules.{Rules};
 
 use std::alloc::{AllocError, Global};
 
-/// What the core has to know of a line.
+/// What the core has to know about a line.
 #[derive(Clone, Copy, Debug, PartialEq, Eq)]
 pub struct Judgement {
-    /// Its connection may send it.
+    /// The connection that sent the line may send it.
     pub is_allowed: bool,
-    /// It must not be sent to the server a second time, as `close`.
+    /// The line must not be sent to the server a second time; an example is `close`.
     pub is_once: bool,
-    /// It is a query: the server changes nothing for it.
+    /// The line is a query: the server changes nothing for it.
     pub is_query: bool,
-    /// It is an order without a client and a number.
+    /// The line is an order without a client and a number.
     pub is_unnumbered: bool,
-    /// It may be sent only right after a view that permits it, as a reset that names an epoch.
+    /// The line may be sent only right after a view that permits it; an example is a reset that names an epoch.
     pub needs_view: bool,
 }
 
-/// How lines and answers are read, and who may send what. Contracts see it as `Rules`.
+/// How lines and answers are read, and who may send which lines. Contracts see a policy as `Rules`.
 pub trait Policy {
     ghost rules: { Self → Rules };
 
@@ -29,12 +29,12 @@ pub trait Policy {
     fn judge(&self, alloc: Global, role: u32, line: &[u8]) -> Result<Judgement, AllocError>
         ensures { IfOk result (λ judged. judged ≡ judgement (rules self.now) role line.now) };
 
-    /// Spells an order without a client and a number with the proxy's client and this number. Errors:
-    /// out of memory.
+    /// Returns an order that has no client and number as a line with the proxy's client and this number, without its
+    /// line feed. Errors: out of memory.
     fn spell(&self, alloc: Global, number: u64, line: &[u8]) -> Result<Vec<u8>, AllocError>
         ensures { IfOk result (λ text. text.items ≡ (rules self.now).spelled number line.now) };
 
-    /// Returns whether the answer refuses the number, and not the order.
+    /// Returns whether the answer refuses the order's number, not the order itself.
     fn refuses_number(&self, answer: &[u8]) -> bool
         ensures { result ≡ (rules self.now).refuses_number answer.now };
 
@@ -42,16 +42,16 @@ pub trait Policy {
     fn uses_number(&self, answer: &[u8]) -> bool
         ensures { result ≡ (rules self.now).uses_number answer.now };
 
-    /// Returns whether the answer refuses an order on its merits. Then its number was the next one, and it
-    /// is not used.
+    /// Returns whether the answer refuses an order on its merits. Then the order's number was the next one, and the
+    /// number is not used.
     fn is_refusal(&self, answer: &[u8]) -> bool
         ensures { result ≡ (rules self.now).is_refusal answer.now };
 
-    /// Returns whether the answer to a line that was sent twice leaves open what became of it.
+    /// Returns whether the answer to a line that was sent twice does not say whether the line was carried out.
     fn is_inconclusive(&self, answer: &[u8]) -> bool
         ensures { result ≡ (rules self.now).is_inconclusive answer.now };
 
-    /// Returns whether this view permits a line that needs one. Errors: out of memory.
+    /// Returns whether this view permits a line that needs a view. Errors: out of memory.
     fn permits(&self, alloc: Global, view: &[u8], line: &[u8]) -> Result<bool, AllocError>
         ensures { IfOk result (λ permits. permits ≡ (rules self.now).permits view.now line.now) };
 }

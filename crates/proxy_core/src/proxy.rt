@@ -1,4 +1,4 @@
-//! The state machine.
+//! The proxy's state machine.
 
 ghost use Rattle.std.specs.Prelude.{◌≡◌, ◌≤◌, ◌<◌, ◌↔◌, [], ◌∷◌, true, IfOk, OnErr, IsTrue, IsSome, length, filter, count_by, take, option_map, ◌&&◌, ◌||◌, not};
 ghost use Rattle.proxy_core.specs.Rules.{Rules, as_sent, needs_number};
@@ -16,38 +16,38 @@ use std::alloc::{AllocError, Global};
 use std::collections::{BTreeMap, VecDeque};
 use std::marker::Model;
 
-/// The maximum number of lines of one connection without an answer. Further lines are deferred.
+/// The maximum number of a connection's lines that have no answer. Further lines are deferred.
 pub const MOST_HELD: usize = 64;
 
-/// The maximum number of lines in a flight, which the server commits at once.
+/// The maximum number of lines in a flight. The server commits a flight at once.
 pub const MOST_FLIGHT_LINES: usize = 256;
 
 /// What becomes of a line that arrives.
 #[derive(Clone, Copy, Debug, PartialEq, Eq)]
 pub enum Admission {
-    /// It waits for the server, or is the next flight.
+    /// The line was taken: it waits for the server, or is the next flight.
     Queued,
-    /// Its sender may not send it. The loop answers so at once.
+    /// The sender may not send the line. The loop answers so at once.
     Denied,
-    /// It was not taken. The loop offers it again after the next answer to its connection, or after another view.
+    /// The line was not taken. The loop offers it again after the next answer to its connection, or after another view.
     Deferred,
 }
 
-/// Whose an answer of the server is.
+/// Where a server's answer goes.
 #[derive(Clone, Copy, Debug, PartialEq, Eq)]
 pub enum Outcome {
-    /// It goes to this connection.
+    /// The answer goes to this connection.
     To(u64),
-    /// It leaves open what became of a line of this connection, or it would come before the answer to an
-    /// older line. The loop ends the connection.
+    /// The answer does not say whether a line of this connection was carried out, or refuses the number of a line that
+    /// gets no other number, or would come before the answer to an older line. The loop ends the connection.
     Ended(u64),
-    /// It refuses the number of a line of this connection. The line waits again, for another number.
+    /// The answer refuses the number of a line of this connection. The line waits again, for another number.
     Retry(u64),
-    /// Nothing was in flight. The loop leaves the server's connection.
+    /// No line was in flight. The loop closes the connection to the server.
     Unsolicited,
 }
 
-/// The request lines of all connections that have no answer.
+/// The state machine. It holds the request lines of all connections that have no answer.
 #[derive(Debug, Drop)]
 pub struct Proxy {
     flight: VecDeque<Pending>,
@@ -107,8 +107,8 @@ impl Proxy {
         held_by(&self.held, connection) < most
     }
 
-    /// Takes a line that arrived from a connection in this role. A line that needs a view is deferred:
-    /// `start_after_view` takes it. Errors: out of memory; nothing changes.
+    /// Takes a line that arrived from a connection in this role, and returns what becomes of the line. A line that
+    /// needs a view is deferred: `start_after_view` takes it. Errors: out of memory; nothing changes.
     pub fn admit<P: Policy>(
         &mut self,
         alloc: Global,
@@ -145,8 +145,8 @@ impl Proxy {
         Ok(Admission::Queued)
     }
 
-    /// Returns what becomes of a line that its sender may not send: its denial comes after the answers to all
-    /// lines before it.
+    /// Returns what becomes of a line that its sender may not send: the line is deferred until all earlier lines of its
+    /// connection have their answers, and then denied.
     fn denial(&self, connection: u64) -> Admission
         ensures { result ≡ denial connection self.now }
     {
@@ -157,8 +157,8 @@ impl Proxy {
         }
     }
 
-    /// Returns whether a waiting line of a connection in this role is one that the policy does not allow. After a
-    /// change of the policy the loop ends each such connection. Errors: out of memory.
+    /// Returns whether a connection in this role has a waiting line that the policy does not allow. After the policy
+    /// changes, the loop ends each such connection. Errors: out of memory.
     pub fn has_denied<P: Policy>(
         &self,
         alloc: Global,
@@ -176,13 +176,16 @@ impl Proxy {
         Ok(false)
     }
 
-    /// Makes a flight of waiting lines if there is none, and returns the number of its lines, which the
-    /// loop writes to the server. The flight is the oldest line that may fly, and with it all lines of its
-    /// kind that may: queries fly together, and so do orders; none flies before an older line of its
-    /// connection, none but an unnumbered order after one of its connection, and an unnumbered order only
-    /// while the last number is known. After a flight with an order that was refused on its merits each
-    /// connection gets one unnumbered order in, since the server refuses the numbers of all orders that
-    /// follow a refused one. If there are too many, each connection gets one in before any gets its second.
+    /// Makes a flight of waiting lines, and returns the number of its lines, which the loop writes to the
+    /// server. Returns 0 if there is a flight already, if the proxy is not connected, or if no line may fly.
+    ///
+    /// The flight is the oldest line that may fly, with all lines of the same kind that may: queries fly
+    /// together, and so do orders. A line does not fly before an older line of its connection. After an
+    /// unnumbered order that flies, a later line of its connection flies only if it is an unnumbered order too.
+    /// An unnumbered order flies only while the last number is known. After a flight with an order that was
+    /// refused on its merits, only one unnumbered order of each connection flies, since the server refuses the
+    /// numbers of all orders after a refused one. If there are too many lines, each connection gets one line
+    /// in before any connection gets its second.
     /// Errors: out of memory; nothing changes.
     #[tactic(auto, using(crate::proofs::Picks::picks_length, crate::proofs::Picks::picks_may_go))]
     pub fn start_flight(&mut self, alloc: Global) -> Result<usize, AllocError>
@@ -210,11 +213,11 @@ impl Proxy {
         Ok(count)
     }
 
-    /// Takes a line that needs a view, from a connection in this role. The line is the next flight, and no
-    /// other line is in it, if no line is without an answer, the last number is known, and the view that was
-    /// just heard permits the line. The view is the answer to the last line that was sent, over the same
-    /// connection to the server. Otherwise the line is deferred, until after another view. Errors: out of
-    /// memory; nothing changes.
+    /// Takes a line that needs a view, from a connection in this role, and returns what becomes of the line. The
+    /// line alone becomes the next flight if no line is without an answer, the last number is known (if the line
+    /// gets a number), and the view that was just heard permits the line. This view is the answer to the last line
+    /// that was sent, over the same connection to the server. Otherwise the line is deferred until after another
+    /// view. Errors: out of memory; nothing changes.
     pub fn start_after_view<P: Policy>(
         &mut self,
         alloc: Global,
@@ -257,7 +260,7 @@ impl Proxy {
         Ok(Admission::Queued)
     }
 
-    /// Returns whether a line that needs a view may be sent. Errors: out of memory.
+    /// Returns whether a line that needs a view may be sent now. Errors: out of memory.
     fn may_follow<P: Policy>(
         &self,
         alloc: Global,
@@ -298,9 +301,9 @@ impl Proxy {
         Ok(text)
     }
 
-    /// Takes an answer line of the server, and returns whose it is. The answer to a query that is the last
-    /// line sent is kept: it is a view that a line may need. Errors: out of memory; nothing changes, and the
-    /// loop leaves the server's connection.
+    /// Takes an answer line of the server, and returns where the answer goes. If the line that it answers is a
+    /// query and the last line that was sent, the answer is kept as a view that another line may need. Errors: out
+    /// of memory; nothing changes, and the loop closes the connection to the server.
     pub fn answer<P: Policy>(
         &mut self,
         alloc: Global,
@@ -340,7 +343,7 @@ impl Proxy {
         Ok(outcome)
     }
 
-    /// Returns whose an answer of the server is.
+    /// Returns where an answer of the server goes.
     fn outcome<P: Policy>(&self, policy: &P, answer: &[u8]) -> Outcome
         ensures { result ≡ outcome (P.rules policy.now) answer.now self.now }
     {
@@ -364,15 +367,15 @@ impl Proxy {
         Outcome::To(connection)
     }
 
-    /// Returns whether an answer ends the connection of its line: it leaves open what became of a line that
-    /// was sent twice, or it would come before the answer to an older line.
+    /// Returns whether an answer ends this connection: the answer does not say whether a line that was sent twice was
+    /// carried out, or would come before the answer to an older line.
     fn ends<P: Policy>(&self, policy: &P, answer: &[u8], connection: u64) -> bool
         ensures { result ≡ ((self.now.is_resent && (P.rules policy.now).is_inconclusive answer.now) || is_late self.now connection) }
     {
         (self.is_resent && policy.is_inconclusive(answer)) || self.is_late(connection)
     }
 
-    /// Returns whether an older line of a connection waits again, since the server refused its number in this
+    /// Returns whether an older line of a connection waits again, because the server refused the line's number in this
     /// flight.
     fn is_late(&self, connection: u64) -> bool
         ensures { result ≡ is_late self.now connection }
@@ -380,8 +383,7 @@ impl Proxy {
         count_from(&self.waiting, self.refused, connection) > 0
     }
 
-    /// Notes what an answer to the first order of the flight, which has a number of the proxy, says of the
-    /// numbers.
+    /// Updates the numbers after an answer to the first line of the flight, an order that the proxy gave a number.
     fn count<P: Policy>(&mut self, policy: &P, answer: &[u8])
         ensures { self.new ≡ after_number (P.rules policy.now) answer.now self.old }
     {
@@ -396,8 +398,7 @@ impl Proxy {
         self.has_refusal = self.has_refusal || is_refusal;
     }
 
-    /// Sets the last number of the proxy's client, which the loop found while no unnumbered order was in
-    /// flight.
+    /// Sets the last number of the proxy's client. The loop found it while no unnumbered order was in flight.
     pub fn set_last_number(&mut self, last: u64)
         ensures { self.new ≡ counted last self.old }
     {
@@ -405,7 +406,7 @@ impl Proxy {
         self.is_counted = true;
     }
 
-    /// Drops the waiting lines of a connection that has ended. Its lines in flight keep their places.
+    /// Drops the waiting lines of a connection that has ended. The connection's lines in flight stay in the flight.
     pub fn forget(&mut self, connection: u64)
         ensures { self.new ≡ without_connection connection self.old }
     {
@@ -420,9 +421,9 @@ impl Proxy {
         );
     }
 
-    /// Notes that the connection to the server broke. The flight is sent again as it was. Only a line
-    /// that must not be sent twice is dropped: then this returns its connection, which the loop ends,
-    /// since nobody knows what became of the line.
+    /// Records that the connection to the server broke. The flight is to be sent again with the same bytes. Only a
+    /// line that must not be sent twice is dropped: then this returns the line's connection, and the loop ends the
+    /// connection, since nobody knows whether the line was carried out.
     pub fn server_lost(&mut self) -> Option<u64>
         ensures told { result ≡ lost self.old }
         ensures after { self.new ≡ after_broken result self.old }
@@ -440,10 +441,10 @@ impl Proxy {
         Some(connection)
     }
 
-    /// Takes back the first line of the flight after the connection to the server broke, if it is an unnumbered order
-    /// of this connection, and returns the number that it was sent with. The line is not sent again, and its connection
-    /// counts as ended. Nobody knows yet whether the number was used, so unnumbered orders wait until the last number is
-    /// found.
+    /// Takes back the first line of the flight after the connection to the server broke, if the line is an unnumbered
+    /// order of this connection. Returns the number that the line was sent with, or None if no line is taken back. The
+    /// line is not sent again, and its connection counts as ended. Nobody knows yet whether the number was used, so
+    /// unnumbered orders wait until the loop finds the last number.
     pub fn take_back(&mut self, connection: u64) -> Option<u64>
         ensures told { result ≡ taken_back connection self.old }
         ensures after { self.new ≡ after_taken result self.old }
@@ -461,9 +462,9 @@ impl Proxy {
         Some(number)
     }
 
-    /// Notes that the connection to the server stands. Returns true if it did not before: then the loop
-    /// writes the flight. If the flight is a line that needs a view, nothing changes: the loop takes it back
-    /// first.
+    /// Records that the proxy is connected to the server. Returns true if it was not connected before: then the loop
+    /// writes the flight. If the flight is a line that needs a view, nothing changes and this returns false: the loop
+    /// takes the line back first.
     pub fn server_connected(&mut self) -> bool
         ensures told { result ≡ may_connect self.old }
         ensures up { self.new ≡ after_connection self.old }
@@ -473,14 +474,14 @@ impl Proxy {
         may
     }
 
-    /// Returns whether a connection has the answers to all its lines.
+    /// Returns whether no line of a connection is in flight or waits.
     pub fn is_awaiting_nothing(&self, connection: u64) -> bool
         ensures { IsTrue result ↔ (held connection self.now < 1) }
     {
         self.holds_fewer(connection, 1)
     }
 
-    /// Returns the line that the next answer is to, if it is an order.
+    /// Returns the line that the server's next answer belongs to, if this line is an order.
     pub fn next_order(&self) -> Option<&[u8]>
         ensures { option_copied result ≡ next_order self.now.flight }
     {
@@ -491,7 +492,8 @@ impl Proxy {
         Some(first.line())
     }
 
-    /// Returns the number that the proxy gave to the line that the next answer is to, if it is an unnumbered order.
+    /// Returns the number that the proxy gave to the line that the server's next answer belongs to, if this line is an
+    /// unnumbered order.
     pub fn next_number(&self) -> Option<u64>
         ensures { result ≡ next_number self.now.number self.now.flight }
     {
@@ -502,8 +504,8 @@ impl Proxy {
         }
     }
 
-    /// Returns the view that was just heard: the answer to the last line that was sent, if that is a query and the
-    /// connection to the server has stood since.
+    /// Returns the view that was just heard: the answer to the last line that was sent, if that line is a query and the
+    /// connection to the server has not broken since.
     pub fn view(&self) -> Option<&[u8]>
         ensures { option_copied result ≡ self.now.view }
     {
@@ -513,22 +515,21 @@ impl Proxy {
         }
     }
 
-    /// Returns whether the last number of the proxy's client is known. While it is not, unnumbered orders
-    /// wait.
+    /// Returns whether the last number of the proxy's client is known. While it is unknown, unnumbered orders wait.
     pub fn is_counted(&self) -> bool
         ensures { result ≡ self.now.is_counted }
     {
         self.is_counted
     }
 
-    /// Returns whether the connection to the server stands.
+    /// Returns whether the proxy is connected to the server.
     pub fn is_up(&self) -> bool
         ensures { result ≡ self.now.is_up }
     {
         self.is_up
     }
 
-    /// Returns whether no line is without an answer.
+    /// Returns whether no line is in flight and no line waits.
     pub fn is_idle(&self) -> bool
         ensures { IsTrue result ↔ ((self.now.flight ≡ []) × (self.now.waiting ≡ [])) }
     {
@@ -536,7 +537,8 @@ impl Proxy {
     }
 }
 
-/// Returns the answer to the last line of a flight, if that is a query. Errors: out of memory.
+/// Returns a copy of this answer, if it is to the last line of a flight and that line is a query. Errors: out of
+/// memory.
 fn view_after(
     alloc: Global,
     flight: &VecDeque<Pending>,
@@ -550,7 +552,7 @@ fn view_after(
     Ok(Some(Vec::from_slice(alloc, answer)?))
 }
 
-/// Returns whether the first line is a query.
+/// Returns whether the first line of the flight is a query.
 fn begins_query(flight: &VecDeque<Pending>) -> bool
     ensures { result ≡ begins_query flight.now.items }
 {
@@ -560,7 +562,8 @@ fn begins_query(flight: &VecDeque<Pending>) -> bool
     }
 }
 
-/// Returns whether a line is one of this connection that its role may not send. Errors: out of memory.
+/// Returns whether a line is from this connection, and connections in this role may not send it. Errors: out of
+/// memory.
 fn is_denied<P: Policy>(
     alloc: Global,
     policy: &P,
@@ -577,7 +580,8 @@ fn is_denied<P: Policy>(
     Ok(!judgement.is_allowed)
 }
 
-/// Returns a line as it is written, with this number if it has none. Errors: out of memory.
+/// Returns a line as it is written to the server, without its line feed. An unnumbered order gets this number. Errors:
+/// out of memory.
 fn written<P: Policy>(
     alloc: Global,
     policy: &P,
@@ -600,7 +604,7 @@ fn refuses_number<P: Policy>(policy: &P, answer: &[u8], pending: &Pending) -> bo
     pending.is_unnumbered() && policy.refuses_number(answer)
 }
 
-/// Returns how many of the first `most` lines are of a connection.
+/// Returns how many of the first `most` lines are from this connection.
 fn count_from(lines: &VecDeque<Pending>, most: usize, connection: u64) -> usize
     requires { most ≤ length lines.now.items }
     ensures { result ≡ count_by (is_from connection) (take most lines.now.items) }
@@ -614,7 +618,7 @@ fn count_from(lines: &VecDeque<Pending>, most: usize, connection: u64) -> usize
     count
 }
 
-/// Puts a line among the waiting ones, after the first ones, whose numbers were refused before.
+/// Inserts a line into the waiting lines, after the first `refused` lines, whose numbers were refused before.
 fn put_back(waiting: &mut VecDeque<Pending>, refused: usize, pending: Pending)
     requires within { refused ≤ length waiting.old.items }
     requires reserved { deque_len waiting.old < deque_capacity waiting.old }
@@ -624,7 +628,7 @@ fn put_back(waiting: &mut VecDeque<Pending>, refused: usize, pending: Pending)
     let _ = waiting.insert(refused, pending);
 }
 
-/// Drops the lines of a connection.
+/// Drops the waiting lines of a connection.
 fn keep_others(waiting: &mut VecDeque<Pending>, connection: u64)
     ensures { waiting.new.items ≡ filter (λ a. not (is_from connection a)) waiting.old.items }
 {
@@ -638,7 +642,7 @@ fn is_none(lines: &VecDeque<Pending>) -> bool
     lines.is_empty()
 }
 
-/// Returns whether the first line must not be sent twice.
+/// Returns whether the first line of the flight must not be sent twice.
 fn begins_once(flight: &VecDeque<Pending>) -> bool
     ensures { IsTrue result ↔ IsSome (lost_of flight.now.items) }
 {
@@ -648,7 +652,7 @@ fn begins_once(flight: &VecDeque<Pending>) -> bool
     }
 }
 
-/// Returns whether the first line is an unnumbered order of a connection.
+/// Returns whether the first line of the flight is an unnumbered order of this connection.
 fn begins_order(flight: &VecDeque<Pending>, connection: u64) -> bool
     ensures { result ≡ begins_order connection flight.now.items }
 {

@@ -23,47 +23,49 @@ use std::time::Duration;
 /// The answer to a line that its sender may not send, without its line feed.
 pub(crate) const NOT_ALLOWED: &[u8] = b"{\"fault\":\"NotAllowed\"}";
 
+/// A client's connection, with its lines and answers.
 #[derive(Drop)]
 pub(crate) struct Connection {
     pub stream: UnixStream,
     pub number: u64,
-    /// None until the header has come that says who the client is.
+    /// The client's role. None until the header that says who the client is has arrived.
     pub role: Option<u32>,
-    /// The bytes of that header that have come.
+    /// The bytes of this header that have arrived.
     pub header: Vec<u8>,
-    /// When the connection came.
+    /// When the connection was accepted.
     pub since: Duration,
     pub inbox: Inbox,
     outbox: Outbox,
-    /// When each of its lines was taken that has no answer, or was kept from being taken before that.
+    /// For each line without an answer, oldest first, when the line was taken, or when it was first kept back.
     pub asked: VecDeque<Duration>,
-    /// There may be bytes to read.
+    /// Whether there may be bytes to read.
     pub is_readable: bool,
-    /// The other end sends no more: what there is is read up to its end, since no further event comes.
+    /// Whether the client has closed its sending side. No further event comes then, so the stream is read to its end.
     pub is_closing: bool,
-    /// The input has ended.
+    /// Whether the input has ended.
     pub has_ended: bool,
-    /// Its next line waits for an answer to an earlier one.
+    /// Whether the next line waits for the answer to an earlier line.
     pub is_deferred: bool,
-    /// Its next line is a reset of a node that names an epoch, which is judged or on its way.
+    /// The node and the epoch that the next line names, if it is a reset that waits to be judged or is on its way.
     pub reset: Option<(NodeId, u64)>,
-    /// Its next line waits until no reset is judged.
+    /// Whether the next line waits until the resets are judged.
     pub is_parked: bool,
-    /// When its next line was kept from being taken, since a reset was judged; None if it was not.
+    /// Since when the next line is kept back because a reset is judged. None if the line is not kept back.
     pub kept_since: Option<Duration>,
-    /// It is among those that have something to do.
+    /// Whether the connection is in the list of connections that have something to do.
     pub is_active: bool,
-    /// Since when its client has taken none of its answers.
+    /// Since when the client has taken no bytes of its unsent answers. None if sending is not blocked.
     pub blocked_since: Option<Duration>,
     pub is_watching: bool,
-    /// Its last line is a `watch`, which is answered with a view that is asked for after this many.
+    /// If the last line is a `watch` without an answer, the number of views that were requested before it. A view that
+    /// is requested later answers the `watch`.
     pub view_after: Option<u64>,
-    /// The newest view is sent to it after all its answers.
+    /// Whether the newest view is to be sent after all earlier answers.
     pub owes_view: bool,
 }
 
 impl Connection {
-    /// Returns a connection of which nothing has come.
+    /// Returns a connection that has received no bytes yet.
     pub fn new(
         alloc: Global,
         stream: UnixStream,
@@ -101,7 +103,8 @@ impl Connection {
         }
     }
 
-    /// Reads once, if all that came before is in the line. Errors: out of memory.
+    /// Reads from the stream once, if all bytes read before are in the next line and this line is not complete. Errors:
+    /// out of memory.
     pub fn fill(&mut self) -> Result<(), AllocError>
         ensures who { (self.new.number ≡ self.old.number) × (self.new.role ≡ self.old.role) }
         ensures others { (self.new.outbox ≡ self.old.outbox) × (self.new.asked ≡ self.old.asked) × (self.new.reset ≡ self.old.reset) × (self.new.is_deferred ≡ self.old.is_deferred) }
@@ -137,14 +140,14 @@ impl Connection {
         self.is_readable = false;
     }
 
-    /// Returns the number of bytes of its answers that are not sent yet.
+    /// Returns the number of answer bytes that are not sent yet.
     pub fn unsent(&self) -> usize
         ensures { result ≡ length self.now.outbox }
     {
         self.outbox.len()
     }
 
-    /// Returns how long its oldest line without an answer has waited.
+    /// Returns how long the oldest line without an answer has waited, or zero if every line has its answer.
     pub fn waited(&self, now: Duration) -> Duration
         ensures { as_nanos result ≡ waited_since (as_nanos now) self.now.asked.items }
     {
@@ -154,14 +157,14 @@ impl Connection {
         }
     }
 
-    /// Notes that its next line is kept from being taken, unless that was noted before.
+    /// Notes that the next line is kept back, unless that was noted before.
     pub fn keep(&mut self, now: Duration)
         ensures { self.new ≡ record self.old { kept_since = Some (unwrap_or self.old.kept_since now) } }
     {
         self.kept_since = Some(self.kept_since.unwrap_or(now));
     }
 
-    /// Returns an exchange of its oldest line without an answer.
+    /// Returns the exchange for the answer to the oldest line without an answer.
     pub fn exchange<'l, 'a>(
         &self,
         kind: ExchangeKind,
@@ -183,8 +186,8 @@ impl Connection {
         }
     }
 
-    /// Notes what became of its next line: one that waits for the server is taken, one that is denied is answered and
-    /// taken, and one that is deferred stays. Errors: out of memory.
+    /// Does what the core's admission of the next line requires: a queued line is taken, a denied line is answered and
+    /// taken, and a deferred line stays. Errors: out of memory.
     pub fn settle<G: Gateway>(
         &mut self,
         alloc: Global,
@@ -212,7 +215,8 @@ impl Connection {
         Ok(())
     }
 
-    /// Answers its next line itself, after all before it: the answer is recorded first. Errors: out of memory.
+    /// Answers the next line without the server, after all earlier answers. The answer is recorded before it is sent.
+    /// Errors: out of memory.
     pub fn refuse<G: Gateway>(
         &mut self,
         alloc: Global,
@@ -237,8 +241,8 @@ impl Connection {
         Ok(())
     }
 
-    /// Takes the answer to its oldest line that has none: it is sent after all before it, and the next line may be
-    /// taken. Errors: out of memory.
+    /// Takes the answer to the oldest line without an answer, to be sent after all earlier answers. Then the next line
+    /// may be taken. Errors: out of memory.
     pub fn give(&mut self, answer: &Recorded<'_>) -> Result<(), AllocError>
         ensures sent { OnOk result (self.new.outbox ≡ self.old.outbox ++ (answer.now.answer.now ++ 10 ∷ [])) }
         ensures taken { self.old.reset ≡ None → OnOk result (self.new.inbox ≡ self.old.inbox) }
@@ -256,7 +260,7 @@ impl Connection {
         Ok(())
     }
 
-    /// Appends a view to what it is sent. Errors: out of memory.
+    /// Adds a view after the unsent answers. Errors: out of memory.
     pub fn show(&mut self, view: &[u8]) -> Result<(), AllocError>
         ensures sent { OnOk result (self.new.outbox ≡ self.old.outbox ++ (view.now ++ 10 ∷ [])) }
         ensures who { (self.new.number ≡ self.old.number) × (self.new.role ≡ self.old.role) }
@@ -264,7 +268,7 @@ impl Connection {
         self.outbox.push_line(view)
     }
 
-    /// Sends its answers, as far as its client takes them. Returns false if the connection has failed.
+    /// Sends as many bytes of the unsent answers as the client takes. Returns false if the connection has failed.
     pub fn send<G: Gateway>(&mut self, _written: &Written<'_, G>, now: Duration) -> bool
         ensures sent { (part : List ℕ) × (self.old.outbox ≡ part ++ self.new.outbox) }
         ensures whole { result ≡ true → self.new.blocked_since ≡ None → self.new.outbox ≡ [] }

@@ -1,7 +1,7 @@
-//! Resets that name an epoch: each goes to the server alone, right after a view by which it may go, over the connection
-//! that the view came over. The core sends none in any other way. If that connection is lost before the answer, the reset
-//! is not sent again: the last number of the proxy's client shows whether it was carried out, and if not, it is judged by
-//! another view.
+//! Resets that name an epoch. Each reset is sent to the server alone, right after a view that permits it, over the
+//! connection that brought the view. The core sends such a reset in no other way. If that connection is lost before the
+//! answer, the reset is not sent again. The last number of the proxy's client then shows whether the reset was carried
+//! out. If it was not, the reset is judged by another view.
 
 ghost use Rattle.std.specs.Prelude.{◌≡◌, [], false, None, Some};
 ghost use Rattle.std.specs.Duration.{as_nanos};
@@ -17,28 +17,28 @@ use std::alloc::{AllocError, Global};
 use std::collections::VecDeque;
 use std::time::Duration;
 
-/// How long after a view another is asked for, while a reset waits for the end of another one, in milliseconds.
+/// How many milliseconds after a view the next one is requested, while a reset waits for another reset to end.
 const PAUSE: u64 = 20;
 
-/// The resets that name an epoch.
+/// The resets that name an epoch and have no answer yet.
 #[derive(Drop)]
 pub(crate) struct Resets {
-    /// The places of the connections whose next line is one.
+    /// The places of the connections whose next line is a reset that waits to be judged.
     pub waiting: VecDeque<usize>,
-    /// The places of connections whose lines wait meanwhile.
+    /// The places of the connections whose next line waits until the resets are judged.
     pub parked: VecDeque<usize>,
-    /// No line is taken, so that nothing goes to the server between the view and the reset.
+    /// Whether no line is taken, so that no line goes to the server between the view and the reset.
     pub is_holding: bool,
-    /// The resets were judged by the last view.
+    /// Whether the resets were judged by the last view.
     pub is_judged: bool,
-    /// When the next one is judged.
+    /// When the waiting resets are judged next.
     pub judge_at: Duration,
-    /// The number of the connection whose reset the core has.
+    /// The number of the connection whose reset was handed to the core and has no answer yet.
     pub on_its_way: Option<u64>,
 }
 
 impl Resets {
-    /// Returns no resets.
+    /// Returns the state in which there are no resets.
     pub fn new(alloc: Global) -> Self
         ensures none { (result.waiting.items ≡ []) × (result.parked.items ≡ []) × (result.on_its_way ≡ None) }
         ensures idle { (result.is_holding ≡ false) × (result.is_judged ≡ false) × (as_nanos result.judge_at ≡ 0) }
@@ -53,7 +53,7 @@ impl Resets {
         }
     }
 
-    /// Notes an answer to the connection of a number.
+    /// Records that the connection with this number got an answer, so its reset is no longer on its way.
     pub fn note_answer(&mut self, number: u64)
         ensures answered { self.old.on_its_way ≡ Some number → self.new.on_its_way ≡ None }
         ensures others { (self.new.waiting ≡ self.old.waiting) × (self.new.parked ≡ self.old.parked) × (self.new.is_judged ≡ self.old.is_judged) × (self.new.is_holding ≡ self.old.is_holding) }
@@ -65,8 +65,8 @@ impl Resets {
 }
 
 impl<G: Gateway> EventLoop<G> {
-    /// Takes a reset that names an epoch, the line of the connection at a place, after all answers to its earlier
-    /// lines.
+    /// Defers the next line of the connection at a place, a reset that names an epoch. Once all earlier lines of the
+    /// connection have their answers, the reset waits to be judged. Errors: out of memory.
     pub(crate) fn take_reset(
         &mut self,
         place: usize,
@@ -85,7 +85,7 @@ impl<G: Gateway> EventLoop<G> {
         Ok(())
     }
 
-    /// Keeps the line of the connection at a place until no reset is judged.
+    /// Keeps the next line of the connection at a place until the resets are judged. Errors: out of memory.
     pub(crate) fn park(&mut self, place: usize) -> Result<(), AllocError> {
         if let Some(connection) = self.connections.get_mut(place) {
             if !connection.is_parked {
@@ -96,7 +96,8 @@ impl<G: Gateway> EventLoop<G> {
         Ok(())
     }
 
-    /// Returns when the resets that wait are judged next; None if none waits, or if a view is awaited for it.
+    /// Returns when the waiting resets are judged next. Returns None if no reset waits, or if the loop already holds
+    /// back other lines to judge them.
     pub(crate) fn judged_at(&self) -> Option<Duration> {
         if self.resets.waiting.is_empty() || self.resets.is_holding {
             None
@@ -105,7 +106,8 @@ impl<G: Gateway> EventLoop<G> {
         }
     }
 
-    /// Begins to judge, or asks for the view, or lets the others go on. Called before each flight.
+    /// If waiting resets are due to be judged, holds back all other lines. Once no line is without an answer and the
+    /// last number is known, also requests the view to judge by. Called before each flight. Errors: out of memory.
     pub(crate) fn prepare_resets(&mut self) -> Result<(), AllocError> {
         if self.resets.waiting.is_empty()
             || self.resets.is_judged
@@ -120,8 +122,8 @@ impl<G: Gateway> EventLoop<G> {
         Ok(())
     }
 
-    /// Judges the resets that wait by the view that was just heard, if no line is without an answer. The first one that
-    /// may go is sent alone. Called before anything else is sent.
+    /// Judges the waiting resets by the view that was just heard, if no line is without an answer. The first reset that
+    /// may go is sent alone. Called before anything else is sent. Errors: out of memory.
     pub(crate) fn judge_resets(&mut self) -> Result<(), AllocError> {
         let is_fresh = self.views.is_fresh;
         self.views.is_fresh = false;
@@ -146,7 +148,8 @@ impl<G: Gateway> EventLoop<G> {
         Ok(())
     }
 
-    /// Judges the reset of the connection at a place. Returns whether no other may be judged by this view.
+    /// Judges the reset of the connection at a place. Returns true if no other reset may be judged by this view.
+    /// Errors: out of memory.
     fn judge_at(&mut self, place: usize) -> Result<bool, AllocError> {
         let Some(connection) = self.connections.get_mut(place) else {
             return Ok(false);
@@ -197,7 +200,8 @@ impl<G: Gateway> EventLoop<G> {
         }
     }
 
-    /// Lets the lines of others be taken, once the reset that may go is on its way.
+    /// Lets other lines be taken again, once the resets are judged and the one that may go is on its way. Errors: out
+    /// of memory.
     pub(crate) fn release(&mut self) -> Result<(), AllocError> {
         if !self.resets.is_judged || (self.in_flight == 0 && !self.core.is_idle()) {
             return Ok(());
@@ -216,7 +220,8 @@ impl<G: Gateway> EventLoop<G> {
         Ok(())
     }
 
-    /// Judges a reset of the connection at a place again, whose number was refused.
+    /// Has the reset of the connection at a place judged again, after the server refused the reset's number. Errors:
+    /// out of memory.
     pub(crate) fn judge_again(&mut self, place: usize) -> Result<(), AllocError> {
         if self.renumber(place)?.is_some() {
             self.resets.waiting.push_back(place)?;
@@ -224,8 +229,8 @@ impl<G: Gateway> EventLoop<G> {
         Ok(())
     }
 
-    /// Gives the connection at a place another number, and has the core drop its waiting lines. If no number is left, the
-    /// connection is ended.
+    /// Gives the connection at a place another number, and returns this number. The core drops the connection's waiting
+    /// lines. If no number is left, ends the connection and returns None. Errors: out of memory.
     pub(crate) fn renumber(&mut self, place: usize) -> Result<Option<u64>, AllocError> {
         let Some(number) = self.next_number(place) else {
             self.end(place)?;
@@ -239,8 +244,8 @@ impl<G: Gateway> EventLoop<G> {
         Ok(Some(number))
     }
 
-    /// Takes back the reset that is on its way, after the server's connection was lost. If it was sent, the last number
-    /// has to be found first; if not, it is judged again.
+    /// Takes back the reset that is on its way, after the server's connection was lost. If the core had sent the reset,
+    /// the loop first has to find the last number. If not, the reset is judged again. Errors: out of memory.
     pub(crate) fn withdraw_reset(&mut self) -> Result<(), AllocError> {
         let Some(connection) = self.resets.on_its_way.take() else {
             return Ok(());

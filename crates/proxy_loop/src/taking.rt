@@ -1,4 +1,4 @@
-//! Lines that come from clients.
+//! Taking the lines that arrive from clients.
 
 use crate::connection::NOT_ALLOWED;
 use crate::event_loop::EventLoop;
@@ -15,7 +15,8 @@ const TOO_LONG: &[u8] = b"{\"fault\":\"TooLong\"}";
 const UNFINISHED: &[u8] = b"{\"fault\":\"Unfinished\"}";
 
 impl<G: Gateway> EventLoop<G> {
-    /// Does what each active connection has to do. Those that have more to do are active again.
+    /// Runs one step of each active connection. A connection that has more to do becomes active again. Errors: out of
+    /// memory.
     pub(crate) fn step_all<R: Files<File = File> + AllocGlobal + Print + Eprint>(
         &mut self,
         rt: &R,
@@ -29,7 +30,8 @@ impl<G: Gateway> EventLoop<G> {
         Ok(())
     }
 
-    /// Takes lines of the connection at a place, sends its answers, and ends it if it is over.
+    /// Takes lines of the connection at a place, sends its answers, and ends the connection if it is finished. Errors:
+    /// out of memory.
     fn step<R: Files<File = File> + AllocGlobal + Print + Eprint>(
         &mut self,
         rt: &R,
@@ -48,7 +50,8 @@ impl<G: Gateway> EventLoop<G> {
         self.end_if_over(place)
     }
 
-    /// Takes lines of the connection at a place, up to a number of them. Returns whether there may be more.
+    /// Takes lines of the connection at a place, in at most `MOST_AT_ONCE` steps. Returns whether there may be more
+    /// lines. Errors: out of memory.
     fn take_lines(&mut self, place: usize) -> Result<bool, AllocError> {
         for _ in 0..MOST_AT_ONCE {
             let Some(connection) = self.connections.get_mut(place) else {
@@ -82,7 +85,7 @@ impl<G: Gateway> EventLoop<G> {
         Ok(true)
     }
 
-    /// Takes the line of the connection at a place, or defers it.
+    /// Takes the next line of the connection at a place, or answers or defers it. Errors: out of memory.
     fn take_line(&mut self, place: usize) -> Result<(), AllocError> {
         let Some(connection) = self.connections.get_mut(place) else {
             return Ok(());
@@ -128,7 +131,8 @@ impl<G: Gateway> EventLoop<G> {
         }
     }
 
-    /// Answers the line of the connection at a place, after all answers to its earlier lines.
+    /// Answers the next line of the connection at a place without the server. The line is deferred until all earlier
+    /// lines have their answers. Errors: out of memory.
     pub(crate) fn refuse(
         &mut self,
         place: usize,
@@ -146,12 +150,12 @@ impl<G: Gateway> EventLoop<G> {
         Ok(())
     }
 
-    /// Answers a line whose line feed doesn't come.
+    /// Answers the last line of the connection at a place, which ended without a line feed. Errors: out of memory.
     fn take_unfinished(&mut self, place: usize) -> Result<(), AllocError> {
         self.refuse(place, ExchangeKind::Fault, UNFINISHED)
     }
 
-    /// Sends the answers of the connection at a place. One that failed is ended.
+    /// Sends the answers of the connection at a place, and ends the connection if it has failed. Errors: out of memory.
     fn send<R: Files<File = File> + AllocGlobal + Print + Eprint>(
         &mut self,
         rt: &R,
@@ -173,7 +177,7 @@ impl<G: Gateway> EventLoop<G> {
         Ok(())
     }
 
-    /// Ends the connection at a place if it sends no more, and has all its answers.
+    /// Ends the connection at a place if its client sends no more and all its answers are sent. Errors: out of memory.
     fn end_if_over(&mut self, place: usize) -> Result<(), AllocError> {
         let Some(connection) = self.connections.get(place) else {
             return Ok(());

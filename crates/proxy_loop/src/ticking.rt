@@ -1,4 +1,4 @@
-//! What time brings.
+//! What the loop does when a time is reached.
 
 use crate::event_loop::EventLoop;
 use crate::gateway::Gateway;
@@ -7,7 +7,7 @@ use std::alloc::AllocError;
 use std::time::Duration;
 
 impl<G: Gateway> EventLoop<G> {
-    /// Returns how long to wait for events at most; None for as long as there is none.
+    /// Returns how long the loop may wait for events. None means without a limit.
     pub(crate) fn timeout(&self) -> Option<Duration> {
         if !self.active.is_empty() || self.has_waiting_connections() {
             return Some(Duration::ZERO);
@@ -35,12 +35,13 @@ impl<G: Gateway> EventLoop<G> {
         }
     }
 
-    /// Returns whether connections wait, and may be accepted now.
+    /// Returns whether new connections wait to be accepted and may be accepted now.
     pub(crate) fn has_waiting_connections(&self) -> bool {
         self.at.now >= self.accept_at && self.listeners.iter().any(|listener| listener.is_ready)
     }
 
-    /// Returns whether a line waits for its answer, or an answer for its client.
+    /// Returns whether a connection may become late: a client has not sent its header, a line waits for its answer, or
+    /// an answer waits for its client.
     fn needs_sweep(&self) -> bool {
         self.has_blocked
             || self.open.contains_key(&0)
@@ -48,8 +49,8 @@ impl<G: Gateway> EventLoop<G> {
             || !self.core.is_idle()
     }
 
-    /// Leaves a silent or an idle server, asks for a view, and ends late connections, each when it is due. Errors: out
-    /// of memory.
+    /// Closes the connection to a silent server, or an idle one, requests a view, and ends late connections, each when
+    /// it is due. Errors: out of memory.
     pub(crate) fn tick(&mut self) -> Result<(), AllocError> {
         if let Some(at) = self.silent_at() {
             if self.at.now >= at {
@@ -72,7 +73,8 @@ impl<G: Gateway> EventLoop<G> {
         Ok(())
     }
 
-    /// Ends each connection that has had no answer for too long, or has taken none.
+    /// Ends each connection whose header or answer is late, or whose client has taken no bytes for too long. Errors:
+    /// out of memory.
     fn sweep(&mut self) -> Result<(), AllocError> {
         self.has_blocked = false;
         for place in 0..self.connections.capacity() {
@@ -121,7 +123,7 @@ impl<G: Gateway> EventLoop<G> {
     }
 }
 
-/// Returns the earlier of two moments.
+/// Returns the earlier of two times. None means never.
 fn earlier(one: Option<Duration>, other: Option<Duration>) -> Option<Duration> {
     match (one, other) {
         (Some(one), Some(other)) => Some(one.min(other)),

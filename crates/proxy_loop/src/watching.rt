@@ -1,4 +1,4 @@
-//! Connections that watch.
+//! Connections that watch: the loop sends them each new view.
 
 ghost use Rattle.std.specs.Prelude.{◌≡◌, [], false};
 ghost use Rattle.std.specs.Duration.{as_nanos, max_nanos};
@@ -12,29 +12,31 @@ use std::fs;
 use std::fs::Files;
 use std::time::Duration;
 
-/// How often the length of the file of signals is looked at while somebody watches, in milliseconds.
+/// How many milliseconds pass between two checks of the length of the signals file, while somebody watches.
 const SIGNALS_PAUSE: u64 = 5;
 
-/// The view that was heard last, and when another is asked for while somebody watches.
+/// The view that was heard last, and when the next view is requested while somebody watches.
 #[derive(Drop)]
 pub(crate) struct Views {
-    /// The server's line; empty before the first one.
+    /// The line of the last view that the server sent; empty before the first view.
     pub line: Vec<u8>,
-    /// It was heard just now.
+    /// Whether the view was heard just now.
     pub is_fresh: bool,
+    /// When the next view is requested.
     pub ask_at: Duration,
-    /// When the watchers are sent the view again, even if no row is new.
+    /// The time from which watchers are sent the next view even if its rows have not changed.
     pub beat_at: Duration,
-    /// The file that the server's signals are printed to.
+    /// The path of the file that the server's signals are printed to.
     pub signals: Option<String>,
-    /// Its length, when it was looked at last.
+    /// The length of this file at the last check.
     pub signals_length: u64,
-    /// When it is looked at next, while somebody watches.
+    /// When the length of this file is checked next, while somebody watches.
     pub signals_at: Duration,
 }
 
 impl Views {
-    /// Returns the state before the first view. `signals` is the path of the file that the server's signals are printed to.
+    /// Returns the state before the first view. `signals` is the path of the file that the server's signals are printed
+    /// to.
     pub fn new(alloc: Global, signals: Option<String>) -> Self
         ensures none { (result.line.items ≡ []) × (result.is_fresh ≡ false) × (as_nanos result.ask_at ≡ max_nanos) × (as_nanos result.beat_at ≡ max_nanos) }
         ensures signals { (result.signals ≡ signals) × (result.signals_length ≡ 0) × (as_nanos result.signals_at ≡ 0) }
@@ -52,8 +54,8 @@ impl Views {
 }
 
 impl<G: Gateway> EventLoop<G> {
-    /// Takes a `watch` of the connection at a place, after all answers to its earlier lines. Its answer is the next view
-    /// that is asked for from now on, and its later lines wait for that view.
+    /// Takes the next line of the connection at a place, a `watch`, once all earlier lines have their answers. The next
+    /// view that is requested after this call answers it, and later lines wait for that view. Errors: out of memory.
     pub(crate) fn take_watch(&mut self, place: usize) -> Result<(), AllocError> {
         let Some(connection) = self.connections.get_mut(place) else {
             return Ok(());
@@ -75,7 +77,8 @@ impl<G: Gateway> EventLoop<G> {
         Ok(())
     }
 
-    /// Takes a view, and sends it to the watchers to whom it is new.
+    /// Takes the answer to a request for a view. If the answer is a view, has it sent to each watcher for which it is
+    /// new. Errors: out of memory.
     pub(crate) fn hear_view(&mut self, answer: &[u8]) -> Result<(), AllocError> {
         if !answer.starts_with(b"{\"accepted\":") {
             return Ok(());
@@ -103,7 +106,8 @@ impl<G: Gateway> EventLoop<G> {
         Ok(())
     }
 
-    /// Sends the view to the connection at a place, if it is new to it.
+    /// Has the newest view sent to the connection at a place, if the view answers a `watch` of the connection or is
+    /// new. Errors: out of memory.
     fn show(&mut self, place: usize, is_new: bool) -> Result<(), AllocError> {
         if let Some(connection) = self.connections.get_mut(place) {
             let is_awaited = match connection.view_after {
@@ -118,8 +122,8 @@ impl<G: Gateway> EventLoop<G> {
         Ok(())
     }
 
-    /// Sends the newest view to the connection at a place, if it is owed one and has taken all before it. After the first
-    /// view of a `watch` the connection's next line may be taken.
+    /// Adds the newest view to the answers of the connection at a place, if a view is owed and all earlier answers are
+    /// sent. After the first view of a `watch`, the connection's next line may be taken. Errors: out of memory.
     pub(crate) fn send_view(&mut self, place: usize) -> Result<(), AllocError> {
         let Some(connection) = self.connections.get_mut(place) else {
             return Ok(());
@@ -137,7 +141,7 @@ impl<G: Gateway> EventLoop<G> {
         Ok(())
     }
 
-    /// Asks for a view if one is due.
+    /// Requests a view if one is due.
     pub(crate) fn watch(&mut self) {
         if let Some(at) = self.view_at() {
             if self.at.now >= at {
@@ -147,7 +151,7 @@ impl<G: Gateway> EventLoop<G> {
         }
     }
 
-    /// Asks for a view if the file of signals has another length, while somebody watches.
+    /// Requests a view if the length of the signals file has changed, while somebody watches.
     pub(crate) fn watch_signals<R: Files>(&mut self, rt: &R) {
         if self.watchers.is_empty() || self.at.now < self.views.signals_at {
             return;
@@ -167,7 +171,8 @@ impl<G: Gateway> EventLoop<G> {
             .saturating_add(Duration::from_millis(SIGNALS_PAUSE));
     }
 
-    /// Returns when the file of signals is looked at next, if somebody watches.
+    /// Returns when the length of the signals file is checked next. Returns None if nobody watches, or if there is no
+    /// such file.
     pub(crate) fn signals_at(&self) -> Option<Duration> {
         if self.watchers.is_empty() || self.views.signals.is_none() {
             None
@@ -176,7 +181,7 @@ impl<G: Gateway> EventLoop<G> {
         }
     }
 
-    /// Returns when the next view is due, if somebody watches.
+    /// Returns when the next view is requested. Returns None if nobody watches, or if a view is already requested.
     pub(crate) fn view_at(&self) -> Option<Duration> {
         if self.watchers.is_empty() || self.own.wants_view || self.own.awaits_view {
             None
@@ -186,7 +191,7 @@ impl<G: Gateway> EventLoop<G> {
     }
 }
 
-/// Returns the rows of nodes and links of a view, which stand between its counts.
+/// Returns the part of a view's line that has the rows of nodes and links, between the counts at both ends.
 fn rows_of(view: &[u8]) -> &[u8] {
     match (memchr(b',', view), memrchr(b',', view)) {
         (Some(begin), Some(end)) => view.get(begin..end).unwrap_or(view),
@@ -194,7 +199,7 @@ fn rows_of(view: &[u8]) -> &[u8] {
     }
 }
 
-/// Returns whether a node takes part in a reset.
+/// Returns whether a node takes part in a reset, according to the line of a view.
 fn is_in_reset(view: &[u8]) -> bool {
     memmem::find(view, b"\"abort\"").is_some() || memmem::find(view, b"\"converge\"").is_some()
 }

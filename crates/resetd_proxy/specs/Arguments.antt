@@ -19,7 +19,7 @@ use Rattle.resetd_proxy.specs.declared.values.TheConstants.{MOST_SERVERS}
 use Rattle.resetd_proxy.specs.declared.values.ArgumentsFault.{ArgumentsFault}
 use Rattle.resetd_proxy.specs.declared.values.ArgumentsFault.TheVariants.{OutOfMemory, Usage}
 
--- A call returns what the arguments request. It returns `Usage` only if they request nothing.
+-- A call returns what the arguments request. The call returns `Usage` only if the arguments request nothing.
 abbrev pub Requested : {A B : Type 0} → (A → B) → Option B → Result A ArgumentsFault → Type 0
 Requested of asked (Ok value) = asked ≡ Some (of value)
 Requested of asked (Err Usage) = asked ≡ None
@@ -31,12 +31,12 @@ if_passes passes value = if passes then Some value else None
 
 -- ---- numbers
 
--- this many seconds in nanoseconds, if they are above 0 and below 2^64 seconds
+-- this number of seconds in nanoseconds, if the number is from 0 to below 2^64 and the result is above 0
 abbrev pub nanos_of_float : Float → Option ℕ
 nanos_of_float x =
     if_passes (le (fin false 0 (pos 0)) x && (lt x (fin false 1 (pos 64)) && nat_lt 0 (nanos_of_secs x))) (nanos_of_secs x)
 
--- the duration of a text, a number of seconds that may have a fraction, in nanoseconds
+-- the nanoseconds that a text gives as a number of seconds, which may have a fraction
 abbrev pub seconds_in : Text → Option ℕ
 seconds_in text = option_and_then nanos_of_float (parse_float binary64 text)
 
@@ -44,10 +44,11 @@ abbrev pub seconds_or : ℕ → Option Text → Option ℕ
 seconds_or usual None = Some (usual * 1_000_000_000)
 seconds_or usual (Some text) = seconds_in text
 
--- decimal digits, maybe after a plus sign, whose value is below 2^64
+-- the text is at least one decimal digit, with a value below 2^64
 abbrev pub is_count : Text → Bool
 is_count digits = all_ascii_digits digits && (nat_lt 0 (length digits) && nat_lt (digits_value 10 digits) (2 ^ 64))
 
+-- the number that a text gives in decimal digits, maybe after a plus sign
 abbrev pub count_in : Text → Option ℕ
 count_in text = if_passes (is_count (without_leading_plus text)) (digits_value 10 (without_leading_plus text))
 
@@ -60,7 +61,7 @@ count_or usual (Some text) = count_in text
 abbrev pub is_equals : ℕ → Bool
 is_equals byte = byte == 61
 
--- NAME=PATH, of which NAME is the name of a socket
+-- the text is NAME=PATH, where NAME is a valid name of a socket
 abbrev pub is_named : Text → Bool
 is_named text = list_any is_equals text && is_socket_name (before_first is_equals text)
 
@@ -70,7 +71,7 @@ named_by text = (before_first is_equals text, after_first is_equals text)
 abbrev pub named_sockets : List Text → Option (List (Text × Text))
 named_sockets texts = if_passes (list_all is_named texts) (map named_by texts)
 
--- the texts between commas and colons
+-- the parts of a text between its commas and colons
 abbrev pub separated : Text → List Text
 separated text = flat_map (slice_split (λ byte. byte == 58)) (slice_split (λ byte. byte == 44) text)
 
@@ -87,7 +88,7 @@ few_servers texts = if_passes (nat_le (length texts) MOST_SERVERS) texts
 -- ---- `serve`
 
 pub record AskedSettings : Type 0 where
-  -- in nanoseconds
+  -- the first three are in nanoseconds
   pub answer_timeout : ℕ
   pub stuck : ℕ
   pub server_silent : ℕ
@@ -101,7 +102,7 @@ settings_of s = record {
   connections = s.connections;
 }
 
--- 30, 10 and 5 seconds, and 1,000 connections, unless the arguments say otherwise
+-- the settings that the arguments give; without an argument, 30, 10 and 5 seconds, and 1,000 connections
 abbrev pub settings_in : List Row → Option AskedSettings
 settings_in rows =
     option_and_then (λ timeout. option_and_then (λ stuck. option_and_then (λ silent. option_map (λ most. record {
@@ -182,7 +183,7 @@ abbrev pub asked_of : Task → AskedTask
 asked_of (task.Serve arguments) = serve (serve_of arguments)
 asked_of (task.Check file) = check (string_bytes file)
 
--- the request of the named command
+-- what the named command requests
 abbrev pub asked_of_name : Text → List Row → Option AskedTask
 asked_of_name name rows =
     if bytes_eq name (codes "check") then option_map check (first_of (codes "file") rows)
@@ -227,7 +228,7 @@ resetd_proxy =
     (with_options (new_app (codes "serve")) serve_options).top)
     (with_rule (new_app (codes "check")) file_rule).top
 
--- the request, if `clap` finds no fault in the arguments
+-- what the arguments request, if `clap` finds no fault in them
 abbrev pub without_fault : Kinds → Option AskedTask → Option AskedTask
 without_fault [] asked = asked
 without_fault (kind ∷ kinds) asked = None
@@ -235,6 +236,6 @@ without_fault (kind ∷ kinds) asked = None
 abbrev pub asked_in : Option (Text × List Row) → Option AskedTask
 asked_in found = option_and_then (λ each. asked_of_name each.0 each.1) found
 
--- the request that the arguments make, the first of which is the program's name
+-- what the arguments request; the first argument is the program's name
 abbrev pub task_of : List Text → Option AskedTask
 task_of words = without_fault (fault_of resetd_proxy words) (asked_in (subcommand_of resetd_proxy words))

@@ -1,4 +1,4 @@
--- The answer to a reset that names an epoch, by a view.
+-- What the loop does with a reset that names an epoch, according to a view.
 use Rattle.std.specs.Prelude.{◌≡◌, ℕ, List, Option, Some, None}
 use Rattle.serde_json.specs.Written.{compact_text}
 use Rattle.coord_admin.specs.Replies.{reply}
@@ -9,7 +9,7 @@ use Rattle.proxy_access.specs.declared.resets.Judged.TheVariants.{Goes, Waits, J
 use Rattle.proxy_loop.specs.declared.gateway.Verdict.{Verdict}
 use Rattle.proxy_loop.specs.declared.gateway.Verdict.TheVariants as verdict
 
--- the line that answers a reset which does not go, without its line feed
+-- the line that the proxy answers a reset with, without its line feed; None if the reset goes or waits
 abbrev pub answer_to : Judged → Option (List ℕ)
 answer_to Goes = None
 answer_to Waits = None
@@ -21,7 +21,7 @@ IsAnswer verdict.Goes text = ⊥
 IsAnswer verdict.Waits text = ⊥
 IsAnswer (verdict.Answer bytes) text = text ≡ Some bytes.items
 
--- what the loop does with a reset
+-- the verdict that the loop gets from a judgement: the reset goes, waits, or is answered with this line
 abbrev pub Gives : Verdict → Judged → Type 0
 Gives verdict.Goes j = j ≡ Goes
 Gives verdict.Waits j = j ≡ Waits

@@ -1,4 +1,4 @@
--- The audit's lines of what happens to connections.
+-- The audit lines about requests and connections.
 use Rattle.std.specs.Prelude.{◌≡◌, ℕ, Bool, true, false, List, [], Option, Some, None, unwrap_or}
 use Rattle.std.specs.Borrow.{Bor}
 use Rattle.std.specs.Duration.{as_nanos}
@@ -17,7 +17,7 @@ use Rattle.proxy_loop.specs.declared.gateway.ExchangeKind.{ExchangeKind}
 use Rattle.proxy_loop.specs.declared.gateway.ExchangeKind.TheVariants.{Query, Order, Denied, Fault}
 use Rattle.proxy_loop.specs.declared.gateway.Moment.{Moment}
 
--- a fault's line is no request, and one that is not kept was too long
+-- the client's line as the audit records it: a line with a fault is not a request, and a line that was not kept was too long
 abbrev pub client_line : ExchangeKind → Option (Bor (List ℕ)) → ClientLine
 client_line kind None = line.TooLong
 client_line Fault (Some bytes) = line.Other bytes
@@ -34,7 +34,7 @@ event_of_kind Fault who e = event.Answered who (client_line e.kind e.line) e.ans
 abbrev pub event_of : Bor (List ℕ) → Exchange → Event
 event_of who e = event_of_kind e.kind who e
 
--- A query has no line. An order has one whatever the quota of its principal is, a denial and a fault one within it.
+-- A query adds no audit line. An order always adds one. A denial or a fault adds one only within the principal's quota.
 abbrev pub RecordsKind : ExchangeKind → Exchange → Event → Audit → Audit → Type 0
 RecordsKind Query e x old new = new ≡ old
 RecordsKind Order e x old new = AddsEvent (system_time_nanos e.at.time) x old new
@@ -49,15 +49,15 @@ RecordsConnection role at x old new = AddsWithin role Connection (as_nanos at.no
 
 -- ---- principals
 
--- the name of a role's principal; empty if it has none
+-- the name of the principal of a role; empty if the role has none
 abbrev pub name_of : List (List ℕ) → ℕ → List ℕ
 name_of names role = unwrap_or (principal_of names role) []
 
--- what an exchange adds, whose role has this name
+-- what an exchange adds to the audit, if the principal of its role has this name
 abbrev pub RecordsFor : List ℕ → Exchange → Audit → Audit → Type 0
 RecordsFor name e old new = (who : Bor (List ℕ)) × (who.now ≡ name) × RecordsExchange who e old new
 
--- a connection's begin has a line only if its principal may order, and so has its end
+-- the beginning and the end of a connection each add an audit line within the quota, but only if its principal may order
 abbrev pub RecordsBegin : Bool → List ℕ → ℕ → Moment → Audit → Audit → Type 0
 RecordsBegin true name role at old new = (who : Bor (List ℕ)) × (who.now ≡ name) × RecordsConnection role at (event.Begins who) old new
 RecordsBegin false name role at old new = new ≡ old

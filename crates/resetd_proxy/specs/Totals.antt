@@ -1,4 +1,4 @@
--- The text of the metrics: the counts of answers, and the metrics that are one number each.
+-- The text of the metrics: the counts and times of the answers, and the metrics that have a single number each.
 use Rattle.std.specs.Prelude.{ℕ, Bool, true, false, List, [], ◌++◌, codes, decimal, Option, Some, None}
 use Rattle.proxy_audit.specs.Tallies.{answers_text, times_text}
 use Rattle.proxy_audit.specs.declared.tally.Tally.{Tally}

@@ -13,26 +13,26 @@ use clap::{Arg, ArgAction, ArgMatches, Command};
 use proxy_loop::Settings;
 use std::alloc::{AllocError, Global};
 
-/// The task that the arguments ask for.
+/// The task that the program's arguments request.
 #[derive(Drop)]
 pub enum Task {
     Serve(Arguments),
-    /// To print what the policy in a file allows.
+    /// Print what the policy in this file allows.
     Check(String),
 }
 
-/// What `serve` is asked for.
+/// The arguments of `serve`.
 #[derive(Drop)]
 pub struct Arguments {
     pub servers: Vec<String>,
     pub sockets: SocketArguments,
     pub settings: Settings,
-    /// The file that the server's signals are printed to.
+    /// The path of the file that the server's signals are printed to, if one is given.
     pub signals: Option<String>,
     pub policy: String,
-    /// The file of the audit. None, and `-`: standard output.
+    /// The path of the audit file. None and `-` mean standard output.
     pub audit: Option<String>,
-    /// The file of the metrics; `-`: standard output.
+    /// The path of the metrics file. `-` means standard output, None means no metrics.
     pub metrics: Option<String>,
 }
 
@@ -41,14 +41,14 @@ pub struct Arguments {
 pub struct SocketArguments {
     /// The principal and the path of each socket.
     pub named: Vec<(String, String)>,
-    /// The path of the socket for connections whose certificate says who they are.
+    /// The path of the socket for connections whose client is named by its certificate, if one is given.
     pub certificates: Option<String>,
-    /// The names of the sockets that the service manager opened, in turn; None if it opened none.
+    /// The names of the sockets that the service manager opened, in order. None if `--listen-fds` is not given.
     pub passed: Option<Vec<String>>,
 }
 
-/// Returns the task that the arguments ask for; the first of them is the program's name. Errors: the arguments are
-/// wrong, or memory is out.
+/// Returns the task that the arguments request. The first argument is the program's name. Errors: the arguments are
+/// wrong, or out of memory.
 pub fn read_arguments(alloc: Global, words: &[String]) -> Result<Task, ArgumentsFault>
     ensures { Requested asked_of (task_of (map string_bytes words.now)) result }
 {
@@ -62,7 +62,7 @@ pub fn read_arguments(alloc: Global, words: &[String]) -> Result<Task, Arguments
     }
 }
 
-/// Returns the task that `clap` found.
+/// Returns the task that `clap` found in the arguments.
 fn task_in(alloc: Global, matches: &ArgMatches<'_>) -> Result<Task, ArgumentsFault>
     ensures { Requested asked_of (asked_in (subcommand_rows_of matches.now)) result }
 {
@@ -72,7 +72,7 @@ fn task_in(alloc: Global, matches: &ArgMatches<'_>) -> Result<Task, ArgumentsFau
     }
 }
 
-/// Returns the task of the named command.
+/// Returns the task of the command with this name.
 fn task_named(alloc: Global, name: &str, found: &ArgMatches<'_>) -> Result<Task, ArgumentsFault>
     ensures { Requested asked_of (asked_of_name name.now (rows_of (found_of found.now))) result }
 {
@@ -107,7 +107,7 @@ fn serve_arguments(alloc: Global, found: &ArgMatches<'_>) -> Result<Arguments, A
     })
 }
 
-/// Returns the timeouts and the limit of connections; None if one of them is wrong.
+/// Returns the timeouts and the limit of connections. Returns None if one of these arguments is wrong.
 fn settings_in(found: &ArgMatches<'_>) -> Option<Settings>
     ensures { option_map settings_of result ≡ settings_in (rows_of (found_of found.now)) }
 {
@@ -141,7 +141,7 @@ fn socket_arguments(
     })
 }
 
-/// Returns the grammar of the arguments.
+/// Returns the grammar of the program's arguments. Errors: out of memory.
 fn program<'a>(alloc: Global) -> Result<Command<'a>, AllocError>
     ensures { IfOk result (λ program. app_of program ≡ resetd_proxy) }
 {
@@ -168,7 +168,7 @@ fn serve_command<'a>(alloc: Global) -> Result<Command<'a>, AllocError>
     with_optional(with_policy, alloc)
 }
 
-/// Adds the options from `--certificates` on.
+/// Adds `--certificates` and the options after it to a command. Errors: out of memory.
 fn with_optional<'a>(command: Command<'a>, alloc: Global) -> Result<Command<'a>, AllocError>
     ensures { IfOk result (λ more. app_of more ≡ with_options (app_of command.entry) (drop 4 serve_options)) }
 {
@@ -182,7 +182,7 @@ fn with_optional<'a>(command: Command<'a>, alloc: Global) -> Result<Command<'a>,
     with_option(with_silent, alloc, "connections")
 }
 
-/// Adds an option to a command.
+/// Adds an option with a value to a command. Errors: out of memory.
 fn with_option<'a>(
     command: Command<'a>,
     alloc: Global,

@@ -1,4 +1,5 @@
-//! The gateway of the loop: lines as proxy_request reads them, rights as the policy's file has them, and the audit.
+//! The loop's gateway. proxy_request reads the lines, the policy file says who may send which lines, and the audit
+//! records them.
 
 ghost use Rattle.std.specs.Prelude.{◌≡◌, ◌++◌, [], ℕ, List, length, take, IfOk, IfSome, MatchOption, OnErr, Some};
 ghost use Rattle.std.specs.Duration.{as_nanos};
@@ -22,28 +23,29 @@ use std::fs::{File, Files};
 use std::time::{Clock, Duration, SystemTime};
 use std::{fs, io, str};
 
-/// How many milliseconds pass between two looks at the policy's file.
+/// How many milliseconds pass between two checks of the policy file.
 const LOOK_PAUSE: u64 = 1000;
 
-/// The name of a role that no principal has.
+/// The name that is recorded for a role without a principal.
 const NOBODY: &str = "";
 
-/// The policy of a file, the principals, the audit and the metrics.
+/// A gateway with the policy of a file, the principals, the audit and the metrics.
 #[derive(Drop)]
 pub struct FileGateway {
     access: Access,
     path: String,
-    /// When the file was changed last, and its length, as they were seen last.
+    /// The modification time and the length of the policy file at the last check; None if they could not be read.
     seen: Option<(SystemTime, u64)>,
     refresh_at: Duration,
     audit: Audit,
     metrics: Option<Metrics>,
-    /// The moment of the last call that has one.
+    /// The time of the last call that gave a time.
     now: Duration,
 }
 
 impl FileGateway {
-    /// Returns a gateway with the policy of a file. None: the file is no policy, and its fault was reported.
+    /// Returns a gateway with the policy of a file. Returns None if the file is not a policy; the fault was reported.
+    /// Errors: the file cannot be read, or the fault cannot be reported.
     pub fn open<R: Files + AllocGlobal + Eprint>(
         rt: &R,
         path: String,
@@ -73,7 +75,8 @@ impl FileGateway {
         }
     }
 
-    /// Returns the role of a principal; None if there are too many. Errors: out of memory.
+    /// Returns the role of a principal, and gives it a role if it has none. Returns None if too many principals have a
+    /// role. Errors: out of memory.
     pub fn role_of(&mut self, alloc: Global, name: &str) -> Result<Option<u32>, AllocError>
         ensures role { IfOk result (λ found. MatchOption found (length (access_principals self.old.access) ≡ MOST_PRINCIPALS) (λ role. principal_of (access_principals self.new.access) role ≡ Some name.now)) }
         ensures known { KeepsItsRole (access_principals self.old.access) (access_principals self.new.access) name.now result }
@@ -85,7 +88,7 @@ impl FileGateway {
         self.access.role_of(alloc, name)
     }
 
-    /// Adds the audit's line of an exchange.
+    /// Adds the audit line of an exchange, if the exchange has one.
     fn record_line(&mut self, exchange: &Exchange<'_, '_>)
         ensures audit { RecordsFor (name_of (access_principals self.old.access) exchange.now.role) exchange.now self.old.audit self.new.audit }
         ensures policy { (self.new.access ≡ self.old.access) × (self.new.path ≡ self.old.path) × (self.new.seen ≡ self.old.seen) × (self.new.refresh_at ≡ self.old.refresh_at) }
@@ -97,7 +100,7 @@ impl FileGateway {
         }
     }
 
-    /// Counts an exchange, if there are metrics.
+    /// Counts an exchange in the metrics, if there are any.
     fn count(&mut self, alloc: Global, exchange: &Exchange<'_, '_>)
         ensures audit { self.new.audit ≡ self.old.audit }
         ensures policy { (self.new.access ≡ self.old.access) × (self.new.path ≡ self.old.path) × (self.new.seen ≡ self.old.seen) × (self.new.refresh_at ≡ self.old.refresh_at) }
@@ -109,7 +112,7 @@ impl FileGateway {
     }
 }
 
-/// Returns when a file was changed, and its length.
+/// Returns the modification time and the length of a file, or None if they cannot be read.
 fn look<R: Files>(rt: &R, path: &str) -> Option<(SystemTime, u64)> {
     let found = fs::metadata(rt, path).ok()?;
     Some((found.modified().ok()?, found.len()))
@@ -280,7 +283,7 @@ impl Gateway for FileGateway {
 }
 
 impl FileGateway {
-    /// Adds the audit's line of each principal whose count of lines that were left out is due.
+    /// Adds an audit line for each principal whose number of left-out lines is due.
     fn count_left_out<R: Clock>(&mut self, rt: &R) {
         let Ok(time) = SystemTime::now(rt) else {
             return;
@@ -294,7 +297,7 @@ impl FileGateway {
         }
     }
 
-    /// Reads the policy again if its file has changed. Returns whether there is a new one.
+    /// Reads the policy again if its file has changed. Returns whether there is a new policy.
     fn read_again<R: Files + AllocGlobal + Eprint>(&mut self, rt: &R) -> bool {
         let seen = look(rt, self.path.as_str());
         if seen == self.seen {
@@ -319,7 +322,7 @@ impl FileGateway {
     }
 }
 
-/// Returns the op of an exchange's line.
+/// Returns the op of the client's line in an exchange: `show` for each query, `none` for a line without an op.
 fn op_of(alloc: Global, exchange: &Exchange<'_, '_>) -> &'static str {
     match exchange.kind {
         ExchangeKind::Query => "show",

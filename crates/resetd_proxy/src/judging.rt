@@ -1,4 +1,4 @@
-//! The answer to a reset that names an epoch, by a view.
+//! What the loop does with a reset that names an epoch, according to a view.
 
 ghost use Rattle.std.specs.Prelude.{◌≡◌, false, IfOk, Some, string_bytes};
 ghost use Rattle.coord_admin.specs.Replies.{reply as reply_data};
@@ -14,8 +14,8 @@ use proxy_loop::Verdict;
 use serde_json::{Value, json};
 use std::alloc::{AllocError, Global};
 
-/// Judges a reset of a node that names an epoch by the line of a view. One that cannot be read says nothing. Errors: out
-/// of memory.
+/// Judges a reset of a node that names an epoch by the view in a line. If the line cannot be read as a view, the reset
+/// waits. Errors: out of memory.
 pub(crate) fn judge_reset(
     alloc: Global,
     view: &[u8],
@@ -27,7 +27,7 @@ pub(crate) fn judge_reset(
     verdict_of(alloc, judge_line(alloc, view, node, epoch)?)
 }
 
-/// Returns what the loop does with a reset. Errors: out of memory.
+/// Returns what the loop does with a reset that has this judgement. Errors: out of memory.
 fn verdict_of(alloc: Global, judged: Judged) -> Result<Verdict, AllocError>
     ensures { IfOk result (λ verdict. Gives verdict judged) }
 {
@@ -46,7 +46,7 @@ fn verdict_of(alloc: Global, judged: Judged) -> Result<Verdict, AllocError>
     }
 }
 
-/// Returns the line of a reply, without its line feed.
+/// Returns a reply as an answer line, without its line feed. Errors: out of memory.
 fn replied(alloc: Global, reply: Reply) -> Result<String, AllocError>
     ensures { IfOk result (λ text. string_bytes text ≡ compact_text (reply_data (answer.Replied reply))) }
 {
@@ -56,7 +56,7 @@ fn replied(alloc: Global, reply: Reply) -> Result<String, AllocError>
     )
 }
 
-/// Returns the line of a refusal, without its line feed.
+/// Returns a refusal as an answer line, without its line feed. Errors: out of memory.
 fn refused(alloc: Global, refusal: Refusal) -> Result<String, AllocError>
     ensures { IfOk result (λ text. string_bytes text ≡ compact_text (reply_data (answer.Refused refusal))) }
 {

@@ -12,7 +12,7 @@ use proxy_policy::is_socket_name;
 use std::alloc::{AllocError, AllocFailed, Global};
 use std::time::Duration;
 
-/// The most addresses of the server.
+/// The maximum number of addresses of the server.
 pub const MOST_SERVERS: usize = 8;
 
 /// Why the arguments ask for no task.
