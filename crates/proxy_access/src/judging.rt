@@ -65,6 +65,10 @@ impl Policy for Access {
         let Some(request) = read(alloc, line)? else {
             return Ok(false);
         };
+        // A reset that names an epoch has no number.
+        if request.unnumbered_command().is_none() {
+            return Ok(false);
+        }
         permits(alloc, view, &request)
     }
 }
