@@ -81,7 +81,7 @@ class Answers(Case):
 class Advice(unittest.TestCase):
     def test_the_table_has_the_words_of_the_protocol(self) -> None:
         with open(os.path.join(ROOT, "docs/PROTOCOL.md"), encoding="utf-8") as file:
-            table = file.read().split("## Acceptance and refusals")[1].split("This is the one table of refusals")[0]
+            table = file.read().split("## Acceptance and refusals")[1].split("\n## ")[0]
         rows = re.findall(r"^\| (\d+) \| (\w+) \| .* \| (.*?) ?\|$", table, re.MULTILINE)
         told = {int(number): re.sub(r" \(in the drill: [^)]*\)", "", text) for number, _, text in rows}
         self.assertEqual(len(told), 22)
