@@ -175,7 +175,8 @@ class Impatient(Case):
     def test_one_whose_line_waits_for_the_reset_of_another_is_ended(self) -> None:
         """The proxy takes that line only after it has judged the reset, but its time counts from when it came."""
         self.server.kill()
-        for line in ({"op": "show"}, {"op": "watch"}, {"op": "reset", "node": 2, "epoch": 0}):
+        lines: list[dict[str, Any]] = [{"op": "show"}, {"op": "watch"}, {"op": "reset", "node": 2, "epoch": 0}]
+        for line in lines:
             with self.subTest(line), self.proxy.connect() as one, self.proxy.connect() as other:
                 one.send({"op": "reset", "node": 1, "epoch": 0})
                 until("that it was read", lambda: unread(one) == 0)
