@@ -152,18 +152,28 @@ class Certificates(OverTls):
         finally:
             connection.settimeout(DEADLINE)
 
-    def test_one_source_has_a_limit(self) -> None:
-        """Others are served meanwhile."""
-        silent = []
+    def refused(self) -> int:
+        """How many of 300 silent connections from one source are refused: they are closed before their handshakes are late."""
+        silent, refused = dict[socket.socket, float](), 0
         for _ in range(300):
             try:
                 connection = socket.create_connection(("127.0.0.1", self.port), timeout=DEADLINE, source_address=("127.0.2.1", 0))
-                self.addCleanup(connection.close)
-                silent.append(connection)
+                silent[connection] = time.monotonic() + 4
             except ConnectionError:
-                pass
+                refused += 1
+        while silent:
+            for connection, late in list(silent.items()):
+                if time.monotonic() > late or not self.is_open(connection):
+                    refused += time.monotonic() < late
+                    connection.close()
+                    del silent[connection]
+            time.sleep(0.05)
+        return refused
+
+    def test_one_source_has_a_limit(self) -> None:
+        """Others are served meanwhile. On a busy machine so many connections may take longer than the limit looks back: then again."""
+        until("a limit of one source", lambda: self.refused() >= 80)
         self.assertTrue(self.is_served("service3"))
-        self.assertGreaterEqual(sum(not self.is_open(each) for each in silent), 80)
 
     def test_a_revoked_certificate(self) -> None:
         self.assertTrue(self.is_served("service3") and self.is_served("service5"))
