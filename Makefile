@@ -82,6 +82,7 @@ check:
 prove:
 	rt all check --jobs $(JOBS)
 	cd crates/resetd && rt run -- drill < stdin
+	cd crates/resetd_proxy && rt run -- --help
 	mkdir -p bin
 	cp crates/resetd/out/resetd bin/resetd
 	cp crates/resetd_proxy/out/resetd_proxy bin/resetd-proxy
