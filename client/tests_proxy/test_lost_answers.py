@@ -112,6 +112,18 @@ class Lost(unittest.TestCase):
         self.proxy.ask(op="reset", node=1)
         self.assertEqual((self.server.nodes[1][1], self.server.last(15)), (4, 4))
 
+    def test_the_last_number_is_found_near_the_last_order(self) -> None:
+        """However many orders were answered since the number was found last."""
+        clients = [self.connect() for _ in range(3)]
+        for _ in range(500):
+            clients[0].ask(op="reset", node=1)
+        before = len(self.server.seen)
+        self.send_and_lose(*((client, {"op": "reset", "node": 1}) for client in clients))
+        for client in clients:
+            self.assertIn("kind", client.reply())
+        probes = sum('"confirm"' in seen["line"] and '"epoch":0' in seen["line"] for seen in self.server.seen[before:])
+        self.assertTrue(1 <= probes <= 64, f"{probes} probes")
+
     def test_looks_that_take_longer_than_a_connection_is_kept(self) -> None:
         """A reset that names an epoch goes right after its look all the same."""
         client = self.connect()

@@ -515,6 +515,14 @@ impl Proxy {
         }
     }
 
+    /// Returns the highest number of the proxy's client that the server is known to have used. The numbers after it that
+    /// the server may have used too are those of one flight.
+    pub fn last_number(&self) -> u64
+        ensures { result ≡ self.now.last }
+    {
+        self.last
+    }
+
     /// Returns whether the last number of the proxy's client is known. While it is unknown, unnumbered orders wait.
     pub fn is_counted(&self) -> bool
         ensures { result ≡ self.now.is_counted }

@@ -1,7 +1,9 @@
 //! The proxy's own requests to the server, for the last number of its client and for views.
 
 ghost use Rattle.std.specs.Prelude.{◌≡◌, ◌+◌, ◌*◌, ◌^◌, ◌<◌, ◌≤◌, ◌||◌, [], false, None};
+ghost use Rattle.std.specs.Option.{unwrap_or};
 ghost use Rattle.std.specs.Duration.{as_nanos};
+ghost use Rattle.proxy_streams.specs.NumberSearches.{search_from};
 
 use crate::event_loop::EventLoop;
 use crate::gateway::Gateway;
@@ -35,8 +37,6 @@ pub(crate) struct Own {
     pub number: u64,
     pub asked: VecDeque<OwnLine>,
     pub search: Option<NumberSearch>,
-    /// The last number of the proxy's client when it was last found.
-    pub last: u64,
     pub wants_view: bool,
     /// Whether a view was requested that has not arrived.
     pub awaits_view: bool,
@@ -49,14 +49,13 @@ pub(crate) struct Own {
 impl Own {
     /// Returns the proxy's own connection before its first request.
     pub fn new(alloc: Global) -> Self
-        ensures none { (result.number ≡ 0) × (result.asked.items ≡ []) × (result.search ≡ None) × (result.last ≡ 0) × (as_nanos result.probe_at ≡ 0) }
+        ensures none { (result.number ≡ 0) × (result.asked.items ≡ []) × (result.search ≡ None) × (as_nanos result.probe_at ≡ 0) }
         ensures blind { (result.wants_view ≡ false) × (result.awaits_view ≡ false) × (result.views ≡ 0) }
     {
         Own {
             number: 0,
             asked: VecDeque::new(alloc),
             search: None,
-            last: 0,
             wants_view: false,
             awaits_view: false,
             views: 0,
@@ -71,7 +70,7 @@ impl Own {
         ensures last { 2 ^ 43 ≤ came.old → (came.new ≡ came.old) × (self.new.number ≡ self.old.number) }
         ensures dropped { (self.new.asked.items ≡ []) × (self.new.search ≡ None) × (self.new.awaits_view ≡ false) }
         ensures view { self.new.wants_view ≡ (self.old.wants_view || self.old.awaits_view) }
-        ensures others { (self.new.last ≡ self.old.last) × (self.new.views ≡ self.old.views) × (self.new.probe_at ≡ self.old.probe_at) }
+        ensures others { (self.new.views ≡ self.old.views) × (self.new.probe_at ≡ self.old.probe_at) }
     {
         if *came < 1 << 43 {
             self.number = number_of(*came, 0);
@@ -81,6 +80,18 @@ impl Own {
         self.search = None;
         self.wants_view = self.wants_view || self.awaits_view;
         self.awaits_view = false;
+    }
+
+    /// Takes the search for the last number that is under way. If there is none, begins one at a number that the server
+    /// is known to have used.
+    fn take_search(&mut self, used: u64) -> NumberSearch
+        ensures search { result ≡ unwrap_or self.old.search (search_from used) }
+        ensures taken { self.new ≡ record self.old { search = None } }
+    {
+        match self.search.take() {
+            Some(search) => search,
+            None => NumberSearch::new(used),
+        }
     }
 }
 
@@ -115,10 +126,7 @@ impl<G: Gateway> EventLoop<G> {
     }
 
     fn send_probes(&mut self) -> Result<(), AllocError> {
-        let mut search = match self.own.search.take() {
-            Some(search) => search,
-            None => NumberSearch::new(self.own.last),
-        };
+        let mut search = self.own.take_search(self.core.last_number());
         for _ in 0..MOST_PROBES {
             let number = search.try_next();
             let line = self.gateway.probe(self.alloc, number)?;
@@ -177,7 +185,6 @@ impl<G: Gateway> EventLoop<G> {
 
     fn find(&mut self, last: u64) -> Result<(), AllocError> {
         self.core.set_last_number(last);
-        self.own.last = last;
         self.own.search = None;
         self.clear_up(last)
     }
