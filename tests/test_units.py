@@ -29,7 +29,7 @@ def names() -> list[str]:
 def test_of(name: str) -> Callable[[Case], None]:
     def test(case: Case) -> None:
         case.needs("a C compiler: for a trial build of tests/units", os.path.isfile(PROGRAM))
-        # its files stand in its own folder, so that two runs on one machine do not meet
+        # each test has its own folder, so that two runs on one machine use different files
         ran = subprocess.run([PROGRAM, name], cwd=case.folder, env={**ENVIRONMENT, "TMPDIR": case.folder}, capture_output=True, check=False)
         said = (ran.stdout + ran.stderr).decode(errors="replace")
         case.assertEqual(ran.returncode, 0, said[-3_000:])

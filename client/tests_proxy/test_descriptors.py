@@ -44,7 +44,7 @@ class Few(Case):
         self.assertNotIn("can't be read", self.proxy.said())
 
     def look(self) -> dict[str, Any]:
-        """The first client's answer. If its line waits as its right ends, the proxy ends its connection, and the next client is the first."""
+        """Returns the first client's answer. If its connection ends because it lost a right, drops this client and returns nothing."""
         try:
             return self.clients[0].ask(op="show")
         except ConnectionError:

@@ -171,7 +171,7 @@ class Certificates(OverTls):
         return refused
 
     def test_one_source_has_a_limit(self) -> None:
-        """Others are served meanwhile. On a busy machine so many connections may take longer than the limit looks back: then again."""
+        """Others are served meanwhile. A busy machine may be too slow to reach the limit at the first try."""
         until("a limit of one source", lambda: self.refused() >= 80)
         self.assertTrue(self.is_served("service3"))
 
