@@ -23,8 +23,9 @@ TOGETHER = ("units", "tests")
 PROGRAM, FILES = ["--steps", "32", "resetd", "resetd_short"], {"RESETD": "resetd", "RESETD_SHORT": "resetd_short"}
 # The words of the build of `resetd-proxy`, which is made if a mutant is in a crate that only this program has.
 PROXY = ["--proxy", "--plain", "resetd_proxy"]
-# Seconds within which a test of a crate ends, and after which one that its edit makes wait counts as waiting.
-LIMIT, WAITS = 600, 60
+# Seconds within which a test of a crate ends, after which one that its edit makes wait counts as waiting, and for which a test of the
+# program waits for an answer.
+LIMIT, WAITS, ANSWER = 600, 60, 120
 LATE, SEEN = "did not end in time", ("FAILED", "waits")
 
 
@@ -90,7 +91,7 @@ def what_test_did(scratch: str, tests: str, test: str, number: int, seconds: int
     environment = {**os.environ, "MUTANT": str(number)}
     if tests == "tests":
         files = {variable: f"{scratch}/{file}" for variable, file in FILES.items()}
-        environment |= {**files, "RESETD_MEMBER": f"{scratch}/libresetd_member.so"}
+        environment |= {**files, "RESETD_MEMBER": f"{scratch}/libresetd_member.so", "RESETD_TIMEOUT": str(ANSWER)}
         if os.path.exists(f"{scratch}/{PROXY[-1]}"):
             environment["RESETD_PROXY"] = f"{scratch}/{PROXY[-1]}"
         done = subprocess.run(["tests/run", "--jobs", "1", test], env=environment, capture_output=True, text=True)

@@ -10,7 +10,8 @@ ROOT = os.path.dirname(os.path.dirname(os.path.dirname(os.path.abspath(__file__)
 PROGRAM = os.environ.get("RESETD", "")
 SHORT = os.environ.get("RESETD_SHORT", "")
 SHORT_STEPS = 32
-TIMEOUT = 600  # seconds within which a command has to end, even on a busy machine
+# seconds within which a command has to end, even on a busy machine. A run of killing tests sets fewer, since some mutants wait forever
+TIMEOUT = int(os.environ.get("RESETD_TIMEOUT", "600"))
 
 class Ended(NamedTuple):
     """How a command ended: its exit status, its output, and the fault that it printed."""
