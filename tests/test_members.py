@@ -28,7 +28,7 @@ from resetd_client.party import Party, are_parted, digest_of, is_same_run, tag_o
 from resetd_client.rule import Kept, judge, shown_to  # noqa: E402
 from resetd_client.starts import Shelf, Starts  # noqa: E402
 from served import faults, services  # noqa: E402
-from served.services import Trial, Words  # noqa: E402
+from served.services import Arguments, Trial  # noqa: E402
 
 STATES = 25_000  # random states for each of four seeds
 EXAMPLES = f"{ROOT}/examples/members"
@@ -527,7 +527,7 @@ class Durable(Made):
         super().setUp()
         self.needs("strace: one that may trace", faults.can_inject(), is_optional=True)
         self.member, self.disk = self.make_in_c(), traced.Disk()
-        self.trial = Trial(Words(program=PROGRAM, seconds=300.0, without=set()), self.folder, 2)
+        self.trial = Trial(Arguments(program=PROGRAM, seconds=300.0, without=set()), self.folder, 2)
         self.addCleanup(self.trial.end)
 
     def run_until_it_talks(self, resets: int) -> list[traced.Call]:

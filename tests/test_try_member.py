@@ -13,7 +13,7 @@ from support.program import PROGRAM, ROOT
 sys.path[:0] = [f"{ROOT}/tools", f"{ROOT}/client"]
 from resetd_client import Due, View  # noqa: E402
 from served.foreign import NODE, Between, Rule  # noqa: E402
-from served.services import Trial, Words  # noqa: E402
+from served.services import Arguments, Trial  # noqa: E402
 
 QUIET_SECONDS = 1.0  # in which a member would be shown a change, or the same view again
 SECONDS = 120.0  # for one line, on a busy machine
@@ -91,7 +91,7 @@ class Watching(Case):
 
     def setUp(self) -> None:
         super().setUp()
-        words = Words(program=PROGRAM, seconds=SECONDS, without=set())
+        words = Arguments(program=PROGRAM, seconds=SECONDS, without=set())
         self.trial = Trial(words, self.folder, 3)
         self.addCleanup(self.trial.end)
         self.rule = Rule(self.path("member"))

@@ -1,4 +1,4 @@
-"""The words of docs/TAKEOVER.md, "To set it up", typed on three machines under systemd.
+"""The commands of docs/TAKEOVER.md, "To set it up", typed on three machines under systemd.
 
 Each block of commands follows a line that says on which hosts they are typed. Packages are not installed again: the three
 machines have those of this one. The takeover that the commands prepare is tried after them.
@@ -15,7 +15,7 @@ from .trial import QUICK, tell
 
 ROOT = os.path.dirname(os.path.dirname(os.path.dirname(os.path.abspath(__file__))))
 SECTION = "## To set it up"
-TYPED = re.compile(r"^On (?P<hosts>[^\n:]*):\n\n```\n(?P<words>.*?)\n```$", re.MULTILINE | re.DOTALL)
+TYPED = re.compile(r"^On (?P<hosts>[^\n:]*):\n\n```\n(?P<commands>.*?)\n```$", re.MULTILINE | re.DOTALL)
 ON = {"each of the three hosts": (1, 2, 3), "host1": (1,), "host1 and host2": (1, 2)}
 PORT = "127.0.0.1:4170"
 GROUPS = "groups"
@@ -74,8 +74,8 @@ class Machine(Host):
             raise Failed(f"{late}:\n{jobs}") from late
 
     def is_up(self) -> bool:
-        _, told = self.run("systemctl", "is-system-running", is_checked=False)
-        return told.strip() in ("running", "degraded")
+        _, output = self.run("systemctl", "is-system-running", is_checked=False)
+        return output.strip() in ("running", "degraded")
 
     def unit(self, property_: str) -> str:
         """Returns the properties that systemd has for the coordinator's unit."""
@@ -92,10 +92,10 @@ def blocks() -> list[tuple[tuple[int, ...], str]]:
     """Yields the hosts and the commands of each block, in order."""
     with open(f"{ROOT}/docs/TAKEOVER.md", encoding="utf-8") as file:
         section = file.read().split(SECTION + "\n")[1].split("\n## ")[0]
-    return [(ON[met["hosts"]], met["words"]) for met in TYPED.finditer(section)]
+    return [(ON[met["hosts"]], met["commands"]) for met in TYPED.finditer(section)]
 
 
-def try_words(program: str, folder: str) -> None:
+def try_commands(program: str, folder: str) -> None:
     """Types the commands, and then loses the host that serves."""
     make_switch(folder)
     os.makedirs(f"{folder}/{GROUPS}")
@@ -103,8 +103,8 @@ def try_words(program: str, folder: str) -> None:
     machines = [Machine(number, folder, program) for number in (1, 2, 3)]
     for machine in machines:
         machine.boot()
-    for numbers, words in blocks():
-        typed = [line for line in words.splitlines() if not line.startswith("apt-get ")]
+    for numbers, commands in blocks():
+        typed = [line for line in commands.splitlines() if not line.startswith("apt-get ")]
         for number in numbers:
             machines[number - 1].run("sh", "-ec", f"cd {ROOT}\n" + "\n".join(typed))
         where = " ".join(machines[number - 1].name for number in numbers)
@@ -118,17 +118,17 @@ def wait_standby(machine: Machine) -> float:
     try:
         return wait_for("a refused start", lambda: machine.unit("ExecMainStatus") == "3", 0.5)
     except Failed as late:
-        _, told = machine.run("systemctl", "status", "--no-pager", "--lines=5", "resetd", "srv-resetd.mount",
-                              "glusterd", is_checked=False)
-        raise Failed(f"{late}; on {machine.name}:\n{told}") from late
+        _, output = machine.run("systemctl", "status", "--no-pager", "--lines=5", "resetd", "srv-resetd.mount",
+                                "glusterd", is_checked=False)
+        raise Failed(f"{late}; on {machine.name}:\n{output}") from late
 
 
 def check_held_in(machine: Machine) -> None:
     """Checks with the kernel that the process is denied what its unit denies."""
-    _, told = machine.run("sh", "-c", "cat /proc/$(systemctl show --value -p MainPID resetd)/status")
-    status = dict(line.split(":\t", 1) for line in told.splitlines() if ":\t" in line)
+    _, output = machine.run("sh", "-c", "cat /proc/$(systemctl show --value -p MainPID resetd)/status")
+    status = dict(line.split(":\t", 1) for line in output.splitlines() if ":\t" in line)
     if (int(status["CapBnd"], 16), status["NoNewPrivs"], status["Seccomp"]) != (0, "1", "2"):
-        raise Lost(f"the unit of {machine.name} does not hold its process in: {told}")
+        raise Lost(f"the unit of {machine.name} does not hold its process in: {output}")
 
 
 def lose_one(machines: list[Machine]) -> None:

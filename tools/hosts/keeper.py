@@ -60,8 +60,8 @@ class Keeper:
         return text[:text.rfind("\n") + 1].splitlines()
 
     def start(self) -> None:
-        words = self.host.inside("sh", "-c", KEEP, "keeper", STORE, self.host.folder, str(AGAIN), *self.serve)
-        self.process = subprocess.Popen(words, stdin=subprocess.DEVNULL)
+        command = self.host.inside("sh", "-c", KEEP, "keeper", STORE, self.host.folder, str(AGAIN), *self.serve)
+        self.process = subprocess.Popen(command, stdin=subprocess.DEVNULL)
 
     def pause(self) -> None:
         """Prevents further starts, until `go_on`. One that is under way goes on."""
@@ -108,9 +108,9 @@ class Keeper:
             raise Lost(f"beside another coordinator, serve on {self.host.name} ended with {status}: {printed}")
         return REFUSED
 
-    def command(self, word: str, *words: str) -> tuple[int, str]:
+    def command(self, name: str, *arguments: str) -> tuple[int, str]:
         """Runs another command of the program on the volume's file, on this host."""
-        return self.host.run(self.program, word, STORE, *words, is_checked=False)
+        return self.host.run(self.program, name, STORE, *arguments, is_checked=False)
 
 
 def look_into(program: str, held: bytes, folder: str) -> tuple[int, str, list[list[str]]]:

@@ -49,15 +49,15 @@ class Failed(Exception):
     """A step in the trial's own setup failed; this implies nothing about the coordinator."""
 
 
-def run(words: list[str], is_checked: bool = True) -> tuple[int, str]:
+def run(command: list[str], is_checked: bool = True) -> tuple[int, str]:
     """Runs a command to its end. Returns its status and its output."""
     try:
-        done = subprocess.run(words, stdin=subprocess.DEVNULL, stdout=subprocess.PIPE, stderr=subprocess.STDOUT,
+        done = subprocess.run(command, stdin=subprocess.DEVNULL, stdout=subprocess.PIPE, stderr=subprocess.STDOUT,
                               encoding="utf-8", errors="replace", timeout=PATIENCE, check=False)
     except subprocess.TimeoutExpired as late:
-        raise Failed(f"{' '.join(words)}: not within {PATIENCE} s") from late
+        raise Failed(f"{' '.join(command)}: not within {PATIENCE} s") from late
     if is_checked and done.returncode != 0:
-        raise Failed(f"{' '.join(words)}: status {done.returncode}: {done.stdout.strip()}")
+        raise Failed(f"{' '.join(command)}: status {done.returncode}: {done.stdout.strip()}")
     return done.returncode, done.stdout
 
 
@@ -87,12 +87,12 @@ class Host:
 
     def boot_by(self, script: str, *more: str, group: str | None = None) -> None:
         """Starts the host, in a separate control group if one is named: systemd must be the only one in its group."""
-        words = ["sh", "-c", 'echo $$ > "$0/cgroup.procs"; exec "$@"', group] if group else []
-        words += ["unshare", "--net", "--mount", "--pid", "--uts", "--ipc", "--cgroup", "--fork", "--kill-child",
-                  "--mount-proc", "sh", "-c", script, "boot", self.name, self.folder, self.address,
-                  os.path.realpath(sys.executable), *more]
+        command = ["sh", "-c", 'echo $$ > "$0/cgroup.procs"; exec "$@"', group] if group else []
+        command += ["unshare", "--net", "--mount", "--pid", "--uts", "--ipc", "--cgroup", "--fork", "--kill-child",
+                    "--mount-proc", "sh", "-c", script, "boot", self.name, self.folder, self.address,
+                    os.path.realpath(sys.executable), *more]
         with open(f"{self.folder}/boot", "ab") as faults:
-            self.process = subprocess.Popen(words, stdin=subprocess.PIPE, stdout=subprocess.PIPE, stderr=faults,
+            self.process = subprocess.Popen(command, stdin=subprocess.PIPE, stdout=subprocess.PIPE, stderr=faults,
                                             encoding="utf-8")
         self.expect("up")
         with open(f"/proc/{self.process.pid}/task/{self.process.pid}/children", encoding="utf-8") as children:
@@ -132,13 +132,13 @@ class Host:
     def link(self) -> None:
         set_link(self.port, True)
 
-    def inside(self, *words: str) -> list[str]:
+    def inside(self, *command: str) -> list[str]:
         """Returns the arguments that run a command on this host."""
         return ["nsenter", f"--target={self.first}", "--mount", "--net", "--pid", "--uts", "--ipc", "--cgroup",
-                "--wd=/", *words]
+                "--wd=/", *command]
 
-    def run(self, *words: str, is_checked: bool = True) -> tuple[int, str]:
-        return run(self.inside(*words), is_checked)
+    def run(self, *command: str, is_checked: bool = True) -> tuple[int, str]:
+        return run(self.inside(*command), is_checked)
 
     def number_outside(self, number: str) -> int:
         """Returns the number that a process of this host has outside it."""

@@ -34,11 +34,11 @@ class Service:
     def follow(self, place: int, lines: list[str]) -> None:
         new, self.read[place] = lines[self.read[place]:], len(lines)
         for line in new:
-            words = line.split()
-            if words[0] == "listening":
+            fields = line.split()
+            if fields[0] == "listening":
                 self.look()
-            elif words[:2] == ["signal", str(self.node)]:
-                self.begin(int(words[2]))
+            elif fields[:2] == ["signal", str(self.node)]:
+                self.begin(int(fields[2]))
 
     def look(self) -> None:
         met = self.client.site.ask_while(lambda: self.is_on, {"op": "show"})

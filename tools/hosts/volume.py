@@ -45,8 +45,8 @@ class Volume:
     def __init__(self, hosts: list[Host], options: dict[str, str], mount_options: str) -> None:
         self.hosts, self.options, self.mount_options = hosts, dict(options), mount_options
 
-    def gluster(self, host: Host, *words: str, is_checked: bool = True) -> tuple[int, str]:
-        return host.run("gluster", "--mode=script", *words, is_checked=is_checked)
+    def gluster(self, host: Host, *arguments: str, is_checked: bool = True) -> tuple[int, str]:
+        return host.run("gluster", "--mode=script", *arguments, is_checked=is_checked)
 
     def make(self) -> None:
         """Creates the volume on hosts that are on: glusterd on each, one pool, the volume with its options, mounted on each."""
@@ -76,8 +76,8 @@ class Volume:
 
     def mount(self, host: Host, is_checked: bool = True) -> bool:
         """Mounts the volume. Returns whether it is mounted now."""
-        words = ["mount", "-t", "glusterfs", "-o", self.mount_options, f"{host.name}:/{NAME}", MOUNT]
-        return host.run(*words, is_checked=is_checked)[0] == 0
+        command = ["mount", "-t", "glusterfs", "-o", self.mount_options, f"{host.name}:/{NAME}", MOUNT]
+        return host.run(*command, is_checked=is_checked)[0] == 0
 
     def join(self, host: Host) -> None:
         """Rejoins a host that was switched on again: its glusterd starts its brick, and the volume is mounted."""
@@ -133,9 +133,9 @@ class Volume:
         try:
             took = wait_for("healing", lambda: self.is_healed(host) and len(set(self.bytes())) == 1, 0.5)
         except Failed as late:
-            told = ", ".join(f"{host.name} {hashlib.sha256(held).hexdigest()[:12]}"
-                             for host, held in zip(self.hosts, self.bytes()))
-            raise Lost(f"the bricks still differ, or have writes to heal, after {PATIENCE} s: {told}") from late
+            digests = ", ".join(f"{host.name} {hashlib.sha256(held).hexdigest()[:12]}"
+                                for host, held in zip(self.hosts, self.bytes()))
+            raise Lost(f"the bricks still differ, or have writes to heal, after {PATIENCE} s: {digests}") from late
         return self.bytes()[0], took
 
     def bytes(self, name: str = "store") -> list[bytes]:

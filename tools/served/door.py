@@ -102,7 +102,7 @@ class Members:
     def folder(self, node: int) -> str:
         return f"{self._folder}/{node}"
 
-    def _words(self, node: int) -> list[str]:
+    def _command(self, node: int) -> list[str]:
         in_python = [sys.executable, f"{ROOT}/tools/served/door_member.py"]
         command = [self._programs.of_c] if node in OF_C else [self._programs.of_go] if node in OF_GO else in_python
         return [*command, str(node), self._address, self.folder(node)]
@@ -110,7 +110,7 @@ class Members:
     def start(self, node: int) -> None:
         if node not in self._running:
             with open(f"{self.folder(node)}/lines", "ab") as lines:
-                self._running[node] = subprocess.Popen(self._words(node), stdin=subprocess.DEVNULL, stdout=lines, stderr=lines)
+                self._running[node] = subprocess.Popen(self._command(node), stdin=subprocess.DEVNULL, stdout=lines, stderr=lines)
 
     def kill(self, node: int) -> None:
         member = self._running.pop(node, None)

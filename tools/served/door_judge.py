@@ -45,16 +45,16 @@ def talk_of(node: int, folder: str) -> Talk | None:
     before = start_of(folder)
     try:
         with open(f"{folder}/run", encoding="ascii") as file:
-            words = file.read().split()
+            fields = file.read().split()
         after = start_of(folder)
         is_there = os.path.exists(f"{folder}/run")
     except FileNotFoundError:
         return None
-    if before is None or not is_there or before != after or len(words) != 2:
+    if before is None or not is_there or before != after or len(fields) != 2:
         return None
-    if words[0] != before.epoch:
-        raise Failed(f"member {node} talks at epoch {words[0]}, but its work is of epoch {before.epoch}")
-    return Talk(node, words[1].partition("-")[0], before)
+    if fields[0] != before.epoch:
+        raise Failed(f"member {node} talks at epoch {fields[0]}, but its work is of epoch {before.epoch}")
+    return Talk(node, fields[1].partition("-")[0], before)
 
 
 class Judge(threading.Thread):

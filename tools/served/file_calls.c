@@ -100,29 +100,29 @@ static void follow(int counts, pid_t group) { /* until none of the processes is 
   }
 }
 
-static void trace(pid_t process, int told, int counts) { /* in a process of its own, which nobody waits for */
+static void trace(pid_t process, int ready, int counts) { /* in a process of its own, which nobody waits for */
   long options = PTRACE_O_EXITKILL | PTRACE_O_TRACESECCOMP | PTRACE_O_TRACECLONE | PTRACE_O_TRACEFORK | PTRACE_O_TRACEVFORK;
   if (fork() != 0) _exit(0);
   setsid();
-  need(ptrace(PTRACE_SEIZE, process, 0, options) == 0 && write(told, "", 1) == 1, "ptrace");
-  close(told);
+  need(ptrace(PTRACE_SEIZE, process, 0, options) == 0 && write(ready, "", 1) == 1, "ptrace");
+  close(ready);
   follow(counts, process);
   _exit(0);
 }
 
-int main(int count, char **words) {
-  int told[2], counts = count > 2 ? open(words[1], O_RDWR | O_CLOEXEC) : -1;
+int main(int count, char **arguments) {
+  int ready[2], counts = count > 2 ? open(arguments[1], O_RDWR | O_CLOEXEC) : -1;
   char byte;
-  need(counts >= 0 && pipe2(told, O_CLOEXEC) == 0, "usage: file_calls COUNTS COMMAND..");
+  need(counts >= 0 && pipe2(ready, O_CLOEXEC) == 0, "usage: file_calls COUNTS COMMAND..");
   prctl(PR_SET_PTRACER, PR_SET_PTRACER_ANY, 0, 0, 0);
   pid_t own = getpid(), tracer = fork();
   need(tracer >= 0, "fork");
-  if (tracer == 0) trace(own, told[1], counts);
-  close(told[1]);
+  if (tracer == 0) trace(own, ready[1], counts);
+  close(ready[1]);
   waitpid(tracer, NULL, 0);
-  if (read(told[0], &byte, 1) != 1) return 125; /* no ptrace here */
+  if (read(ready[0], &byte, 1) != 1) return 125; /* no ptrace here */
   filter_calls();
-  execvp(words[2], words + 2);
-  perror(words[2]);
+  execvp(arguments[2], arguments + 2);
+  perror(arguments[2]);
   return 127;
 }

@@ -37,7 +37,7 @@ class FileCalls:
         compiler = shutil.which("cc")
         if compiler is None:
             return "there is no C compiler"
-        words = [compiler, "-O1", "-o", self._program, f"{FOLDER}/file_calls.c"]
-        made = subprocess.run(words, capture_output=True, check=False).returncode == 0
+        command = [compiler, "-O1", "-o", self._program, f"{FOLDER}/file_calls.c"]
+        made = subprocess.run(command, capture_output=True, check=False).returncode == 0
         tried = made and subprocess.run([self._program, self._counts, "true"], capture_output=True, check=False).returncode == 0
         return "" if tried else "no process may trace another one here"

@@ -313,7 +313,7 @@ class Between:
 
     def direct(self, line: bytes) -> bytes:
         request: Json = json.loads(line)
-        return patiently(lambda: self.proxy.raw(request), self.trial.words.seconds).encode()
+        return patiently(lambda: self.proxy.raw(request), self.trial.arguments.seconds).encode()
 
 
 def away(connection: socket.socket, text: bytes) -> bool:
@@ -339,11 +339,11 @@ class Tried:
 
     def start(self) -> None:
         host, port = self.between.listener.getsockname()
-        words = {"node": NODE, "host": host, "port": port, "address": f"{host}:{port}", "proxy": f"unix:{self.between.path}",
-                 "folder": self.folder, "signals": self.trial.server.signals}
+        values = {"node": NODE, "host": host, "port": port, "address": f"{host}:{port}", "proxy": f"unix:{self.between.path}",
+                  "folder": self.folder, "signals": self.trial.server.signals}
         with open(f"{self.trial.folder}/foreign.lines", "ab") as lines:
             self.process: subprocess.Popen[bytes] = subprocess.Popen(
-                self.calls.around([word.format(**words) for word in self.command]), stdin=subprocess.DEVNULL, stdout=lines,
+                self.calls.around([word.format(**values) for word in self.command]), stdin=subprocess.DEVNULL, stdout=lines,
                 stderr=lines, start_new_session=True)
 
     def kill(self) -> None:
@@ -399,7 +399,7 @@ class Tried:
 
     def until(self, what: str, holds: Callable[[], bool], may_end: bool = False) -> None:
         """Waits until something holds, while the member keeps the rule."""
-        until = time.monotonic() + self.trial.words.seconds
+        until = time.monotonic() + self.trial.arguments.seconds
         while True:
             reached = holds()
             if self.rule.wrong:
@@ -409,8 +409,8 @@ class Tried:
             if self.process.poll() is not None and not may_end:
                 raise Failed(f"{what}: it has ended: {read(f'{self.trial.folder}/foreign.lines')[-300:]}")
             if time.monotonic() > until:
-                raise Failed(f"{what}, within {self.trial.words.seconds} s: {self.rule.found()[0] or self.trial.told()}; its due action is "
-                             f"{self.rule.due}")
+                raise Failed(f"{what}, within {self.trial.arguments.seconds} s: {self.rule.found()[0] or self.trial.told()}; "
+                             f"its due action is {self.rule.due}")
             time.sleep(0.02)
 
     def looks(self, what: str, times: int = 2) -> None:
@@ -500,7 +500,7 @@ def of_confirms(tried: Tried) -> None:
         died.set()
     tried.between.on_confirm = dies
     trial.reset(2)
-    if not died.wait(trial.words.seconds):
+    if not died.wait(trial.arguments.seconds):
         raise Failed("a reset: it confirms nothing")
     tried.start()
     tried.all_talk("after it died before its confirm")
@@ -584,7 +584,7 @@ def of_kills(tried: Tried) -> None:
     if not tried.calls.can_see:
         return
     trial = tried.trial
-    for call in range(1, trial.words.kills + 1):
+    for call in range(1, trial.arguments.kills + 1):
         tried.calls.die_at(call)
         trial.reset(1)
         has_died = tried.dies_on_its_way(f"a reset, and a kill at file call {call}")

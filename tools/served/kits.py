@@ -10,9 +10,9 @@ CLANG = """#include <stdlib.h>
 #include <string.h>
 #include <unistd.h>
 
-int main(int count, char **words) {{
+int main(int count, char **arguments) {{
     {before}
-    execv("{clang}", words);
+    execv("{clang}", arguments);
     return 127;
 }}
 """
@@ -32,7 +32,7 @@ def link_all(source: str, folder: str, but: tuple[str, ...] = ()) -> None:
 
 
 def with_clang(folder: str, before: str) -> str:
-    """Makes a toolchain whose clang first executes the C statements in `before`, which may use `count` and `words`. Returns its
+    """Makes a toolchain whose clang first executes the C statements in `before`, which may use `count` and `arguments`. Returns its
     command rt."""
     of = kit()
     link_all(of, folder, ("bin", "toolchain"))

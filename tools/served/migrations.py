@@ -95,7 +95,7 @@ class Trial:
     def __init__(self, ring: Ring, server: Server, count: int) -> None:
         self.ring, self.server, self.count = ring, server, count
         self.first = ring.server.store
-        self.words = [server.program, "migrate", server.store]
+        self.command = [server.program, "migrate", server.store]
         self.rows: tuple[int, list[str]] = ring.server.command("show")
         self.found = {1: 0, 2: 0}  # how many were found in each version after a kill
         self.too_late = 0  # the number of migrations that had ended before the kill
@@ -129,7 +129,7 @@ class Trial:
         self.copy()
         log = f"{self.server.store}.strace"
         names = ",".join((WRITE, *SYNCS))
-        subprocess.run(["strace", "-f", "-qq", "-o", log, "-e", f"trace={names}", *self.words], check=True,
+        subprocess.run(["strace", "-f", "-qq", "-o", log, "-e", f"trace={names}", *self.command], check=True,
                        stdout=subprocess.DEVNULL)
         with open(log, encoding="utf-8", errors="replace") as file:
             made = re.findall(r"^(?:\d+ +)?([a-z0-9]+)\(", file.read(), re.MULTILINE)
@@ -141,7 +141,7 @@ class Trial:
     def kill_after(self, seconds: float) -> None:
         """Kills a migration some time after its start."""
         self.copy()
-        process = subprocess.Popen(self.words, stdout=subprocess.PIPE, stderr=subprocess.STDOUT)
+        process = subprocess.Popen(self.command, stdout=subprocess.PIPE, stderr=subprocess.STDOUT)
         killer = threading.Timer(seconds, process.kill)
         killer.start()
         printed = process.communicate()[0].decode()
@@ -157,7 +157,7 @@ class Trial:
         """Kills a migration when it makes one of its device calls, the first to the fourth."""
         self.copy()
         status = subprocess.run(["strace", "-f", "-qq", "-o", os.devnull, "-e", f"trace={name}",
-                                 "-e", f"inject={name}:signal=9:when={when}", *self.words],
+                                 "-e", f"inject={name}:signal=9:when={when}", *self.command],
                                 capture_output=True, check=False).returncode
         if status != KILLED:
             raise Lost(f"strace did not kill a migration at its call {place} ({name} {when}): status {status}")

@@ -23,13 +23,14 @@ ops = ["show", "watch", "reset", "confirm", "add", "remove", "join", "drop", "re
 class Proxy:
     """`resetd-proxy serve` with one socket, where a client may do everything. All its starts use the same files of a folder."""
 
-    def __init__(self, folder: str, server: str, *words: str, program: str = PROGRAM) -> None:
-        """`server` is the address of the server; `words` are further arguments."""
+    def __init__(self, folder: str, server: str, *arguments: str, program: str = PROGRAM) -> None:
+        """`server` is the address of the server; `arguments` are further ones of its command line."""
         self.socket, self.audit, self.said = f"{folder}/proxy.socket", f"{folder}/proxy.audit", f"{folder}/proxy.said"
         policy = f"{folder}/proxy.toml"
         with open(policy, "w", encoding="utf-8") as file:
             file.write(POLICY)
-        self._words = [program, "serve", "--server", server, "--policy", policy, "--listen", f"all={self.socket}", "--audit", self.audit, *words]
+        self._command = [program, "serve", "--server", server, "--policy", policy, "--listen", f"all={self.socket}", "--audit", self.audit,
+                         *arguments]
         self.process: subprocess.Popen[bytes]
         self.start()
 
@@ -42,7 +43,7 @@ class Proxy:
         """Starts it. Raises Lost if it does not come to listen."""
         with open(self.said, "ab") as said:
             begin = said.tell()
-            self.process = subprocess.Popen(self._words, stdin=subprocess.DEVNULL, stdout=said, stderr=said)
+            self.process = subprocess.Popen(self._command, stdin=subprocess.DEVNULL, stdout=said, stderr=said)
         end = time.monotonic() + SECONDS
         while "listening all" not in (text := read_from(self.said, begin)):
             if self.process.poll() is not None or time.monotonic() > end:

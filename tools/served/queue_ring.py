@@ -13,8 +13,8 @@ MEMBER = f"{ROOT}/tools/served/queue_member.py"
 
 
 class QueueRing:
-    """This many members, which hand items round. `words` are the arguments of each: an address and a file of signals, and the
-    parts of the rule that it leaves out."""
+    """This many members, which hand items round. The arguments of each are an address, a file of signals, and the parts of
+    the rule that it leaves out."""
 
     def __init__(self, folder: str, nodes: int, address: str, signals: str, *without: str) -> None:
         self.folder, self.nodes, self.address, self.signals, self.without = folder, range(1, nodes + 1), address, signals, without
@@ -23,10 +23,10 @@ class QueueRing:
 
     def start(self, *nodes: int) -> None:
         for node in nodes or self.nodes:
-            words = [str(node), self.address, f"{self.folder}/{node}", str(self.ports[node - 1]),
-                     str(self.ports[node % len(self.ports)]), self.signals, *self.without]
+            arguments = [str(node), self.address, f"{self.folder}/{node}", str(self.ports[node - 1]),
+                         str(self.ports[node % len(self.ports)]), self.signals, *self.without]
             with open(f"{self.folder}/{node}.lines", "ab") as lines:
-                self.processes[node] = subprocess.Popen([sys.executable, MEMBER, *words], stdin=subprocess.DEVNULL,
+                self.processes[node] = subprocess.Popen([sys.executable, MEMBER, *arguments], stdin=subprocess.DEVNULL,
                                                         stdout=lines, stderr=lines)
 
     def start_anew(self, node: int) -> None:
@@ -40,7 +40,7 @@ class QueueRing:
         """Returns the number of items that each member has taken in its present start."""
         return [json.loads(read(f"{self.folder}/{node}/work") or '{"taken": 0}')["taken"] for node in self.nodes]
 
-    def count_told(self, word: str) -> int:
+    def count_lines(self, word: str) -> int:
         """Returns the number of the members' lines that contain a word."""
         return sum(read(f"{self.folder}/{node}.lines").count(f": {word}: ") for node in self.nodes)
 

@@ -16,7 +16,7 @@ from collections.abc import Callable
 from typing import Any
 
 from .ports import held_ports
-from .services import ROOT, Away, Failed, Trial, Words, read
+from .services import ROOT, Arguments, Away, Failed, Trial, read
 
 MEMBER = f"{ROOT}/tools/served/queue_member.py"
 WEAKER = {"history", "party", "reset"}
@@ -25,8 +25,8 @@ WEAKER = {"history", "party", "reset"}
 class Queue(Trial):
     """A coordinator and the three members of a work queue, each of which can be down."""
 
-    def __init__(self, words: Words, folder: str, nodes: int) -> None:
-        super().__init__(words, folder, nodes)
+    def __init__(self, arguments: Arguments, folder: str, nodes: int) -> None:
+        super().__init__(arguments, folder, nodes)
         self.ports = held_ports(nodes)
         self.up: dict[int, subprocess.Popen[bytes]] = {}
         self.choice = random.Random()
@@ -43,7 +43,7 @@ class Queue(Trial):
         with open(f"{self.folder}/{node}.lines", "ab") as lines:
             self.up[node] = subprocess.Popen(
                 [sys.executable, MEMBER, str(node), self.address, f"{self.folder}/{node}", str(self.ports[node - 1]),
-                 str(self.ports[node % len(self.ports)]), self.server.signals, *sorted(WEAKER & self.words.without)],
+                 str(self.ports[node % len(self.ports)]), self.server.signals, *sorted(WEAKER & self.arguments.without)],
                 stdin=subprocess.DEVNULL, stdout=lines, stderr=lines)
 
     def start_all(self) -> None:
@@ -178,7 +178,7 @@ def while_served(trial: Queue) -> None:
     shutil.copy(trial.server.store, served)
     trial.down(2)
     trial.reset_epochs(1, 3)
-    if subprocess.run([trial.words.program, "check", served], capture_output=True, check=False).returncode == 0:
+    if subprocess.run([trial.arguments.program, "check", served], capture_output=True, check=False).returncode == 0:
         trial.put_back(served)
 
 
@@ -280,7 +280,7 @@ def plain_reset(trial: Queue) -> None:
 
 
 def by_the_page(trial: Queue) -> None:
-    """A reset is forgotten that no member has begun. By the words of the page: services stopped, the copy put back,
+    """A reset is forgotten that no member has begun. By the commands of the page: services stopped, the copy put back,
     `resetctl restored`, services started."""
     copy = trial.copy()
     trial.down(*trial.nodes)
@@ -328,9 +328,9 @@ def starts(trial: Queue) -> str:
 
 def queue(trial: Queue) -> str:
     """Tries random events, one after another."""
-    seed = trial.words.seed if trial.words.seed is not None else random.randrange(1 << 32)
+    seed = trial.arguments.seed if trial.arguments.seed is not None else random.randrange(1 << 32)
     trial.choice = random.Random(seed)
     trial.begin()
-    for event in range(1, trial.words.events + 1):
+    for event in range(1, trial.arguments.events + 1):
         happen(trial, trial.choice.choice((*WAYS, *RENEWING, *RENEWING)), f"({event} of seed {seed})")
-    return f"{trial.words.events} events of seed {seed}"
+    return f"{trial.arguments.events} events of seed {seed}"

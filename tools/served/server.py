@@ -47,9 +47,9 @@ class Server:
     def process(self, process: subprocess.Popen[bytes]) -> None:
         self._process = process
 
-    def command(self, word: str, *words: str) -> tuple[int, list[str]]:
+    def command(self, name: str, *arguments: str) -> tuple[int, list[str]]:
         """Runs another command of the program on the store. Returns its status, and the lines that it printed, faults last."""
-        done = subprocess.run([self.program, word, self.store, *words], capture_output=True, encoding="utf-8")
+        done = subprocess.run([self.program, name, self.store, *arguments], capture_output=True, encoding="utf-8")
         return done.returncode, (done.stdout + done.stderr).splitlines()
 
     def found(self, topology: str) -> tuple[int, list[str]]:

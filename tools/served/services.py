@@ -19,7 +19,7 @@ ROOT = os.path.dirname(os.path.dirname(os.path.dirname(os.path.abspath(__file__)
 sys.path.insert(0, os.path.join(ROOT, "client"))
 from resetd_client import Away, Member, Orders, OutOfRun, Port, Reply, View, patiently  # noqa: E402
 
-__all__ = ["ROOT", "Away", "Failed", "Member", "Orders", "OutOfRun", "Port", "Trial", "View", "Words", "patiently", "read",
+__all__ = ["ROOT", "Arguments", "Away", "Failed", "Member", "Orders", "OutOfRun", "Port", "Trial", "View", "patiently", "read",
            "tag_in", "tags_at"]
 
 OPERATOR, RESETCTL = 16, 14  # clients that neither a member nor the proxy uses
@@ -29,7 +29,7 @@ class Failed(Exception):
     """A trial failed."""
 
 
-class Words(argparse.Namespace):
+class Arguments(argparse.Namespace):
     """The arguments of the command line. Some trials have no seed and no events."""
 
     program: str
@@ -44,9 +44,9 @@ class Words(argparse.Namespace):
 class Trial:
     """A coordinator, its requirements, and the helpers that were started. All of them end with the trial."""
 
-    def __init__(self, words: Words, folder: str, nodes: int, is_ring: bool = True) -> None:
-        self.words, self.folder, self.nodes = words, folder, range(1, nodes + 1)
-        self.server = Server(words.program, f"{folder}/store", held_address())  # of all its starts
+    def __init__(self, arguments: Arguments, folder: str, nodes: int, is_ring: bool = True) -> None:
+        self.arguments, self.folder, self.nodes = arguments, folder, range(1, nodes + 1)
+        self.server = Server(arguments.program, f"{folder}/store", held_address())  # of all its starts
         self.helpers = list[subprocess.Popen[bytes]]()
         self._proxies, self._bridges = list[Proxy](), list[Bridge]()
         links = [(node, node % nodes + 1) for node in self.nodes][:nodes if is_ring and nodes > 2 else nodes - 1]
@@ -56,7 +56,7 @@ class Trial:
         if done[0] != 0:
             raise Failed(f"resetd init: {done}")
         self.start()
-        proxy = None if words.is_at_port else self._start_proxy()
+        proxy = None if arguments.is_at_port else self._start_proxy()
         self.address = proxy.address if proxy else self.server.address  # of the trial's members
         self.port = Port(self.address, 30)
         self.orders = Orders(self.port, OPERATOR, f"{folder}/operator", told=lambda _: None)
@@ -74,7 +74,7 @@ class Trial:
         return self._bridges[0].address.split(":")
 
     def _start_proxy(self) -> Proxy:
-        proxy = Proxy(self.folder, self.server.address, "--signals", self.server.signals, "--patience", "600", program=self.words.proxy)
+        proxy = Proxy(self.folder, self.server.address, "--signals", self.server.signals, "--patience", "600", program=self.arguments.proxy)
         self._proxies.append(proxy)
         return proxy
 
@@ -87,11 +87,11 @@ class Trial:
         if self.server.close() != (0, ""):
             raise Failed("the coordinator did not end in order")
 
-    def run(self, program: str, *words: str | float, name: str | int,
+    def run(self, program: str, *arguments: str | float, name: str | int,
             stdin: int | IO[bytes] = subprocess.DEVNULL) -> subprocess.Popen[bytes]:
         """Starts one of the examples, with its lines in a file of this name."""
         with open(f"{self.folder}/{name}.lines", "ab") as lines:
-            self.helpers.append(subprocess.Popen([f"{ROOT}/examples/{program}", *map(str, words)],
+            self.helpers.append(subprocess.Popen([f"{ROOT}/examples/{program}", *map(str, arguments)],
                                                  stdin=stdin, stdout=lines, stderr=lines))
         return self.helpers[-1]
 
@@ -160,10 +160,10 @@ class Trial:
 
     def expect(self, what: str, holds: Callable[[], bool], seconds: float | None = None) -> None:
         """Waits until something holds."""
-        until = time.monotonic() + (seconds or self.words.seconds)
+        until = time.monotonic() + (seconds or self.arguments.seconds)
         while not holds():
             if time.monotonic() > until:
-                raise Failed(f"{what}, within {seconds or self.words.seconds} s: {self.told()}")
+                raise Failed(f"{what}, within {seconds or self.arguments.seconds} s: {self.told()}")
             time.sleep(0.05)
 
     def told(self) -> str:
@@ -202,15 +202,15 @@ class Trial:
 
     def renew(self) -> None:
         """Does what the page says to do once a restored store is served."""
-        if "restored" not in self.words.without:
+        if "restored" not in self.arguments.without:
             status, told = self.resetctl("restored")
             if status != 0 or "have a new epoch" not in told:
                 raise Failed(f"resetctl restored: status {status}, {told}")
 
-    def resetctl(self, *words: str) -> tuple[int, str]:
+    def resetctl(self, *arguments: str) -> tuple[int, str]:
         """Runs a command of the person on call, with a separate client. Returns its status and its output."""
         done = subprocess.run([f"{ROOT}/client/resetctl", "--address", self.address, "--client", str(RESETCTL),
-                               "--state", f"{self.folder}/state", *words], capture_output=True, encoding="utf-8", check=False)
+                               "--state", f"{self.folder}/state", *arguments], capture_output=True, encoding="utf-8", check=False)
         return done.returncode, done.stdout + done.stderr
 
     def end(self) -> None:

@@ -138,7 +138,7 @@ def members(trial: Trial) -> None:
 def messages(trial: Trial) -> str:
     """Member 1 looks only at intervals, so it learns late: after a reset it continues in the old run for a while."""
     places = held_ports(2)
-    tag = ["--without-tag"] if "tag" in trial.words.without else []
+    tag = ["--without-tag"] if "tag" in trial.arguments.without else []
     for node, signals, look in ((1, "/nonexistent", 1.2), (2, trial.server.signals, 5)):
         trial.run("talk", node, trial.address, f"{trial.folder}/{node}", places[node - 1], places[2 - node],
                   signals, look, *tag, name=node)

@@ -53,21 +53,21 @@ def copy_units(folder: str) -> None:
     write(f"{folder}/crates.txt", read(f"{folder}/crates.txt").rstrip("\n") + f"\nunits: {' '.join(sorted(libraries))}\n")
 
 
-def plant(folder: str, word: str) -> None:
+def plant(folder: str, mutant: str) -> None:
     """Plants a mutant. Each old text of it must occur once in its file."""
-    body = catalogue.find(word)
+    body = catalogue.find(mutant)
     for exchange in body.exchanges:
         path = f"{folder}/crates/{body.crate}/{exchange.file}"
         if exchange.file.startswith("proofs/"):
             continue
         if read(path).count(exchange.old) != 1:
-            sys.exit(f"{word}: the text to replace does not occur exactly once in {path}: {exchange.old}")
+            sys.exit(f"{mutant}: the text to replace does not occur exactly once in {path}: {exchange.old}")
         write(path, read(path).replace(exchange.old, exchange.new))
 
 
-def plant_schemata(folder: str, words: list[str]) -> None:
+def plant_schemata(folder: str, mutants: list[str]) -> None:
     """Plants mutants, one of which the environment chooses."""
     try:
-        schemata.plant(folder, [catalogue.find(word) for word in words])
+        schemata.plant(folder, [catalogue.find(mutant) for mutant in mutants])
     except schemata.Unfit as unfit:
         sys.exit(f"a mutant can't be chosen: {unfit}")

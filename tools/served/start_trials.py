@@ -33,7 +33,7 @@ def restore(trial: Trial) -> None:
 
 
 def put_back(trial: Trial, before: dict[int, int], up: Sequence[int]) -> None:
-    """By the words of the page, with services that are up and others that are started after it; then a close."""
+    """By the commands of the page, with services that are up and others that are started after it; then a close."""
     trial.put_back(f"{trial.folder}/copy")
     trial.renew()
     for node in trial.nodes:

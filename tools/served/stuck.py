@@ -37,9 +37,9 @@ def abort(process: subprocess.Popen[bytes]) -> None:
         process.wait(STACK_SECONDS)
 
 
-def answer_of(*words: str) -> str:
+def answer_of(*arguments: str) -> str:
     """What `resetctl` prints."""
-    done = subprocess.run([sys.executable, f"{ROOT}/client/resetctl", "--patience", "5", *words], stdin=subprocess.DEVNULL,
+    done = subprocess.run([sys.executable, f"{ROOT}/client/resetctl", "--patience", "5", *arguments], stdin=subprocess.DEVNULL,
                           capture_output=True, encoding="utf-8", check=False)
     return f"{done.stdout}{done.stderr}"
 

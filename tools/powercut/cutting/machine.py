@@ -52,9 +52,9 @@ class Machine:
     def _prepare(self) -> None:
         """Prepares the agent. Raises Gone and Refused."""
 
-    def _start(self, *words: str, files: tuple[int, ...] = (), output: str | None = None) -> None:
+    def _start(self, *command: str, files: tuple[int, ...] = (), output: str | None = None) -> None:
         with open(output or os.devnull, "ab") as out:
-            self._processes.append(subprocess.Popen(["nice", "-n", "10", *words], stdin=subprocess.DEVNULL, stdout=out, stderr=out,
+            self._processes.append(subprocess.Popen(["nice", "-n", "10", *command], stdin=subprocess.DEVNULL, stdout=out, stderr=out,
                                                     pass_fds=files, start_new_session=True, env={**os.environ, "TMPDIR": self.folder}))
 
     def _await_agent(self) -> None:
@@ -62,33 +62,33 @@ class Machine:
         while self._line(until) != "agent":
             pass
 
-    def ask(self, *words: object, data: bytes = b"", seconds: float = 300) -> tuple[int, bytes, bytes]:
+    def ask(self, *fields: object, data: bytes = b"", seconds: float = 300) -> tuple[int, bytes, bytes]:
         """Gives an order. Returns its status, its output, and its error output. Raises Gone."""
         until = time.monotonic() + seconds
         try:
-            self._socket.sendall("\t".join(map(str, words)).encode() + b"\n" + data)
+            self._socket.sendall("\t".join(map(str, fields)).encode() + b"\n" + data)
         except OSError as fault:
-            raise Gone(f"{fault}: {self.last_words()}") from fault
+            raise Gone(f"{fault}: {self.last_output()}") from fault
         head = re.fullmatch(r"R (\d+) (\d+) (\d+)", self._line(until))
         if not head:
-            raise Gone(f"no answer: {self.last_words()}")
+            raise Gone(f"no answer: {self.last_output()}")
         status, printed, errors = map(int, head.groups())
         while len(self._buffer) < printed + errors:
             self._fill(until)
         out, self._buffer = self._buffer[:printed + errors], self._buffer[printed + errors:]
         return status, out[:printed], out[printed:]
 
-    def must(self, *words: object, data: bytes = b"", seconds: float = 300) -> bytes:
+    def must(self, *fields: object, data: bytes = b"", seconds: float = 300) -> bytes:
         """Gives an order that has to succeed. Returns its output. Raises Gone and Refused."""
-        status, printed, errors = self.ask(*words, data=data, seconds=seconds)
+        status, printed, errors = self.ask(*fields, data=data, seconds=seconds)
         if status:
-            raise Refused(f"{' '.join(map(str, words[:4]))}: {status} {(printed + errors)[-2000:].decode(errors='replace')}")
+            raise Refused(f"{' '.join(map(str, fields[:4]))}: {status} {(printed + errors)[-2000:].decode(errors='replace')}")
         return printed
 
     def put(self, path: str, data: bytes) -> None:
         self.must("put", path, len(data), data=data)
 
-    def last_words(self) -> str:
+    def last_output(self) -> str:
         with open(self.console, errors="replace") as file:
             return file.read()[-2000:]
 
@@ -106,10 +106,10 @@ class Machine:
     def _fill(self, until: float) -> None:
         left = until - time.monotonic()
         if left <= 0 or not select.select([self._socket], [], [], left)[0]:
-            raise Gone(f"it is silent: {self.last_words()}")
+            raise Gone(f"it is silent: {self.last_output()}")
         more = self._socket.recv(1 << 20)
         if not more:
-            raise Gone(f"it has ended: {self.last_words()}")
+            raise Gone(f"it has ended: {self.last_output()}")
         self._buffer += more
 
     def _line(self, until: float) -> str:

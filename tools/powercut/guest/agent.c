@@ -1,5 +1,5 @@
 /* The guest's only process, PID 1 of a small virtual machine. It takes the host's orders over a serial port: to mount, to run programs,
- * to read and write files, and to run a server under a load (load.c). Each order is a line of words with tabs between them; each answer is
+ * to read and write files, and to run a server under a load (load.c). Each order is a line of fields with tabs between them; each answer is
  * a line `R STATUS PRINTED ERRORS` with two counts of bytes, and those bytes. */
 #define _GNU_SOURCE
 #include "guest.h"
@@ -19,7 +19,7 @@
 #include <termios.h>
 #include <unistd.h>
 
-#define MOST_WORDS 40
+#define MOST_FIELDS 40
 static int port = -1;
 
 static void send_bytes(const char *data, size_t size) {
@@ -59,34 +59,34 @@ static void forget_devices(void) {
 
 /* ---- the orders ---- */
 
-static void order_mount(char **w) { answer_errno(mount(w[1], "/mnt", w[2], 0, w[3])); }
-static void order_unmount(char **w) { (void)w; answer_errno(unmount()); forget_devices(); }
-static void order_marker(char **w) { answer_status(open_marker(w[1])); }
-static void order_mkdir(char **w) { answer_errno(mkdir(w[1], 0755)); }
-static void order_sync(char **w) { (void)w; sync(); answer_status(0); }
-static void order_sleep(char **w) { usleep((useconds_t)atoi(w[1]) * 1000); answer_status(0); }
-static void order_set_variable(char **w) { answer_errno(setenv(w[1], w[2], 1)); }
+static void order_mount(char **fields) { answer_errno(mount(fields[1], "/mnt", fields[2], 0, fields[3])); }
+static void order_unmount(char **fields) { (void)fields; answer_errno(unmount()); forget_devices(); }
+static void order_marker(char **fields) { answer_status(open_marker(fields[1])); }
+static void order_mkdir(char **fields) { answer_errno(mkdir(fields[1], 0755)); }
+static void order_sync(char **fields) { (void)fields; sync(); answer_status(0); }
+static void order_sleep(char **fields) { usleep((useconds_t)atoi(fields[1]) * 1000); answer_status(0); }
+static void order_set_variable(char **fields) { answer_errno(setenv(fields[1], fields[2], 1)); }
 
 /* mark TEXT, with | for the end of a line. */
-static void order_mark(char **w) {
+static void order_mark(char **fields) {
   char text[4096];
-  snprintf(text, sizeof text, "%s\n", w[1]);
+  snprintf(text, sizeof text, "%s\n", fields[1]);
   for (char *at = text; *at; at++) if (*at == '|') *at = '\n';
   answer_status(mark(text));
 }
 
 /* set FILE TEXT: writes into a file that is there. */
-static void order_set(char **w) {
-  int file = open(w[1], O_WRONLY | O_CLOEXEC);
-  answer_errno(file < 0 || write(file, w[2], strlen(w[2])) < 0);
+static void order_set(char **fields) {
+  int file = open(fields[1], O_WRONLY | O_CLOEXEC);
+  answer_errno(file < 0 || write(file, fields[2], strlen(fields[2])) < 0);
   if (file >= 0) close(file);
 }
 
 /* put FILE SIZE, and after the line that many bytes. */
-static void order_put(char **w) {
+static void order_put(char **fields) {
   char bytes[65536];
-  int file = open(w[1], O_WRONLY | O_CREAT | O_TRUNC | O_CLOEXEC, 0600), failed = file < 0;
-  for (size_t left = strtoul(w[2], NULL, 10); left;) {
+  int file = open(fields[1], O_WRONLY | O_CREAT | O_TRUNC | O_CLOEXEC, 0600), failed = file < 0;
+  for (size_t left = strtoul(fields[2], NULL, 10); left;) {
     ssize_t got = read(port, bytes, left < sizeof bytes ? left : sizeof bytes);
     if (got <= 0) { usleep(2000); continue; }
     failed |= write(file, bytes, (size_t)got) != got;
@@ -97,19 +97,19 @@ static void order_put(char **w) {
   answer_status(failed);
 }
 
-static void order_get(char **w) {
+static void order_get(char **fields) {
   struct text bytes = {0};
-  int file = open(w[1], O_RDONLY | O_CLOEXEC), failed = file < 0 ? errno : 0;
+  int file = open(fields[1], O_RDONLY | O_CLOEXEC), failed = file < 0 ? errno : 0;
   append_file(&bytes, file);
   if (file >= 0) close(file);
   answer(failed, &bytes, &(struct text){0});
   free(bytes.data);
 }
 
-/* run SECONDS PROGRAM WORD.. */
-static void order_run(char **w) {
+/* run SECONDS PROGRAM ARGUMENT.. */
+static void order_run(char **fields) {
   struct text printed = {0}, errors = {0};
-  int status = run(w + 2, atoi(w[1]), &printed, &errors);
+  int status = run(fields + 2, atoi(fields[1]), &printed, &errors);
   answer(status, &printed, &errors);
   free(printed.data);
   free(errors.data);
@@ -118,8 +118,8 @@ static void order_run(char **w) {
 /* Appends what `check` or `show` says of a store: a line `NAME STATUS BYTES`, and those bytes. The status. */
 static int append_said(struct text *said, char *program, char *name, char *store) {
   struct text printed = {0}, errors = {0};
-  char head[80], *words[] = {program, name, store, NULL};
-  int status = run(words, 120, &printed, &errors);
+  char head[80], *command[] = {program, name, store, NULL};
+  int status = run(command, 120, &printed, &errors);
   append(said, head, (size_t)snprintf(head, sizeof head, "%s %d %zu\n", name, status, printed.size + errors.size));
   append(said, printed.data, printed.size);
   append(said, errors.data, errors.size);
@@ -129,10 +129,10 @@ static int append_said(struct text *said, char *program, char *name, char *store
 }
 
 /* judge DEVICE TYPE OPTIONS PROGRAM STORE: mounts, reads the store, has PROGRAM look at it unless that is empty, and unmounts. */
-static void order_judge(char **w) {
+static void order_judge(char **fields) {
   struct text said = {0}, bytes = {0};
-  if (mount(w[1], "/mnt", w[2], 0, w[3])) { answer_text(1, "mount %d", errno); forget_devices(); return; }
-  int file = open(w[5], O_RDONLY | O_CLOEXEC);
+  if (mount(fields[1], "/mnt", fields[2], 0, fields[3])) { answer_text(1, "mount %d", errno); forget_devices(); return; }
+  int file = open(fields[5], O_RDONLY | O_CLOEXEC);
   if (file < 0) {
     char head[80];
     append(&said, head, (size_t)snprintf(head, sizeof head, errno == ENOENT ? "nofile %d\n" : "unreadable %d\n", errno));
@@ -141,7 +141,7 @@ static void order_judge(char **w) {
     append_file(&bytes, file);
     if (errno) append(&said, "unreadable\n", 11);
     close(file);
-    if (!errno && *w[4] && !append_said(&said, w[4], "check", w[5])) append_said(&said, w[4], "show", w[5]);
+    if (!errno && *fields[4] && !append_said(&said, fields[4], "check", fields[5])) append_said(&said, fields[4], "show", fields[5]);
   }
   if (unmount()) answer_text(2, "umount %d", errno); else answer(0, &said, &bytes);
   free(said.data);
@@ -149,23 +149,23 @@ static void order_judge(char **w) {
   forget_devices();
 }
 
-static void order_off(char **w) { (void)w; answer_status(0); reboot(RB_POWER_OFF); }
+static void order_off(char **fields) { (void)fields; answer_status(0); reboot(RB_POWER_OFF); }
 
-static const struct { const char *name; void (*carry_out)(char **words); } orders[] = {
+static const struct { const char *name; void (*carry_out)(char **fields); } orders[] = {
   {"mount", order_mount}, {"unmount", order_unmount}, {"marker", order_marker}, {"mark", order_mark}, {"mkdir", order_mkdir},
   {"sync", order_sync}, {"sleep", order_sleep}, {"set", order_set}, {"put", order_put}, {"get", order_get}, {"run", order_run},
   {"variable", order_set_variable}, {"judge", order_judge}, {"load", run_load}, {"off", order_off},
 };
 
 static void carry_out(char *line) {
-  char *words[MOST_WORDS] = {NULL};
-  for (int count = 0; line && count < MOST_WORDS - 1; count++) {
-    words[count] = line;
+  char *fields[MOST_FIELDS] = {NULL};
+  for (int count = 0; line && count < MOST_FIELDS - 1; count++) {
+    fields[count] = line;
     if ((line = strchr(line, '\t'))) *line++ = 0;
   }
   for (size_t at = 0; at < sizeof orders / sizeof *orders; at++)
-    if (!strcmp(words[0], orders[at].name)) { orders[at].carry_out(words); return; }
-  answer_text(99, "no such order: %s", words[0]);
+    if (!strcmp(fields[0], orders[at].name)) { orders[at].carry_out(fields); return; }
+  answer_text(99, "no such order: %s", fields[0]);
 }
 
 /* ---- the start of the machine ---- */

@@ -80,12 +80,12 @@ void use_streams(int input, int output, int errors) {
   for (int file = 3; file < 64; file++) close(file);
 }
 
-static pid_t start(char **words, int output[2], int errors[2]) {
+static pid_t start(char **command, int output[2], int errors[2]) {
   if (pipe(output) || pipe(errors)) return -1;
   pid_t child = fork();
   if (!child) {
     use_streams(open("/dev/null", O_RDONLY), output[1], errors[1]);
-    execv(words[0], words);
+    execv(command[0], command);
     _exit(127);
   }
   close(output[1]);
@@ -93,9 +93,9 @@ static pid_t start(char **words, int output[2], int errors[2]) {
   return child;
 }
 
-int run(char **words, int seconds, struct text *printed, struct text *errors) {
+int run(char **command, int seconds, struct text *printed, struct text *errors) {
   int output[2], other[2], is_late = 0, status = 0;
-  pid_t child = start(words, output, other);
+  pid_t child = start(command, output, other);
   if (child < 0) return 250;
   struct pollfd from[2] = {{output[0], POLLIN, 0}, {other[0], POLLIN, 0}};
   double end = now() + seconds;

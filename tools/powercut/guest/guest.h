@@ -27,9 +27,9 @@ int mark(const char *text);
 
 /* Runs a program to its end, or kills it after these seconds. Its exit status; 128 and the number of the signal that ended it; 250 if it
  * did not run, and 251 if it was late. */
-int run(char **words, int seconds, struct text *printed, struct text *errors);
+int run(char **command, int seconds, struct text *printed, struct text *errors);
 /* In a child: replaces its standard streams, and closes what else is open. */
 void use_streams(int input, int output, int errors);
 
 /* load PROGRAM STORE ORDERS SEED NOISE KILLS CLOSES: runs a server under orders, and answers what became of them. */
-void run_load(char **words);
+void run_load(char **fields);

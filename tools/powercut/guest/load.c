@@ -129,9 +129,9 @@ static int start_server(void) {
   if (pipe(both)) return -1;
   server = fork();
   if (!server) {
-    char *words[] = {given.program, "serve", given.store, ADDRESS, NULL};
+    char *command[] = {given.program, "serve", given.store, ADDRESS, NULL};
     use_streams(open("/dev/null", O_RDWR), both[1], open("/tmp/serve.err", O_WRONLY | O_CREAT | O_TRUNC, 0600));
-    execv(given.program, words);
+    execv(given.program, command);
     _exit(127);
   }
   close(both[1]);
@@ -292,15 +292,15 @@ static int end_server(void) {
   return 0;
 }
 
-void run_load(char **w) {
+void run_load(char **fields) {
   const char *why = NULL;
-  given.program = w[1], given.store = w[2], given.orders = atoi(w[3]), given.kills = atoi(w[6]), given.closes = atoi(w[7]);
-  seed_random((unsigned)atoi(w[4]) * 1000003ull + 12345);
+  given.program = fields[1], given.store = fields[2], given.orders = atoi(fields[3]), given.kills = atoi(fields[6]), given.closes = atoi(fields[7]);
+  seed_random((unsigned)atoi(fields[4]) * 1000003ull + 12345);
   greatest_step = answered = refused = signals = kills = 0;
   memset(next_number, 0, sizeof next_number);
   if (start_server()) { answer_text(1, "the server did not start"); return; }
   if (find_numbers()) { answer_text(1, "no numbers"); return; }
-  pid_t noise = atoi(w[5]) ? start_noise((unsigned)atoi(w[4])) : 0;
+  pid_t noise = atoi(fields[5]) ? start_noise((unsigned)atoi(fields[4])) : 0;
   mark("load\n");
   int sent = send_orders(&why);
   if (!why) listen_until(0, 0.3);
