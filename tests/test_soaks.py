@@ -6,7 +6,7 @@ import unittest
 from support.program import ROOT
 
 sys.path.insert(0, f"{ROOT}/tools")
-from served.patience import Patience  # noqa: E402
+from served.progress_timeout import ProgressTimeout  # noqa: E402
 
 SECONDS = 180.0
 
@@ -16,7 +16,7 @@ class OfALostEpoch(unittest.TestCase):
 
     def setUp(self) -> None:
         self.now = 0.0
-        self.patience = Patience(SECONDS, lambda: self.now)
+        self.patience = ProgressTimeout(SECONDS, lambda: self.now)
         self.patience.note([100, 100])
         self.patience.begin()
 

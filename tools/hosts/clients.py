@@ -10,7 +10,7 @@ import time
 from collections.abc import Callable
 from typing import TYPE_CHECKING, Any
 
-from .network import PATIENCE, Host
+from .network import STEP_TIMEOUT, Host
 
 if TYPE_CHECKING:
     from .keeper import Keeper
@@ -70,7 +70,7 @@ class Site:
 
     def ask_while(self, is_wanted: Callable[[], bool], request: Json) -> tuple[Json, Keeper] | None:
         """Like `ask`, but returns None once the request is no longer wanted."""
-        until = time.monotonic() + PATIENCE
+        until = time.monotonic() + STEP_TIMEOUT
         while time.monotonic() < until and is_wanted():
             keeper = self.present
             try:
@@ -83,7 +83,7 @@ class Site:
             self.next_after(keeper)
             time.sleep(0.05)
         if is_wanted():
-            raise Lost(f"{request} was not answered within {PATIENCE} s")
+            raise Lost(f"{request} was not answered within {STEP_TIMEOUT} s")
         return None
 
 

@@ -4,7 +4,7 @@ import time
 from collections.abc import Iterable
 
 from .clients import Client
-from .trial import Trial, tell
+from .trial import Trial, report
 from .volume import MOUNT
 
 COUNT = 200
@@ -47,16 +47,16 @@ def measure(trial: Trial) -> None:
     _, printed = host.run("python3", "-c", RAW, f"{MOUNT}/raw", str(COUNT))
     raw = half_and_most(map(float, printed.split()))
     disk = half_and_most(map(float, host.run("python3", "-c", RAW, "/srv/raw", str(COUNT))[1].split()))
-    tell(f"a write and a sync on the host's own disk     half {disk[0]:.2f} ms, 99 of 100 {disk[1]:.2f} ms")
-    tell(f"a write and a sync on the volume              half {raw[0]:.2f} ms, 99 of 100 {raw[1]:.2f} ms")
+    report(f"a write and a sync on the host's own disk     half {disk[0]:.2f} ms, 99 of 100 {disk[1]:.2f} ms")
+    report(f"a write and a sync on the volume              half {raw[0]:.2f} ms, 99 of 100 {raw[1]:.2f} ms")
     _, printed = host.run("sh", "-c", REWRITE, "rewrite", f"{MOUNT}/raw", str(LARGE), str(COUNT // 10))
     half, most = half_and_most(float(line) / 1e9 for line in printed.split())
-    tell(f"{LARGE} bytes on it written over themselves   half {half:.2f} ms, the longest {most:.2f} ms")
+    report(f"{LARGE} bytes on it written over themselves   half {half:.2f} ms, the longest {most:.2f} ms")
     usual = trial.site.host
     for name, asker in (("the same host", host), ("another host", usual)):
         trial.site.host = asker
         half, most = half_and_most([time_order(client) for _ in range(COUNT)])
-        tell(f"an order, from {name:31s}half {half:.2f} ms, 99 of 100 {most:.2f} ms; {half / raw[0]:.1f} raw pairs")
+        report(f"an order, from {name:31s}half {half:.2f} ms, 99 of 100 {most:.2f} ms; {half / raw[0]:.1f} raw pairs")
     trial.site.host = usual
     client.order("remove", node=60)
     print()

@@ -11,7 +11,7 @@ import time
 from .clients import Away, Json, Lost, ask
 from .network import Failed, Host, make_switch, run, wait_for
 from .pulse import Pulse
-from .trial import QUICK, tell
+from .trial import QUICK, report
 
 ROOT = os.path.dirname(os.path.dirname(os.path.dirname(os.path.abspath(__file__))))
 SECTION = "## To set it up"
@@ -139,7 +139,7 @@ def lose_one(machines: list[Machine]) -> None:
     wait_standby(second)
     order: Json = {"op": "reset", "client": 1, "number": 1, "node": 3}
     reply = ask(first, PORT, order)
-    tell(f"{first.name} serves: {reply}; the unit of {second.name} was refused, status 3")
+    report(f"{first.name} serves: {reply}; the unit of {second.name} was refused, status 3")
     pulse = Pulse()
     first.kill()
     killed = time.monotonic()
@@ -147,14 +147,14 @@ def lose_one(machines: list[Machine]) -> None:
     took = time.monotonic() - killed
     if ask(second, PORT, order) != reply or pulse.seconds(killed, killed + took) > QUICK:
         raise Lost(f"{second.name} answered {ask(second, PORT, order)} after {took:.1f} s")
-    tell(f"the whole machine {first.name} was killed; {second.name} answered after {took:.1f} s, and gave the same reply to the same order")
+    report(f"the whole machine {first.name} was killed; {second.name} answered after {took:.1f} s, and gave the same reply to the same order")
     first.boot()
     wait_standby(first)
-    tell(f"{first.name} is switched on again, and is a standby now")
+    report(f"{first.name} is switched on again, and is a standby now")
     late_mount(first)
     ask(second, PORT, {"op": "close"})
     wait_for("a start after the close", lambda: any(machine.listens() for machine in machines))
-    tell(f"a close to {second.name}: {next(m for m in machines if m.listens()).name} serves")
+    report(f"a close to {second.name}: {next(m for m in machines if m.listens()).name} serves")
 
 
 def late_mount(machine: Machine) -> None:
@@ -168,4 +168,4 @@ def late_mount(machine: Machine) -> None:
     machine.run("systemctl", "unmask", "--runtime", "srv-resetd.mount")
     wait_for("the mount", lambda: machine.run("mountpoint", "-q", "/srv/resetd", is_checked=False)[0] == 0, 0.5)
     wait_standby(machine)
-    tell(f"without its mount the unit of {machine.name} tried again and made no file; it mounted the volume late")
+    report(f"without its mount the unit of {machine.name} tried again and made no file; it mounted the volume late")

@@ -8,8 +8,8 @@ import time
 
 from .clients import Json
 from .keeper import STORE, Keeper
-from .network import PATIENCE, Failed, Host, wait_for
-from .trial import Trial, tell
+from .network import STEP_TIMEOUT, Failed, Host, wait_for
+from .trial import Trial, report
 
 LOAD = 2  # seconds of orders after the byte
 TRIES = 10
@@ -51,7 +51,7 @@ def write_half(trial: Trial) -> None:
     end_all(trial, keeper)
     trial.volume.set_healing(False)
     held = append_half(trial, keeper.host, {**order, "step": step})
-    tell(f"step {step} in the three bricks: {' '.join(held)}")
+    report(f"step {step} in the three bricks: {' '.join(held)}")
     keeper.go_on()
     client.unanswered = order
     reply = client.order("")
@@ -61,8 +61,8 @@ def write_half(trial: Trial) -> None:
     time.sleep(LOAD)
     trial.load.stop()
     trial.load.finish()
-    tell(f"{keeper.host.name} has read it, and continues from it: {len(trial.records.steps)} orders are answered now; "
-         "then the bricks heal")
+    report(f"{keeper.host.name} has read it, and continues from it: {len(trial.records.steps)} orders are answered now; "
+           "then the bricks heal")
     trial.volume.set_healing(True)
     trial.other(keeper).go_on()
     trial.check()
@@ -85,7 +85,7 @@ def append_half(trial: Trial, host: Host, order: Json) -> list[str]:
         held = try_append(trial, host, order)
         if sorted(held) != ["00", "00", "00"]:
             break
-        tell("(the bricks stopped too late, so the byte reached none of them; once more)")
+        report("(the bricks stopped too late, so the byte reached none of them; once more)")
     if sorted(held) != ["00", "00", "01"]:
         raise Failed(f"the gate in the bricks is {' '.join(held)}")
     return held
@@ -109,7 +109,7 @@ def try_append(trial: Trial, host: Host, order: Json) -> list[str]:
     wait_for("the byte in one brick", lambda: volume.bytes()[mine][gate] == 1 or writer.poll() is not None)
     for brick in bricks:
         os.kill(brick, signal.SIGKILL)
-    if writer.wait(PATIENCE) == 0:
+    if writer.wait(STEP_TIMEOUT) == 0:
         raise Failed("the byte reached another brick")
     for other in others:
         volume.start_brick(other)

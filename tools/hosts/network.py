@@ -19,7 +19,7 @@ from typing import IO
 
 LIBC = ctypes.CDLL(None, use_errno=True)
 NEW_NETWORK = 0x40000000
-PATIENCE = 240  # seconds after which something hangs, on the busiest machine too
+STEP_TIMEOUT = 240  # seconds after which something hangs, on the busiest machine too
 GET_FLAGS, SET_FLAGS, UP = 0x8913, 0x8914, 1
 SWITCH = "switch"
 
@@ -53,9 +53,9 @@ def run(command: list[str], is_checked: bool = True) -> tuple[int, str]:
     """Runs a command to its end. Returns its status and its output."""
     try:
         done = subprocess.run(command, stdin=subprocess.DEVNULL, stdout=subprocess.PIPE, stderr=subprocess.STDOUT,
-                              encoding="utf-8", errors="replace", timeout=PATIENCE, check=False)
+                              encoding="utf-8", errors="replace", timeout=STEP_TIMEOUT, check=False)
     except subprocess.TimeoutExpired as late:
-        raise Failed(f"{' '.join(command)}: not within {PATIENCE} s") from late
+        raise Failed(f"{' '.join(command)}: not within {STEP_TIMEOUT} s") from late
     if is_checked and done.returncode != 0:
         raise Failed(f"{' '.join(command)}: status {done.returncode}: {done.stdout.strip()}")
     return done.returncode, done.stdout
@@ -188,7 +188,7 @@ def wait_for(what: str, is_so: Callable[[], object], pause: float = 0.05) -> flo
     """Waits until `is_so` returns a true value. Returns the seconds that it took."""
     begun = time.monotonic()
     while not is_so():
-        if time.monotonic() - begun > PATIENCE:
-            raise Failed(f"{what}: not within {PATIENCE} s")
+        if time.monotonic() - begun > STEP_TIMEOUT:
+            raise Failed(f"{what}: not within {STEP_TIMEOUT} s")
         time.sleep(pause)
     return time.monotonic() - begun

@@ -6,8 +6,8 @@ from collections.abc import Callable
 from . import half
 from .clients import Lost, ask
 from .keeper import Keeper, look_into
-from .network import PATIENCE, Host, wait_for
-from .trial import Trial, tell
+from .network import STEP_TIMEOUT, Host, wait_for
+from .trial import Trial, report
 
 LATER = 2  # seconds of load before and after each loss
 RECONNECTED = 6  # seconds after which all hosts have found a brick again
@@ -32,24 +32,24 @@ def kill_in_wave(trial: Trial) -> float:
                 if row[3] != "ready"]
         if left:
             break
-        tell("(the reset was complete when the kill came; the next try kills right at the answer)")
+        report("(the reset was complete when the kill came; the next try kills right at the answer)")
         trial.restart(old)
         asker.repeat()
         trial.hand_over_to(old)
     else:
         raise Lost("no kill came during a reset")
     signalled = [line.split()[1] for line in old.lines("signals")[before:]]
-    tell(f"signalled before the kill: {' '.join(signalled) or 'none'}; in the store still in the reset: "
-         f"{' '.join(left)}")
+    report(f"signalled before the kill: {' '.join(signalled) or 'none'}; in the store still in the reset: "
+           f"{' '.join(left)}")
     if trial.planted == "old-copy":
         new.host.run("cp", f"{trial.folder}/old", "/srv/resetd/store")
     trial.load.start()
     took = trial.wait_takeover(new, killed)
-    tell(f"host2 answered the first order {took:.1f} s after the kill")
+    report(f"host2 answered the first order {took:.1f} s after the kill")
     trial.load.stop()
     trial.load.finish()
     trial.wait_quiet()
-    tell("the interrupted reset was completed; each member has begun its epoch and confirmed it")
+    report("the interrupted reset was completed; each member has begun its epoch and confirmed it")
     trial.restart(old)
     trial.check()
     return took
@@ -65,10 +65,10 @@ def cut_in_load(trial: Trial) -> float:
     old.host.cut()
     cut = time.monotonic()
     took = trial.wait_takeover(new, cut)
-    tell(f"{new.host.name} answered the first order {took:.1f} s after the cut")
+    report(f"{new.host.name} answered the first order {took:.1f} s after the cut")
     time.sleep(LATER)
     old.host.link()
-    tell(f"{old.host.name} is reconnected; orders continue")
+    report(f"{old.host.name} is reconnected; orders continue")
     time.sleep(LATER)
     ask_linked_old(trial, old, ends)
     trial.load.stop()
@@ -80,7 +80,7 @@ def cut_in_load(trial: Trial) -> float:
 def ask_linked_old(trial: Trial, old: Keeper, ends: int) -> None:
     """Asks the old coordinator, over a new connection, with an order of a client that nobody else uses."""
     request = {"op": "reset", "client": 15, "number": 1, "node": 1}
-    tell(f"the old coordinator on {old.host.name} {trial.end_old(old, ends, request)}")
+    report(f"the old coordinator on {old.host.name} {trial.end_old(old, ends, request)}")
 
 
 def cut_while_idle(trial: Trial) -> float:
@@ -92,21 +92,21 @@ def cut_while_idle(trial: Trial) -> float:
     cut = time.monotonic()
     trial.load.start()
     took = trial.wait_takeover(new, cut)
-    tell(f"{new.host.name} answered the first order {took:.1f} s after the cut")
+    report(f"{new.host.name} answered the first order {took:.1f} s after the cut")
     trial.load.stop()
     trial.load.finish()
     trial.wait_quiet()
     old.host.link()
     before, _ = trial.volume.wait_healed(new.host)
-    shown = ask(trial.site.host, old.address, {"op": "show"}, PATIENCE)
-    tell(f"{old.host.name} is reconnected, and all three bricks have the same {len(before)} bytes")
+    shown = ask(trial.site.host, old.address, {"op": "show"}, STEP_TIMEOUT)
+    report(f"{old.host.name} is reconnected, and all three bricks have the same {len(before)} bytes")
     if "accepted" in shown:
-        tell(f"the old coordinator answers show with its own past: {shown['accepted']} steps")
+        report(f"the old coordinator answers show with its own past: {shown['accepted']} steps")
     ask_linked_old(trial, old, ends)
     refused = old.wait_refused()
     if trial.volume.wait_healed(new.host)[0] != before:
         raise Lost(f"the old coordinator on {old.host.name} has written")
-    tell(f"all three bricks still have exactly these bytes; {old.host.name} is a standby now: status {refused}")
+    report(f"all three bricks still have exactly these bytes; {old.host.name} is a standby now: status {refused}")
     trial.check()
     return took
 
@@ -125,12 +125,12 @@ def bricks_in_turn(trial: Trial) -> float:
         trial.hand_over()
         healed = wait_for("healing", lambda: trial.volume.is_healed(host), 0.5)
         handed = trial.records.longest_gap(closed)
-        tell(f"the brick of {host.name} is killed and started again: at most {without:.1f} s between two answers; a "
-             f"close, and {trial.present.host.name} serves: {handed:.1f} s; healed {healed:.1f} s later")
-    tell(f"host3 is cut off and reconnected: at most {third_host_away(trial):.1f} s between two answers")
+        report(f"the brick of {host.name} is killed and started again: at most {without:.1f} s between two answers; a "
+               f"close, and {trial.present.host.name} serves: {handed:.1f} s; healed {healed:.1f} s later")
+    report(f"host3 is cut off and reconnected: at most {third_host_away(trial):.1f} s between two answers")
     trial.load.stop()
     gaps = trial.records.gaps(begun)
-    tell(f"{trial.records.count(begun)} orders were answered during all this")
+    report(f"{trial.records.count(begun)} orders were answered during all this")
     trial.load.finish()
     for since, until in gaps:
         trial.check_quick(since, until)
@@ -182,12 +182,12 @@ def lose_majority(trial: Trial) -> float:
     late = trial.records.count(cut + 5)
     if late:
         raise Lost(f"{late} orders were answered without a majority")
-    tell(f"after {AWAY} s orders were no longer answered; {keeper.host.name} answers "
-         f"{what_it_answers(keeper)}")
+    report(f"after {AWAY} s orders were no longer answered; {keeper.host.name} answers "
+           f"{what_it_answers(keeper)}")
     for host in away:
         host.link()
     linked = time.monotonic()
-    tell("the two hosts are reconnected")
+    report("the two hosts are reconnected")
     site.host = usual
     wait_for("an answer", lambda: trial.load.fault or trial.records.count(linked), 0.01)
     took = time.monotonic() - linked
@@ -195,7 +195,7 @@ def lose_majority(trial: Trial) -> float:
     trial.load.finish()
     if trial.starts() == starts:
         raise Lost("no new start was needed: the majority was not lost")
-    tell(f"{trial.present.host.name} answered the first order {took:.1f} s after that, after a new start")
+    report(f"{trial.present.host.name} answered the first order {took:.1f} s after that, after a new start")
     trial.check()
     return took
 

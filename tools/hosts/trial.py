@@ -4,7 +4,7 @@ import time
 
 from .clients import Away, Client, Json, Load, Lost, Site, ask
 from .keeper import REFUSED, STORE, Keeper, look_into
-from .network import PATIENCE, Host, make_switch, wait_for
+from .network import STEP_TIMEOUT, Host, make_switch, wait_for
 from .pulse import Pulse
 from .records import Records
 from .services import Service
@@ -18,7 +18,7 @@ PLANTED = ("no-strict-locks", "page-cache", "other-brick", "dropped-answers", "o
            "not-rewritten")
 
 
-def tell(text: str) -> None:
+def report(text: str) -> None:
     print(f"  {text}", flush=True)
 
 
@@ -60,11 +60,11 @@ class Trial:
             first.host.run("truncate", f"--size={17 + 2 * HALF}", STORE)
         with open(f"{self.folder}/old", "wb") as old:
             old.write(self.volume.bytes()[0])
-        tell(f"host1: resetd init /srv/resetd/store ring.toml: {printed.strip()}")
+        report(f"host1: resetd init /srv/resetd/store ring.toml: {printed.strip()}")
         first.start()
         wait_for("a coordinator on host 1", lambda: first.starts() == 1)
-        tell(f"host1: resetd serve /srv/resetd/store {first.address}: listening")
-        tell(f"host2: the same, {second.address}: status {second.serve_by_hand()}")
+        report(f"host1: resetd serve /srv/resetd/store {first.address}: listening")
+        report(f"host2: the same, {second.address}: status {second.serve_by_hand()}")
         second.start()
         second.wait_refused()
         self.services = [Service(node, self.clients[node - 1], self.keepers) for node in MEMBERS]
@@ -103,7 +103,7 @@ class Trial:
     def wait_quiet(self) -> tuple[Keeper, Json, dict[int, int]]:
         """Waits until no reset is in progress, each member has confirmed, and each order has its answer. Returns the epochs. (A
         settled order is in `show` before its answer has arrived; then the order before it would be out of turn.)"""
-        keeper, until = self.present, time.monotonic() + PATIENCE
+        keeper, until = self.present, time.monotonic() + STEP_TIMEOUT
         while time.monotonic() < until:
             view, keeper = self.site.ask({"op": "show"})
             rows = view["nodes"]
@@ -115,7 +115,7 @@ class Trial:
                 if service.fault:
                     raise service.fault
             time.sleep(0.05)
-        raise Lost(f"a reset did not end within {PATIENCE} s: {rows}")
+        raise Lost(f"a reset did not end within {STEP_TIMEOUT} s: {rows}")
 
     def check(self) -> None:
         """Checks everything that was promised, while no order is in progress."""
@@ -129,13 +129,13 @@ class Trial:
         signals = len(self.records.signals())
         held, healed = self.volume.wait_healed(keeper.host)
         self.check_file(held, view["accepted"])
-        tell(f"all {len(self.records.steps)} answered orders are there, the last one of each client answers the same "
-             f"again; {signals} signals, none twice; no epoch went back")
-        tell(f"the three bricks have the same {len(held)} bytes ({healed:.1f} s to heal); resetd check: "
-             f"legal {view['accepted']}")
+        report(f"all {len(self.records.steps)} answered orders are there, the last one of each client answers the same "
+               f"again; {signals} signals, none twice; no epoch went back")
+        report(f"the three bricks have the same {len(held)} bytes ({healed:.1f} s to heal); resetd check: "
+               f"legal {view['accepted']}")
         took = self.hand_over()
-        tell(f"handed over by a close, so that the file is open on all three: {self.present.host.name} answers after "
-             f"{took:.1f} s\n")
+        report(f"handed over by a close, so that the file is open on all three: {self.present.host.name} answers after "
+               f"{took:.1f} s\n")
 
     def plant(self, keeper: Keeper) -> None:
         """Plants the faults, to see that they are found."""
@@ -160,21 +160,21 @@ class Trial:
         """Sends a request to an old coordinator, whose end follows this number of earlier ones: it must refuse, and a close
         ends it with the fault of its device. If a client of the load has already closed it, only its end is seen."""
         try:
-            reply = ask(self.site.host, keeper.address, request, PATIENCE)
+            reply = ask(self.site.host, keeper.address, request, STEP_TIMEOUT)
             if reply.get("name") != "Stopped":
                 raise Lost(f"the old coordinator on {keeper.host.name} answered {reply}")
-            closed = ask(self.site.host, keeper.address, {"op": "close"}, PATIENCE)
+            closed = ask(self.site.host, keeper.address, {"op": "close"}, STEP_TIMEOUT)
             if closed != {"kind": "closed"}:
                 raise Lost(f"the old coordinator on {keeper.host.name} answered a close {closed}")
         except Away as fault:
-            told = f"answered {request['op']}: {fault}"
+            response = f"answered {request['op']}: {fault}"
         else:
-            told = "answered a new order with Stopped"
-        wait_for(f"the end on {keeper.host.name}, which {told}", lambda: len(keeper.ends()) > before)
+            response = "answered a new order with Stopped"
+        wait_for(f"the end on {keeper.host.name}, which {response}", lambda: len(keeper.ends()) > before)
         ended = keeper.ends()[before]
         if ended != REFUSED:
             raise Lost(f"the old coordinator on {keeper.host.name} ended with {ended}")
-        return f"{told}, and ended after a close: status {ended}"
+        return f"{response}, and ended after a close: status {ended}"
 
     def starts(self) -> int:
         return sum(keeper.starts() for keeper in self.keepers)
@@ -187,7 +187,7 @@ class Trial:
         """Ends the coordinator that serves, in order. Returns it."""
         keeper = self.serving()
         ended = len(keeper.ends())
-        ask(self.site.host, keeper.address, {"op": "close"}, PATIENCE)
+        ask(self.site.host, keeper.address, {"op": "close"}, STEP_TIMEOUT)
         wait_for(f"the end on {keeper.host.name}", lambda: len(keeper.ends()) > ended)
         if keeper.ends()[ended] != "0":
             raise Lost(f"closed in order, the coordinator on {keeper.host.name} ended with {keeper.ends()[ended]}")
@@ -207,13 +207,13 @@ class Trial:
 
     def hand_over_to(self, keeper: Keeper) -> None:
         """Closes coordinators until this one serves."""
-        until = time.monotonic() + PATIENCE
+        until = time.monotonic() + STEP_TIMEOUT
         while self.present is not keeper:
             if time.monotonic() > until:
                 raise Lost(f"{keeper.host.name} did not serve again")
             self.hand_over()
 
-    def tell_state(self) -> None:
+    def print_state(self) -> None:
         """Prints the state of each host at a loss."""
         print(f"orders: {[(client.answered, client.reply, client.unanswered) for client in self.clients]}")
         for keeper in self.keepers:

@@ -6,7 +6,7 @@ import os
 import signal
 
 from .clients import Lost
-from .network import PATIENCE, Failed, Host, wait_for
+from .network import STEP_TIMEOUT, Failed, Host, wait_for
 
 NAME, BRICK, MOUNT = "resetd", "/srv/brick/resetd", "/srv/resetd"
 # Without direct I/O a host that served before reads the file's old pages from its own page cache.
@@ -135,7 +135,7 @@ class Volume:
         except Failed as late:
             digests = ", ".join(f"{host.name} {hashlib.sha256(held).hexdigest()[:12]}"
                                 for host, held in zip(self.hosts, self.bytes()))
-            raise Lost(f"the bricks still differ, or have writes to heal, after {PATIENCE} s: {digests}") from late
+            raise Lost(f"the bricks still differ, or have writes to heal, after {STEP_TIMEOUT} s: {digests}") from late
         return self.bytes()[0], took
 
     def bytes(self, name: str = "store") -> list[bytes]:

@@ -84,25 +84,25 @@ class Desk:
         if (ended.status, ended.told) != (status, f"resetd: {name}\n"):
             raise NotSeen(f"a start ended with {ended}, and not with {name}")
 
-    def resetctl(self, *words: str, server: Serving | None = None, address: str | None = None, patience: float = LONG,
+    def resetctl(self, *arguments: str, server: Serving | None = None, address: str | None = None, timeout: float = LONG,
                  seconds: float = LONG) -> Typed:
         """Runs `resetctl` with these arguments. Returns its output and its status."""
         at = address or (server.address if server else "127.0.0.1:1")
-        return self.type_words(sys.executable, "-B", f"{ROOT}/client/resetctl", "--state", self.path("state"), "--address", at,
-                          "--patience", str(patience), "--seconds", str(seconds), *words)
+        return self.type_command(sys.executable, "-B", f"{ROOT}/client/resetctl", "--state", self.path("state"), "--address", at,
+                                 "--patience", str(timeout), "--seconds", str(seconds), *arguments)
 
-    def type_words(self, *words: str) -> Typed:
-        done = subprocess.run(words, stdin=subprocess.DEVNULL, stdout=subprocess.PIPE, stderr=subprocess.STDOUT, text=True,
+    def type_command(self, *command: str) -> Typed:
+        done = subprocess.run(command, stdin=subprocess.DEVNULL, stdout=subprocess.PIPE, stderr=subprocess.STDOUT, text=True,
                               timeout=5 * LONG, check=False)
         return Typed(done.returncode, done.stdout)
 
-    def health(self, server: Serving | None, *words: str, patience: float = LONG, seconds: float = LONG) -> Typed:
+    def health(self, server: Serving | None, *arguments: str, timeout: float = LONG, seconds: float = LONG) -> Typed:
         """Returns the output of the monitoring check. An epoch may be unconfirmed meanwhile."""
-        return self.resetctl("health", *(words or ("--unconfirmed", "1000000")), server=server, patience=patience, seconds=seconds)
+        return self.resetctl("health", *(arguments or ("--unconfirmed", "1000000")), server=server, timeout=timeout, seconds=seconds)
 
-    def await_health(self, server: Serving, wanted: str, *words: str) -> Typed:
+    def await_health(self, server: Serving, wanted: str, *arguments: str) -> Typed:
         """Runs the check until it prints this."""
-        return until(wanted, lambda: wanted in (told := self.health(server, *words)).text and told)
+        return until(wanted, lambda: wanted in (typed := self.health(server, *arguments)).text and typed)
 
     def expect_served(self, store: str, *wanted: str) -> None:
         """Checks that a start succeeds, the check finds nothing, and the network shows this store."""
@@ -112,6 +112,6 @@ class Desk:
             if server.close().status:
                 raise NotSeen("the server did not end in order")
 
-    def why(self, store: str, server: Serving | None = None, *words: str) -> str:
+    def why(self, store: str, server: Serving | None = None, *arguments: str) -> str:
         """Returns the output of `why`, which waits 2 s for an answer."""
-        return self.resetctl("why", *words, store, *([server.address] if server else []), patience=0, seconds=2).text
+        return self.resetctl("why", *arguments, store, *([server.address] if server else []), timeout=0, seconds=2).text

@@ -32,13 +32,13 @@ LEFT_OUT["`20 PendingFull`"] = ("no client reaches it, since a server posts no m
 @row("`resetctl health`: `no answer`")
 def no_answer(desk: Desk) -> None:
     store = desk.store()
-    see(desk.health(None, patience=0, seconds=2).text, "resetd CRITICAL: no answer: ")
+    see(desk.health(None, timeout=0, seconds=2).text, "resetd CRITICAL: no answer: ")
     with Serving(store) as server:
         with stop_meanwhile(server):
-            see(desk.health(server, patience=0, seconds=2).text, "resetd CRITICAL: no answer: ")
+            see(desk.health(server, timeout=0, seconds=2).text, "resetd CRITICAL: no answer: ")
             see(desk.why(store, server), f"is stopped by a signal (SIGSTOP or a debugger): kill -CONT {server.process.pid}")
         with held(server):
-            see(desk.health(server, patience=0, seconds=2).text, "resetd CRITICAL: no answer: ")
+            see(desk.health(server, timeout=0, seconds=2).text, "resetd CRITICAL: no answer: ")
             see(desk.why(store, server), f"client   process {os.getpid()} (", "has the server's only connection")
         see(desk.health(server).text, "resetd OK: well")
 
@@ -84,7 +84,7 @@ def a_device_that_fails(desk: Desk) -> None:
         while "step" in (answer := server.order(number, "reset", client=9, node=1)):
             number, step = number + 1, answer["step"]
         see(str(answer), "Stopped")
-        see(desk.health(server, "--close-stopped", patience=0).text, "the server answers Stopped", "was closed")
+        see(desk.health(server, "--close-stopped", timeout=0).text, "the server answers Stopped", "was closed")
         ended = server.ended()
         if (ended.status, ended.told) != (3, "resetd: Device\n"):
             raise NotSeen(f"the server ended with {ended}")
@@ -104,8 +104,8 @@ def another_store(desk: Desk) -> None:
         os.replace(desk.path("new"), store)
         server.order(2, "reset", node=1)
         server.await_quiet()
-        words = ("--store", store, "--unconfirmed", "1000000")
-        see(desk.health(server, *words).text, f"resetd CRITICAL: this file is not the server's store: {store}: the file has ")
+        arguments = ("--store", store, "--unconfirmed", "1000000")
+        see(desk.health(server, *arguments).text, f"resetd CRITICAL: this file is not the server's store: {store}: the file has ")
         see(desk.why(store, server), "a running server may have this problem: the coordinator's answers are lost when it ends: answer: this file is not the server's store")
         folder = f"/proc/{server.process.pid}/fd"
         held = next(f"{folder}/{name}" for name in os.listdir(folder) if os.readlink(f"{folder}/{name}") == f"{store} (deleted)")
@@ -128,12 +128,12 @@ def a_file_of_signals_that_is_full(desk: Desk) -> None:
     with open(f"{store}.signals", "w", encoding="ascii") as file:
         file.write("#" * (most - 40) + "\n")
     with Serving(store, preexec_fn=limit_files, restore_signals=False) as server:
-        words = ("--signals", server.output, "--unconfirmed", "1000000")
-        see(desk.health(server, *words).text, "resetd OK: well")
+        arguments = ("--signals", server.output, "--unconfirmed", "1000000")
+        see(desk.health(server, *arguments).text, "resetd OK: well")
         for number in (1, 2):
             server.order(number, "reset", node=1)
             server.await_quiet(epoch=number)
-        desk.await_health(server, "the file of signals lacks `signal 1 2`", *words)
+        desk.await_health(server, "the file of signals lacks `signal 1 2`", *arguments)
         ended = server.close()
         see(ended.told, "resetd: Write")
     os.truncate(server.output, 0)
@@ -149,21 +149,21 @@ def a_slow_disk(desk: Desk) -> None:
         with desk.serve(store, SYNC_MILLIS=1_000 * seconds) as server:
             with server.connect() as connection:
                 connection.send({"op": "reset", "client": 1, "number": 1, "node": 1})
-            told = told_of_a_wave(server, desk.path(f"health{seconds}"))
+            found = findings_of_a_wave(server, desk.path(f"health{seconds}"))
             see(desk.why(store, server), "syncing both took ")
-        if "made no progress" in told or seconds > 2 and "have waited for the disk" not in told:
-            raise NotSeen(f"at {seconds} s a sync the check printed: {sorted(told)}")
+        if "made no progress" in found or seconds > 2 and "have waited for the disk" not in found:
+            raise NotSeen(f"at {seconds} s a sync the check printed: {sorted(found)}")
 
 
-def told_of_a_wave(server: Serving, memory: str) -> set[str]:
+def findings_of_a_wave(server: Serving, memory: str) -> set[str]:
     """Returns what the check finds from the beginning of a wave to its end, by looks in quick succession."""
-    port, told, words = Port(server.address, LONG), set[str](), {"made no progress", "have waited for the disk"}
+    port, found, phrases = Port(server.address, LONG), set[str](), {"made no progress", "have waited for the disk"}
     while True:
         view = port.show()
         if view.settled == view.accepted > 4 and all(node.mode == "ready" for node in view.nodes):
-            return told
+            return found
         findings = check(port, Since(memory, boot_clock()), Bounds(unconfirmed=1_000_000), LONG).findings
-        told |= {each for each in words if each in " ".join(findings)}
+        found |= {each for each in phrases if each in " ".join(findings)}
         time.sleep(0.1)
 
 
@@ -186,18 +186,18 @@ def a_service_that_is_down(desk: Desk) -> None:
         server.order(1, "reset", client=9, node=1)
         server.await_quiet()
         desk.await_health(server, "epoch 1 of node 1 has been unconfirmed for ", "--unconfirmed", "1")
-        with service(desk, server) as words:
+        with service(desk, server) as output:
             until("its start", lambda: bool(server.show()["nodes"][0][4] == server.show()["nodes"][0][5] > 0))
-            see(words(), "service 1: starts anew, epoch ")
+            see(output(), "service 1: starts anew, epoch ")
         see(desk.health(server, "--unconfirmed", "1").text, "resetd OK: well")
 
 
 @row("a service says `asking for a reset`")
 def a_new_service(desk: Desk) -> None:
     store = desk.store(1)
-    with Serving(store) as server, service(desk, server) as words:
-        until("what it says", lambda: "asking for a reset" in words())
-        until("its start", lambda: "service 1: starts anew, epoch 1" in words())
+    with Serving(store) as server, service(desk, server) as output:
+        until("what it says", lambda: "asking for a reset" in output())
+        until("its start", lambda: "service 1: starts anew, epoch 1" in output())
 
 
 @contextlib.contextmanager

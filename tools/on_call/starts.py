@@ -50,7 +50,7 @@ def any_fault(desk: Desk) -> None:
     os.truncate(store, 60)
     see(desk.why(store), "a start now would end with the fault BadRecord: store: the file is not a readable store: BadRecord: at byte ")
     desk.start_ends(store, 1, "BadRecord")
-    see(desk.resetctl("report", "--store", store, desk.path("report.tar.gz"), patience=0, seconds=2).text, "why.txt", "written to ")
+    see(desk.resetctl("report", "--store", store, desk.path("report.tar.gz"), timeout=0, seconds=2).text, "why.txt", "written to ")
 
 
 @row("status 153, `signal XFSZ`")
@@ -120,7 +120,7 @@ def a_taken_address(desk: Desk) -> None:
     with socket.create_server(("127.0.0.1", 0)) as other:
         address = f"127.0.0.1:{other.getsockname()[1]}"
         desk.start_ends(store, 3, "Socket", address)
-        see(desk.resetctl("why", store, address, patience=0, seconds=2).text, f"process {os.getpid()} (",
+        see(desk.resetctl("why", store, address, timeout=0, seconds=2).text, f"process {os.getpid()} (",
             "a start now would end with the fault Socket: address: ")
     desk.expect_served(store)
 
@@ -133,7 +133,7 @@ def no_thread(desk: Desk) -> None:
 
 
 @row("`resetd: Usage`")
-def wrong_words(_: Desk) -> None:
+def wrong_arguments(_: Desk) -> None:
     expect(ran("srve"), faulted(2, "Usage"))
     with open(f"{ROOT}/docs/resetd.8", encoding="utf-8") as page:
         see(page.read(), "serve")
@@ -174,9 +174,9 @@ def who_asked(desk: Desk) -> None:
             server.order(number, "reset", client=10, node=1)
         server.order(number + 1, "reset", client=10, node=1)
         server.await_quiet()
-        told = desk.resetctl("steps", store).text
-        see(told, "snapshot           client 9 order 1: reset 2", f"client 10 order {number + 1}: reset 1")
-        if "client 10 order 1: reset 1\n" in told:
+        steps = desk.resetctl("steps", store).text
+        see(steps, "snapshot           client 9 order 1: reset 2", f"client 10 order {number + 1}: reset 1")
+        if "client 10 order 1: reset 1\n" in steps:
             raise NotSeen("the output has an order from before the checkpoint that was not its client's last one")
         see(desk.resetctl("steps", "--before", store).text, "client 10 order 1: reset 1\n")
 

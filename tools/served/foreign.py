@@ -189,9 +189,9 @@ class Between:
     def __init__(self, trial: Trial, rule: Rule) -> None:
         self.trial, self.rule, self.spoil = trial, rule, list[Spoil]()
         self.on_confirm: Callable[[], None] | None = None
-        self.lives, self.lock = 0, threading.RLock()  # the number of times that the member died
+        self.deaths, self.lock = 0, threading.RLock()  # the number of times that the member died
         self.watching, self.ordering = set[socket.socket](), set[socket.socket]()  # connections that watch and whose order has no answer yet
-        self.text = b""  # the last view that was shown in this life
+        self.text = b""  # the last view that was shown to this process
         self.path = f"{trial.folder}/between.socket"
         self.proxy = Port(trial.address, 30)
         self.listen()
@@ -204,7 +204,7 @@ class Between:
         self.at_socket.bind(self.path)
         self.at_socket.listen(64)
         for listener in (self.listener, self.at_socket):
-            threading.Thread(target=self.serve, args=[listener, self.lives], daemon=True).start()
+            threading.Thread(target=self.serve, args=[listener, self.deaths], daemon=True).start()
 
     def end(self) -> None:
         """Stops answering. (A call that waits there is woken by a shutdown, but not by a close.)"""
@@ -212,33 +212,33 @@ class Between:
             listener.shutdown(socket.SHUT_RDWR)
             listener.close()
 
-    def serve(self, listener: socket.socket, lives: int) -> None:
+    def serve(self, listener: socket.socket, deaths: int) -> None:
         while True:
             try:
                 connection, _ = listener.accept()
             except OSError:
                 return
-            threading.Thread(target=self.serve_one, args=[connection, lives], daemon=True).start()
+            threading.Thread(target=self.serve_one, args=[connection, deaths], daemon=True).start()
 
-    def serve_one(self, connection: socket.socket, lives: int) -> None:
+    def serve_one(self, connection: socket.socket, deaths: int) -> None:
         with connection, contextlib.suppress(OSError):
             for line in connection.makefile("rb"):
-                if not self.answer(connection, line, lives):
+                if not self.answer(connection, line, deaths):
                     connection.shutdown(socket.SHUT_RDWR)
                     return
 
-    def answer(self, connection: socket.socket, line: bytes, lives: int) -> bool:
+    def answer(self, connection: socket.socket, line: bytes, deaths: int) -> bool:
         """Answers a line. Returns whether more lines are answered on this connection."""
         request: Json = json.loads(line)
         if request["op"] in ("show", "watch"):
             if request["op"] == "watch":
                 self.watching.add(connection)
-            goes_on = self.show(connection, lives)
+            goes_on = self.show(connection, deaths)
             if goes_on and request["op"] == "watch":
-                threading.Thread(target=self.push, args=[connection, lives], daemon=True).start()
+                threading.Thread(target=self.push, args=[connection, deaths], daemon=True).start()
             return goes_on
         with self.lock:
-            if lives != self.lives:
+            if deaths != self.deaths:
                 return False
             self.rule.ordered(request)
             self.ordering.add(connection)
@@ -253,13 +253,13 @@ class Between:
             connection.sendall(text + b"\n")
         return True
 
-    def show(self, connection: socket.socket, lives: int, is_pushed: bool = False) -> bool:
+    def show(self, connection: socket.socket, deaths: int, is_pushed: bool = False) -> bool:
         """Sends the present view, after judging the member by the previous one. A member that watches, asks for a look and has
         not yet carried out the previous view, perhaps because it has not read it, gets that one again. Returns whether more
         lines are answered."""
         self.direct(SHOW)  # waits while the server is away, and keeps nobody else waiting
         with self.lock:
-            if lives != self.lives:
+            if deaths != self.deaths:
                 return False
             is_done = self.rule.has_done() and not self.ordering
             if is_pushed and not is_done:
@@ -276,19 +276,19 @@ class Between:
             connection.sendall(text + b"\n")
             return True
 
-    def push(self, connection: socket.socket, lives: int) -> None:
+    def push(self, connection: socket.socket, deaths: int) -> None:
         """Sends the present view to a member that watches, whenever it has carried out the previous one; less often if nothing
         has changed."""
         with contextlib.suppress(OSError):
-            while self.await_done(lives):
-                if not self.show(connection, lives, is_pushed=True):
+            while self.await_done(deaths):
+                if not self.show(connection, deaths, is_pushed=True):
                     connection.shutdown(socket.SHUT_RDWR)
                     return
 
-    def await_done(self, lives: int) -> bool:
-        """Waits until a view is due. Returns whether the member still lives."""
+    def await_done(self, deaths: int) -> bool:
+        """Waits until a view is due. Returns whether the member still runs."""
         began, since = time.monotonic(), None
-        while lives == self.lives:
+        while deaths == self.deaths:
             time.sleep(STEP_SECONDS)
             now = time.monotonic()
             with self.lock:
@@ -305,7 +305,7 @@ class Between:
 
     def died(self) -> None:
         with self.lock:
-            self.lives += 1
+            self.deaths += 1
             self.watching, self.ordering, self.text = set(), set(), b""
             self.rule.died()
             self.end()
@@ -409,7 +409,7 @@ class Tried:
             if self.process.poll() is not None and not may_end:
                 raise Failed(f"{what}: it has ended: {read(f'{self.trial.folder}/foreign.lines')[-300:]}")
             if time.monotonic() > until:
-                raise Failed(f"{what}, within {self.trial.arguments.seconds} s: {self.rule.found()[0] or self.trial.told()}; "
+                raise Failed(f"{what}, within {self.trial.arguments.seconds} s: {self.rule.found()[0] or self.trial.summary()}; "
                              f"its due action is {self.rule.due}")
             time.sleep(0.02)
 

@@ -15,7 +15,7 @@ Write = tuple[int, bytes]
 
 
 class Forgetful:
-    """The device of one file, over all lives of the server that writes it. A kill leaves all writes in the system's memory. A
+    """The device of one file, over all starts of the server that writes it. A kill leaves all writes in the system's memory. A
     power cut leaves what was synced, and of each later write nothing, a prefix, or all."""
 
     def __init__(self, store: str, folder: str, choice: random.Random) -> None:

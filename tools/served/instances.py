@@ -55,14 +55,14 @@ class Killer(threading.Thread):
 
     def __init__(self, server: Watched, most: int) -> None:
         super().__init__()
-        self.server, self.most, self.is_told = server, most, False
+        self.server, self.most, self.is_stopped = server, most, False
         self.met: int | None = None
         self.start()
 
     def run(self) -> None:
         for _ in range(MOST_LOOKS):
             count = len(self.server.threads())
-            if count < OVER_ALL or self.is_told:
+            if count < OVER_ALL or self.is_stopped:
                 return
             if count <= self.most:
                 self.server.process.kill()
@@ -71,7 +71,7 @@ class Killer(threading.Thread):
 
     def end(self) -> int | None:
         """Stops watching. Returns the number of threads that the server had when it was killed, if it was."""
-        self.is_told = True
+        self.is_stopped = True
         self.join()
         return self.met
 
@@ -134,7 +134,7 @@ def run(ring: Ring, rounds: int) -> None:
         count = one_round(ring)
         met[count] = met.get(count, 0) + 1
         if done % 20 == 0 or done == rounds:
-            tell(ring, done, met)
+            report(ring, done, met)
     kills.finish(ring)
     if met.get(None, 0) == rounds:
         raise Lost("no kill came during a change of instance")
@@ -212,7 +212,7 @@ def one_round(ring: Ring) -> int | None:
     return met
 
 
-def tell(ring: Ring, done: int, met: dict[int | None, int]) -> None:
+def report(ring: Ring, done: int, met: dict[int | None, int]) -> None:
     history, between = ring.history, met.get(OVER_ALL, 0)
     within = sum(met.values()) - between - met.get(None, 0)
     print(f"{done} kills ({between} between two instances, {within} while the threads of one ended or started, "

@@ -16,7 +16,7 @@ def run(ring: Ring, rounds: int) -> None:
     for done in range(1, rounds + 1):
         kinds[one_round(ring, *usual)] += 1
         if done % 20 == 0 or done == rounds:
-            tell(ring, done, kinds)
+            report(ring, done, kinds)
     finish(ring)
 
 
@@ -67,9 +67,9 @@ def kill_later(server: Server, seconds: float) -> threading.Timer:
 
 
 def after_kill(ring: Ring, listened: bool) -> str:
-    status, told = ring.server.ended()
+    status, errors = ring.server.ended()
     if status != KILLED:
-        raise Lost(f"the coordinator ended by itself with status {status}: {told}")
+        raise Lost(f"the coordinator ended by itself with status {status}: {errors}")
     ring.history.note_signals(ring.server.new_signals())
     _, is_going = ring.history.look_into(ring.server)
     ring.history.note_taken()
@@ -94,7 +94,7 @@ def finish(ring: Ring) -> None:
     ring.history.expect_printed()
 
 
-def tell(ring: Ring, done: int, kinds: dict[str, int]) -> None:
+def report(ring: Ring, done: int, kinds: dict[str, int]) -> None:
     history = ring.history
     where = ", ".join(f"{number} {kind}" for kind, number in kinds.items())
     print(f"{done} kills ({where}): {history.count} steps, {len(history.printed)} signals printed, each once; "

@@ -52,7 +52,7 @@ def kill_all(trial: Trial, choice: random.Random, rounds: int) -> None:
         else:
             trial.kill_at_call(place, *calls[place - 1])
         trial.finish()
-    trial.tell(rounds, calls)
+    trial.report(rounds, calls)
     trial.go_on()
 
 
@@ -189,7 +189,7 @@ class Trial:
         if self.server.command("show") != self.rows:
             raise Lost("a store that was migrated shows other rows")
 
-    def tell(self, rounds: int, calls: list[tuple[str, int]]) -> None:
+    def report(self, rounds: int, calls: list[tuple[str, int]]) -> None:
         where = f"at a random moment and at {', '.join(name for name, _ in calls)}" if calls else \
             "at a random moment (strace is not installed, or may not trace here)"
         print(f"{rounds} migrations killed {where}: {self.found[1]} left version 1, {self.found[2]} version 2, "

@@ -62,7 +62,7 @@ class Weaker(Starts):
 
 
 class Alone:
-    """A member without a coordinator: its whole life is one run."""
+    """A member without a coordinator: all that it does is one run."""
 
     def __init__(self, queue: Queue) -> None:
         self.lock = threading.Lock()
@@ -95,7 +95,7 @@ class Queue:
         """Drops the present work, and loads the common start, in which no item was made."""
         name = secrets.token_hex(4)
         self.keep({"epoch": epoch, "taken": 0, "handed": 0, "starts": {str(self.node): name}})
-        self.tell(f"starts anew, epoch {epoch}")
+        self.report(f"starts anew, epoch {epoch}")
 
     def next(self) -> Json | None:
         """Returns the next message, or None if there is no item to hand on."""
@@ -108,7 +108,7 @@ class Queue:
         """Takes an item, and returns how many were taken. An item that arrives again was taken before."""
         starts, item = self.join(message["starts"]), message["item"]
         if item > self.work["taken"] + 1:
-            self.tell(f"GAP: item {item} came after {self.work['taken']}")
+            self.report(f"GAP: item {item} came after {self.work['taken']}")
         self.keep({**self.work, "starts": starts, "taken": max(item, self.work["taken"])})
         return {"taken": item, "starts": starts}
 
@@ -119,15 +119,15 @@ class Queue:
         mine = self.work["starts"]
         for node, name in starts.items():
             if mine.get(node, name) != name:
-                self.tell(f"MIXED: start {name} of member {node}, and {mine[node]} before, in one start of epoch "
-                          f"{self.work['epoch']}")
+                self.report(f"MIXED: start {name} of member {node}, and {mine[node]} before, in one start of epoch "
+                            f"{self.work['epoch']}")
         return {**starts, **mine}
 
     def keep(self, work: Json) -> None:
         keep(self.path, json.dumps(work) + "\n")
         self.work = work
 
-    def tell(self, text: str) -> None:
+    def report(self, text: str) -> None:
         print(f"queue {self.node}: {text}", flush=True)
 
 

@@ -238,9 +238,9 @@ def new_store(trial: Queue) -> None:
     epoch = trial.epoch(3)
     trial.close()
     os.remove(trial.server.store)
-    status, told = trial.server.command("init", f"{trial.server.store}.toml")
+    status, lines = trial.server.command("init", f"{trial.server.store}.toml")
     if status != 0:
-        raise Failed(f"resetd init: {told}")
+        raise Failed(f"resetd init: {lines}")
     trial.start()
     trial.orders.recover()
     for _ in range(epoch):

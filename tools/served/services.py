@@ -163,10 +163,10 @@ class Trial:
         until = time.monotonic() + (seconds or self.arguments.seconds)
         while not holds():
             if time.monotonic() > until:
-                raise Failed(f"{what}, within {seconds or self.arguments.seconds} s: {self.told()}")
+                raise Failed(f"{what}, within {seconds or self.arguments.seconds} s: {self.summary()}")
             time.sleep(0.05)
 
-    def told(self) -> str:
+    def summary(self) -> str:
         rows = self.shown().nodes
         return "shown (node, epoch, confirmed) " + \
             " ".join(f"{row.node}:{row.epoch}/{row.confirmed}" for row in rows if row.node < 20) + \
@@ -203,9 +203,9 @@ class Trial:
     def renew(self) -> None:
         """Does what the page says to do once a restored store is served."""
         if "restored" not in self.arguments.without:
-            status, told = self.resetctl("restored")
-            if status != 0 or "have a new epoch" not in told:
-                raise Failed(f"resetctl restored: status {status}, {told}")
+            status, output = self.resetctl("restored")
+            if status != 0 or "have a new epoch" not in output:
+                raise Failed(f"resetctl restored: status {status}, {output}")
 
     def resetctl(self, *arguments: str) -> tuple[int, str]:
         """Runs a command of the person on call, with a separate client. Returns its status and its output."""

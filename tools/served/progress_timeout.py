@@ -4,7 +4,7 @@ import time
 from collections.abc import Callable, Iterable
 
 
-class Patience:
+class ProgressTimeout:
     """Ends some seconds after the last lost epoch that was passed. A store that went back by k epochs shows parties that the members'
     histories forbid, so k resets follow, one after the other, before the members talk: on a busy machine they take minutes. Once the
     group is above the greatest epoch that was ever seen, nothing extends the wait any more."""
