@@ -20,7 +20,7 @@ from .stores import History
 from .verdicts import Disagreement, Looker, Verdict, hung, judge_image
 
 INSIDE = 25  # the machine's own program checks one image out of this many
-MOST_TOLD = 8
+MOST_MESSAGES = 8
 BEFORE_MIGRATED = ("start", "made", "migrating")
 
 
@@ -58,14 +58,14 @@ class Image(NamedTuple):
 class Tally:
     """The outcomes of the images, by the bytes of a unit. `refused` are those that the file system did not mount or gave no
     file of, or whose store the program refused; `lost` those that lack an answer, or have another history. `faults` are
-    those that may not occur: a lost one, or a refused one if 4,096 bytes are written as a whole. `told` has all."""
+    those that may not occur: a lost one, or a refused one if 4,096 bytes are written as a whole. `messages` has all."""
 
     images: collections.Counter[int] = field(default_factory=collections.Counter)
     refused: collections.Counter[int] = field(default_factory=collections.Counter)
     lost: collections.Counter[int] = field(default_factory=collections.Counter)
     kinds: collections.Counter[str] = field(default_factory=collections.Counter)
     apart: int = 0
-    told: list[str] = field(default_factory=list)
+    messages: list[str] = field(default_factory=list)
     faults: list[str] = field(default_factory=list)
 
     def add(self, other: "Tally") -> None:
@@ -74,7 +74,7 @@ class Tally:
         self.lost += other.lost
         self.kinds += other.kinds
         self.apart += other.apart
-        self.told += other.told
+        self.messages += other.messages
         self.faults += other.faults
 
     def note(self, image: Image, verdict: Verdict, lost: str | None) -> None:
@@ -86,8 +86,8 @@ class Tally:
         if not is_refused and lost is None:
             return
         why = f"{image}: {lost or f'{verdict.kind}: {verdict.said.strip()[:300]}'}"
-        if len(self.told) < MOST_TOLD:
-            self.told.append(why)
+        if len(self.messages) < MOST_MESSAGES:
+            self.messages.append(why)
         if lost is not None or image.unit == max(UNITS):
             self.faults.append(why)
 

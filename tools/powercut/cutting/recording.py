@@ -19,7 +19,7 @@ STILL_MILLISECONDS = 1_500  # so that the file system writes what it wrote late
 @dataclass
 class Run:
     """The parameters of a run. `scenario` is one of SCENARIOS. If the nodes are apart, no order sends packets. With
-    `has_late_syncs` a kill often finds unsynced writes. In a further life `owed` and `signalled` are what was answered and
+    `has_late_syncs` a kill often finds unsynced writes. On a disk that was cut, `owed` and `signalled` are what was answered and
     signalled before the cut."""
 
     scenario: str
@@ -43,7 +43,7 @@ class Failed(Exception):
 
 
 def make_first(machine: Machine, run: Run) -> None:
-    """A life: `resetd init`, in a folder that was created just before and not synced."""
+    """A first run: `resetd init`, in a folder that was created just before and not synced."""
     machine.must("sync")
     machine.must("mark", "start")
     if os.path.dirname(run.store) != "/mnt":
@@ -53,7 +53,7 @@ def make_first(machine: Machine, run: Run) -> None:
 
 
 def migrate_first(machine: Machine, run: Run) -> None:
-    """A life: a store of version 1, and `resetd migrate`."""
+    """A first run: a store of version 1, and `resetd migrate`."""
     machine.put(run.store, store_of_version_1())
     machine.must("sync")
     machine.must("mark", f"made|least {STEPS_MADE}")
@@ -63,11 +63,11 @@ def migrate_first(machine: Machine, run: Run) -> None:
 
 
 def go_on(machine: Machine, run: Run) -> None:
-    """A further life on a disk that was cut."""
+    """A further run on a disk that was cut."""
     machine.must("run", 120, program_path(run.program), "check", run.store)
 
 
-SCENARIOS = {"life": make_first, "migration": migrate_first, "again": go_on}
+SCENARIOS = {"first": make_first, "migration": migrate_first, "again": go_on}
 
 
 def carry_out(machine: Machine, run: Run) -> str:
@@ -100,7 +100,7 @@ def with_markers(disk: Disk) -> list[Entry]:
 
 
 def record(make: Maker, folder: str, run: Run) -> str:
-    """Carries out a run, and leaves its list in a folder, which in a further life already has the disk. Returns the results of
+    """Carries out a run, and leaves its list in a folder, which in a further run already has the disk. Returns the results of
     the load. Raises Failed."""
     base = f"{folder}/base"
     if run.scenario != "again":

@@ -8,7 +8,7 @@ from typing import Any
 
 from .file_systems import FileSystem
 from .judging import Judge, Places, Tally
-from .lives import cut_disk
+from .again import cut_disk
 from .machine import MACHINES, Maker
 from .recording import Run, load_run, record
 
@@ -46,18 +46,18 @@ class Trial:
     def _make(self, machine: str) -> Maker:
         return lambda disk: MACHINES[machine](self._setting.work, disk)
 
-    def _run(self, scenario: str = "life", **values: Any) -> Run:
+    def _run(self, scenario: str = "first", **values: Any) -> Run:
         """Returns a run of this file system, with these fields changed."""
         run = Run(scenario, self._of.kind, self._of.options, self._setting.seed, self._setting.orders)
         return dataclasses.replace(run, **values)
 
-    def _tell(self, text: str) -> None:
+    def _report(self, text: str) -> None:
         print(f"{self._of.name}: {text}", flush=True)
 
     def _record(self, name: str, run: Run, machine: str | None = None) -> str:
         """Carries a run out, and returns its folder."""
         said = record(self._make(machine or self._setting.machine), f"{self._folder}/{name}", run)
-        self._tell(f"{name}: {said}")
+        self._report(f"{name}: {said}")
         return f"{self._folder}/{name}"
 
     def _judge(self, folder: str, share: int, seed: int, places: Places = Places()) -> None:
@@ -65,33 +65,33 @@ class Trial:
         judge = Judge(self._make(self._setting.machine), folder, self._setting.program)
         tally = judge.judge(self._setting.images // share, self._setting.seed + seed, places)
         where = "near checkpoints" if places.is_near_checkpoints else ", ".join(places.phases) or "anywhere"
-        self._tell(f"{os.path.basename(folder)}, {where}: {dict(tally.images)} images, refused {dict(tally.refused)}, lost {dict(tally.lost)}, {dict(tally.kinds)}")
-        for line in tally.told:
-            self._tell(f"  {line}")
+        self._report(f"{os.path.basename(folder)}, {where}: {dict(tally.images)} images, refused {dict(tally.refused)}, lost {dict(tally.lost)}, {dict(tally.kinds)}")
+        for line in tally.messages:
+            self._report(f"  {line}")
         self.tally.add(tally)
 
     def judge_runs(self) -> None:
         """Judges each run, cut at any moment, near the ends of checkpoints, and while a command creates or migrates a store."""
         seed = self._setting.seed
-        life = self._record("life", self._run(kills=3))
-        self._judge(life, 2, 1)
-        self._judge(life, 8, 2, Places(is_near_checkpoints=True))
-        self._judge(life, 8, 3, Places(("start",)))
+        last = self._record("first", self._run(kills=3))
+        self._judge(last, 2, 1)
+        self._judge(last, 8, 2, Places(is_near_checkpoints=True))
+        self._judge(last, 8, 3, Places(("start",)))
         self._judge(self._record("kills", self._run(**KILLS)), 16, 4, KILLED)
         migration = self._record("migration", self._run("migration", orders=20))
         self._judge(migration, 8, 5, Places(("migrating", "migrated")))
         self._judge(self._record("folder", self._run(orders=4, noise=False, store="/mnt/folder/store")), 16, 6)
-        for life_number in (2, 3):
-            again = f"{self._folder}/life{life_number}"
-            cut_disk(life, again, seed + life_number)
+        for number in (2, 3):
+            again = f"{self._folder}/again{number}"
+            cut_disk(last, again, seed + number)
             run, _ = load_run(again)
-            life = self._record(f"life{life_number}", dataclasses.replace(run, orders=self._setting.orders // 2, seed=seed + 10 * life_number))
-            self._judge(life, 8, 6 + life_number)
+            last = self._record(f"again{number}", dataclasses.replace(run, orders=self._setting.orders // 2, seed=seed + 10 * number))
+            self._judge(last, 8, 6 + number)
 
     def judge_controls(self) -> None:
         """Judges each control until it finds something, or was tried with all seeds."""
-        life = f"{self._folder}/life"
-        self._control("a disk that ignores flushes", lambda seed: self._finds(life, seed, has_flushes=False))
+        first = f"{self._folder}/first"
+        self._control("a disk that ignores flushes", lambda seed: self._finds(first, seed, has_flushes=False))
         if self._of.no_barrier is None:
             self.controls["no flushes"] = f"not tried: {self._of.kind} has no option to send none"
         else:
@@ -110,10 +110,10 @@ class Trial:
         for each in range(TRIES):
             if found := finds(self._setting.seed + 100 * each):
                 self.controls[name] = "caught"
-                self._tell(f"control {name}: caught: {found}")
+                self._report(f"control {name}: caught: {found}")
                 return
         self.controls[name] = "NOT CAUGHT"
-        self._tell(f"control {name}: NOT CAUGHT")
+        self._report(f"control {name}: NOT CAUGHT")
 
     def _finds(self, folder: str, seed: int, places: Places = Places(), has_flushes: bool = True) -> str | None:
         """Returns the first fault of a run, or None."""

@@ -294,7 +294,8 @@ static int end_server(void) {
 
 void run_load(char **fields) {
   const char *why = NULL;
-  given.program = fields[1], given.store = fields[2], given.orders = atoi(fields[3]), given.kills = atoi(fields[6]), given.closes = atoi(fields[7]);
+  given.program = fields[1], given.store = fields[2], given.orders = atoi(fields[3]);
+  given.kills = atoi(fields[6]), given.closes = atoi(fields[7]);
   seed_random((unsigned)atoi(fields[4]) * 1000003ull + 12345);
   greatest_step = answered = refused = signals = kills = 0;
   memset(next_number, 0, sizeof next_number);

@@ -1,4 +1,4 @@
-"""A further life: a disk that was cut is used again, and must still have everything that was answered before the cut."""
+"""A further run: a disk that was cut is used again, and must still have everything that was answered before the cut."""
 
 import dataclasses
 import os
