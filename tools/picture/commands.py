@@ -26,15 +26,15 @@ def commands_by_step(asked: list[str], printed: list[str]) -> dict[int, list[str
     answers = deque(line for line in printed if line.split(" ")[0] not in FOLLOWS)
     commands: dict[int, list[str]] = {}
     for number, line in enumerate(asked, 1):
-        words = line.split(" ")
+        fields = line.split(" ")
         if answers and answers[0] == f"bad line {number}":
             answers.popleft()
-        elif line == "" or line.startswith("#") or words[0] in UNANSWERED:
+        elif line == "" or line.startswith("#") or fields[0] in UNANSWERED:
             continue
-        elif words[0] == "flush":
+        elif fields[0] == "flush":
             skip_flight(answers)
         elif answers:
-            note(commands, number, words[3:] if words[0] == "order" else words, answers.popleft())
+            note(commands, number, fields[3:] if fields[0] == "order" else fields, answers.popleft())
     return commands
 
 
@@ -44,11 +44,11 @@ def skip_flight(answers: deque[str]) -> None:
         pass
 
 
-def note(commands: dict[int, list[str]], number: int, words: list[str], answer: str) -> None:
+def note(commands: dict[int, list[str]], number: int, command: list[str], answer: str) -> None:
     """Records the step that line `number` of the input made, if it made one."""
     kind, _, step = answer.partition(" ")
     if kind not in ANSWERED or not step.isdigit():
         return
-    if not re.fullmatch(ANSWERED[kind], " ".join(words)):
-        raise OtherRun(f"line {number}, {' '.join(words)!r}, is not what {answer!r} answers")
-    commands[int(step)] = words
+    if not re.fullmatch(ANSWERED[kind], " ".join(command)):
+        raise OtherRun(f"line {number}, {' '.join(command)!r}, is not what {answer!r} answers")
+    commands[int(step)] = command

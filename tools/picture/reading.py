@@ -94,14 +94,14 @@ class Wave:
         if step <= self.steps:
             return  # the kept reply to a repeated order is no step
         self.begin(step, kind)
-        words = self.commands.get(step, [""])
-        self.column.label = " ".join(words)
-        if words[0] == "add":
-            self.nodes.add(int(words[1]))
-        elif words[0] == "reset":
-            self.ask(int(words[1]))
-        elif words[0] == "drop":
-            self.drop(int(words[1]), int(words[2]))
+        command = self.commands.get(step, [""])
+        self.column.label = " ".join(command)
+        if command[0] == "add":
+            self.nodes.add(int(command[1]))
+        elif command[0] == "reset":
+            self.ask(int(command[1]))
+        elif command[0] == "drop":
+            self.drop(int(command[1]), int(command[2]))
 
     def ask(self, node: int) -> None:
         self.nodes.add(node)

@@ -115,11 +115,11 @@ class Mutants:
         path = self.repository.root / NOT_TRIED
         lines = [line.split(" ", 1) for line in path.read_text().splitlines() if line and not line.startswith("#")]
         listed, cited = {(crate, name) for crate, name in lines}, self.cited(rows)
-        told = [*self.wrong]
-        told += [f"{NOT_TRIED}: {' '.join(key)}: {self.why(key, cited)}" for key in sorted(listed)
-                 if key not in cited or self.is_tried(key)]
-        return told + [f"no mutant of refusals/ breaks {' '.join(key)}, which a row cites: write one, or list it in {NOT_TRIED}"
-                       for key in cited if key not in listed and not self.is_tried(key)]
+        findings = [*self.wrong]
+        findings += [f"{NOT_TRIED}: {' '.join(key)}: {self.why(key, cited)}" for key in sorted(listed)
+                     if key not in cited or self.is_tried(key)]
+        return findings + [f"no mutant of refusals/ breaks {' '.join(key)}, which a row cites: write one, or list it in {NOT_TRIED}"
+                           for key in cited if key not in listed and not self.is_tried(key)]
 
     def why(self, key: Key, cited: list[Key]) -> str:
         return "a mutant breaks it now" if key in cited else "no row cites such a function"
@@ -128,21 +128,21 @@ class Mutants:
 def answers(mutants: Mutants, rows: list[Row], word: str) -> list[str]:
     """Returns the lines to print for the rows that have this word, or cite a function with this name: the mutants that break
     their promises."""
-    told: list[str] = []
+    lines: list[str] = []
     for row in rows:
         keys = [key for key in row.cites if key in mutants.cited([row])]
         named = [key for key in keys if f"::{key[1]}".endswith(f"::{word}")]
         if named or word.lower() in row.title.lower():
-            told += [f"{row.title}: {row.words}"]
+            lines += [f"{row.title}: {row.words}"]
             for key in named or keys:
-                told += lines_of(mutants, key, row.cites[key])
-    return told
+                lines += lines_of(mutants, key, row.cites[key])
+    return lines
 
 
 def lines_of(mutants: Mutants, key: Key, clauses: set[str]) -> list[str]:
     """Returns the lines for a function that a row cites: the mutants that break the clauses that the row names."""
-    told = [f"  {' '.join(key)}" + (f" ({', '.join(sorted(clauses))})" if clauses else "")]
-    told += [f"    {name or 'its clause'}: {', '.join(ids)}" for name, ids in mutants.of(key).items() if not clauses or name in clauses]
-    told += [f"    by {other[1]}{f' ({name})' if name else ''}: {', '.join(ids)}"
-             for other, found in mutants.below(key).items() for name, ids in found.items()]
-    return told if len(told) > 1 else [*told, "    no mutant yet"]
+    lines = [f"  {' '.join(key)}" + (f" ({', '.join(sorted(clauses))})" if clauses else "")]
+    lines += [f"    {name or 'its clause'}: {', '.join(ids)}" for name, ids in mutants.of(key).items() if not clauses or name in clauses]
+    lines += [f"    by {other[1]}{f' ({name})' if name else ''}: {', '.join(ids)}"
+              for other, found in mutants.below(key).items() for name, ids in found.items()]
+    return lines if len(lines) > 1 else [*lines, "    no mutant yet"]

@@ -41,9 +41,9 @@ class Repository:
         """Returns the place where an imported name is defined."""
         for _ in range(9):
             if ".specs.declared." in module:
-                words = module.split(".")
-                names = [name, *reversed(words[3:])]
-                return next(((words[0], it) for it in names if (words[0], it) in self.types), None)
+                parts = module.split(".")
+                names = [name, *reversed(parts[3:])]
+                return next(((parts[0], it) for it in names if (parts[0], it) in self.types), None)
             if (module, name) in self.definitions:
                 return module, name
             source = self.specs.get(module)

@@ -129,8 +129,8 @@ def owner_of(head: str) -> str:
     head = re.sub(r"\s+", " ", head.split("{")[0].split(";")[0]).strip()
     while re.search(r"<[^<>]*>", head):
         head = re.sub(r"(?<!-)<[^<>]*>", "", head)
-    words = head.removeprefix("pub ").split(" where ")[0]
-    kind, _, rest = words.partition(" ")
+    signature = head.removeprefix("pub ").split(" where ")[0]
+    kind, _, rest = signature.partition(" ")
     trait, _, owner = rest.rpartition(" for ")
     named = [re.findall(r"\w+", word.split(":")[0] if kind != "impl" else word)[-1:] for word in (owner, trait)]
     return " as ".join(word for words in named for word in words)
