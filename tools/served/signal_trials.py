@@ -89,9 +89,9 @@ def unread(trial: Trial) -> None:
                                  timeout=TIMEOUT)).returncode != 3:
         raise Failed(f"the store was not locked: {second}")
     reader.kill()
-    status, errors = server.ended()
-    if (status, errors) != (3, "resetd: Write\n"):
-        raise Failed(f"once the reader has gone the process ends with status {status}, {errors!r}")
+    status, message = server.ended()
+    if (status, message) != (3, "resetd: Write\n"):
+        raise Failed(f"once the reader has gone the process ends with status {status}, {message!r}")
     trial.start()
     trial.reset_all("a reset after it")
 
