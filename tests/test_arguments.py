@@ -5,7 +5,7 @@ import os
 from support.case import Case
 from support.program import faulted, ran
 
-WORD_LISTS: list[list[str]] = [
+ARGUMENT_LISTS: list[list[str]] = [
     [], ["help"], ["--help"], ["-h"], ["--version"], ["-V"], ["version"], [""], ["fly"], ["Drill"], ["drill", "store"],
     ["drill", "drill"], ["drill", "--"], ["drill", "--help"],
     ["init"], ["init", "store"], ["init", "store", "topology", "more"], ["init", "--", "store", "topology"],
@@ -23,16 +23,16 @@ NO_ADDRESSES = [
 
 
 class Arguments(Case):
-    def test_refused_words(self) -> None:
-        for words in WORD_LISTS:
-            with self.subTest(words=words):
-                self.assertEqual(ran(*words, cwd=self.folder), faulted(2, "Usage"))
+    def test_refused_arguments(self) -> None:
+        for arguments in ARGUMENT_LISTS:
+            with self.subTest(arguments=arguments):
+                self.assertEqual(ran(*arguments, cwd=self.folder), faulted(2, "Usage"))
         self.assertEqual(os.listdir(self.folder), [])
 
-    def test_words_that_are_no_utf_8(self) -> None:
-        for words in ([b"\xff"], [b"check", b"\xff"], [b"serve", b"store", b"127.0.0.1:\xff"]):
-            with self.subTest(words=words):
-                self.assertEqual(ran(*words, cwd=self.folder), faulted(2, "Usage"))
+    def test_arguments_that_are_no_utf_8(self) -> None:
+        for arguments in ([b"\xff"], [b"check", b"\xff"], [b"serve", b"store", b"127.0.0.1:\xff"]):
+            with self.subTest(arguments=arguments):
+                self.assertEqual(ran(*arguments, cwd=self.folder), faulted(2, "Usage"))
 
     def test_no_address(self) -> None:
         for address in NO_ADDRESSES:

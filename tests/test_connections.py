@@ -54,10 +54,10 @@ class Connections(Case):
             for _ in range(2):
                 self.assertEqual(server.ask({"op": "resend"}), RESENT)
             self.assertEqual(server.close().status, 0)
-        told = [line.split()[2] for line in self.read("calls").decode().splitlines() if line.startswith("at-once ")]
-        self.assertEqual(told, ["1"] * 3)
+        values = [line.split()[2] for line in self.read("calls").decode().splitlines() if line.startswith("at-once ")]
+        self.assertEqual(values, ["1"] * 3)
 
-    def test_an_order_is_not_looked_behind(self) -> None:
+    def test_no_look_for_more_after_an_order(self) -> None:
         """A read that did not fill its buffer has taken everything that had arrived. Only after any other read does the server
         check for more."""
         self.needs("a C compiler", preloaded.has_compiler())

@@ -105,7 +105,7 @@ class Moments(Case):
     def expect_kept(self, image: bytes, answered: int) -> None:
         """Checks that a file that a power cut left has every answered step."""
         ended = ran("check", self.write("left", image))
-        self.assertEqual((ended.status, ended.told), (0, ""), ended.printed)
+        self.assertEqual((ended.status, ended.fault), (0, ""), ended.printed)
         self.assertGreaterEqual(int(ended.printed.split()[1]), answered)
 
     def test_a_store_that_is_made(self) -> None:

@@ -28,7 +28,7 @@ class Ends(Case):
             with Serving(store) as server:
                 self.assertEqual(server.order(number, "reset", node=1)["kind"], "started")
                 server.process.send_signal(each)
-                self.assertEqual((server.ended().status, server.ended().told), (-each, ""))
+                self.assertEqual((server.ended().status, server.ended().fault), (-each, ""))
                 first = server.signals()
             self.assertEqual(ran("check", store).status, 0)
             with Serving(store) as server:
@@ -45,8 +45,8 @@ class Ends(Case):
         with Serving(store) as server:
             for number in (1, 2):
                 for name in (store, *others):
-                    for words in (["serve", name, "127.0.0.1:0"], ["migrate", name], ["init", name, f"{store}.toml"]):
-                        self.assertEqual(ran(*words), SERVED_ALREADY)
+                    for arguments in (["serve", name, "127.0.0.1:0"], ["migrate", name], ["init", name, f"{store}.toml"]):
+                        self.assertEqual(ran(*arguments), SERVED_ALREADY)
                 self.assertEqual(server.order(number, "reset", node=1), {"kind": "finished", "step": 1 + number})
                 # these commands take no lock
                 self.assertEqual(ran("check", store), Ended(0, f"legal {1 + number}\n", ""))
@@ -109,7 +109,7 @@ class Ends(Case):
                     if not (line := connection.line()):
                         break
                     answers.append(json.loads(line))
-            self.assertEqual((server.ended().status, server.ended().told), (-signal.SIGXFSZ, ""))
+            self.assertEqual((server.ended().status, server.ended().fault), (-signal.SIGXFSZ, ""))
         self.assertEqual(answers, [{"kind": "finished", "step": number} for number in range(2, len(answers) + 2)])
         self.assertGreater(len(answers), 3)
         with Serving(store) as server:
@@ -131,7 +131,7 @@ class Ends(Case):
             self.assertEqual((server.show(), server.order(1, "reset", node=1)), (stopped, stopped))
             self.assertEqual(server.ask({"op": "resend"}), {"count": 0, "kind": "resent"})
             ended = server.close()
-            self.assertEqual((ended.status, ended.told), (3, "resetd: Device\n"))
+            self.assertEqual((ended.status, ended.fault), (3, "resetd: Device\n"))
         with Serving(store) as server:
             shown = server.show()
             self.assertGreaterEqual(shown["accepted"], 1 + len(done))

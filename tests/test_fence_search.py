@@ -16,9 +16,9 @@ FOUND = (("floor", "links", 3, "returns"), ("talk", "joins", 3, "older"), ("kept
 class Searches(Case):
     takes = 60
 
-    def said(self, *words: str) -> tuple[int, list[str]]:
+    def said(self, *arguments: str) -> tuple[int, list[str]]:
         """Returns the status of a search, and its lines."""
-        done = subprocess.run([tool("search_fence"), "--seconds", "500", *words], capture_output=True, text=True, check=False)
+        done = subprocess.run([tool("search_fence"), "--seconds", "500", *arguments], capture_output=True, text=True, check=False)
         self.assertEqual(done.stderr, "")
         return done.returncode, done.stdout.splitlines()
 

@@ -28,9 +28,9 @@ AT_A_START, AT_AN_ORDER = 2, 2
 class Made(Case):
     def test_its_owner_alone_may_open_it(self) -> None:
         """This is so whichever command creates the file, and whatever the umask permits."""
-        words: dict[str, list[str]] = {
+        arguments: dict[str, list[str]] = {
             "init": [self.write("topology", ONE)], "check": [], "show": [], "migrate": [], "serve": ["127.0.0.1:0"]}
-        for command, more in words.items():
+        for command, more in arguments.items():
             with self.subTest(command=command):
                 ran(command, self.path(command), *more, umask=0)
                 self.assertEqual(stat.S_IMODE(os.stat(self.path(command)).st_mode), 0o600)
@@ -40,8 +40,8 @@ class Made(Case):
         self.needs("a C compiler", preloaded.has_compiler())
         other = self.made(ONE, "other")
         before = self.read("other")
-        words: dict[str, list[str]] = {"init": [f"{other}.toml"], "migrate": []}
-        for command, more in words.items():
+        arguments: dict[str, list[str]] = {"init": [f"{other}.toml"], "migrate": []}
+        for command, more in arguments.items():
             with self.subTest(command=command):
                 environment = preloaded.environment(self.folder, MEANWHILE=other)
                 self.assertEqual(ran(command, self.path(command), *more, env={**os.environ, **environment}), FAILED)
@@ -52,10 +52,10 @@ class ReadOnly(Case):
     """What a user can do who may read a file or a folder but not write it. Root without its privilege to override the modes is
     such a user."""
 
-    words = ["setpriv", "--bounding-set=-dac_override,-dac_read_search"] if os.geteuid() == 0 else []
+    prefix = ["setpriv", "--bounding-set=-dac_override,-dac_read_search"] if os.geteuid() == 0 else []
 
-    def user(self, *words: str) -> Ended:
-        done = subprocess.run([*self.words, PROGRAM, *words], stdin=subprocess.DEVNULL, capture_output=True, timeout=TIMEOUT)
+    def user(self, *arguments: str) -> Ended:
+        done = subprocess.run([*self.prefix, PROGRAM, *arguments], stdin=subprocess.DEVNULL, capture_output=True, timeout=TIMEOUT)
         return Ended(done.returncode, done.stdout.decode(), done.stderr.decode())
 
     def test_a_store(self) -> None:
@@ -65,8 +65,8 @@ class ReadOnly(Case):
         os.chmod(path, 0o400)
         self.assertEqual(self.user("check", path), Ended(0, "legal 1\n", ""))
         self.assertEqual(self.user("show", path), Ended(0, "view 1 1\nnode 1 1 ready 0 0 0\n", ""))
-        for words in (["serve", path, "127.0.0.1:0"], ["migrate", path], ["init", path, f"{path}.toml"]):
-            self.assertEqual(self.user(*words), FAILED)
+        for arguments in (["serve", path, "127.0.0.1:0"], ["migrate", path], ["init", path, f"{path}.toml"]):
+            self.assertEqual(self.user(*arguments), FAILED)
         self.assertEqual(self.read("store"), before)
 
     def test_a_folder(self) -> None:
@@ -75,9 +75,9 @@ class ReadOnly(Case):
         os.mkdir(folder)
         self.assertEqual(ran("init", f"{folder}/store", topology_path).status, 0)
         os.chmod(folder, 0o500)
-        for words in (["check", f"{folder}/other"], ["init", f"{folder}/other", topology_path]):
-            self.assertEqual(self.user(*words), FAILED)
-        with Serving(f"{folder}/store", before=self.words, output=self.path("output")) as server:
+        for arguments in (["check", f"{folder}/other"], ["init", f"{folder}/other", topology_path]):
+            self.assertEqual(self.user(*arguments), FAILED)
+        with Serving(f"{folder}/store", before=self.prefix, output=self.path("output")) as server:
             self.assertEqual(server.order(1, "reset", node=1), {"kind": "finished", "step": 2})
             self.assertEqual(server.close().status, 0)
         self.assertEqual(os.listdir(folder), ["store"])
@@ -89,9 +89,9 @@ class ReadOnly(Case):
         self.assertEqual(ran("init", f"{folder}/store", topology_path).status, 0)
         before = self.content(f"{folder}/store")
         os.chmod(folder, 0o300)
-        for words in (["init", f"{folder}/other", topology_path], ["serve", f"{folder}/store", "127.0.0.1:0"],
+        for arguments in (["init", f"{folder}/other", topology_path], ["serve", f"{folder}/store", "127.0.0.1:0"],
                       ["migrate", f"{folder}/store"]):
-            self.assertEqual(self.user(*words), FAILED)
+            self.assertEqual(self.user(*arguments), FAILED)
         self.assertEqual(self.user("check", f"{folder}/store"), Ended(0, "legal 1\n", ""))
         os.chmod(folder, 0o700)
         self.assertEqual([self.content(f"{folder}/{name}") for name in ("store", "other")], [before, b""])
@@ -158,11 +158,11 @@ class Called(Case):
         folder, topology_path, log = self.path("folder"), self.write("topology", ONE), self.path("calls")
         os.mkdir(folder)
         store = f"{folder}/store"
-        for words, path in ((["init", store, topology_path], store), (["init", "bare", topology_path], f"{folder}/bare"),
+        for arguments, path in ((["init", store, topology_path], store), (["init", "bare", topology_path], f"{folder}/bare"),
                             (["check", f"{folder}/absent"], f"{folder}/absent"), (["migrate", store], store)):
-            with self.subTest(words=words):
-                ended = ran(*words, env=self.environment(CALLS=log), cwd=folder)
-                self.assertEqual(ended.status, int(words[0] == "check"))
+            with self.subTest(arguments=arguments):
+                ended = ran(*arguments, env=self.environment(CALLS=log), cwd=folder)
+                self.assertEqual(ended.status, int(arguments[0] == "check"))
                 self.assertEqual(self.synced_at_first(), ({folder, path}, False))
         with Serving(store, env=self.environment(CALLS=log)) as server:
             self.assertEqual(server.close().status, 0)
@@ -170,17 +170,17 @@ class Called(Case):
 
     def test_a_sync_that_fails_where_a_store_is_made(self) -> None:
         """Device is reported for each sync."""
-        words = ["init", self.path("store"), self.write("topology", ONE)]
+        arguments = ["init", self.path("store"), self.write("topology", ONE)]
         log = self.path("calls")
-        self.assertEqual(ran(*words, env=self.environment(CALLS=log)), Ended(0, "created 1\n", ""))
+        self.assertEqual(ran(*arguments, env=self.environment(CALLS=log)), Ended(0, "created 1\n", ""))
         syncs = self.read("calls").count(b"sync ")
         self.assertGreater(syncs, 2)
         for number in range(1, syncs + 1):
             with self.subTest(sync=number, of=syncs):
                 os.remove(self.path("store"))
-                self.assertEqual(ran(*words, env=self.environment(SYNC_FAILS=number)), FAILED)
+                self.assertEqual(ran(*arguments, env=self.environment(SYNC_FAILS=number)), FAILED)
 
-    def test_a_length_that_is_not_told(self) -> None:
+    def test_a_length_that_is_not_reported(self) -> None:
         for number in (1, 2):
             self.expect_refused(COMMANDS, LENGTH_FAILS=number)
 
@@ -201,10 +201,10 @@ class Called(Case):
     def test_a_write_that_is_interrupted(self) -> None:
         """The call is repeated, and nothing is reported."""
         for number in (1, 2, 3):
-            words = ["init", self.path(f"store{number}"), self.write("topology", ONE)]
+            arguments = ["init", self.path(f"store{number}"), self.write("topology", ONE)]
             environment = self.environment(ERROR=errno.EINTR, WRITE_FAILS=number)
-            self.assertEqual((number, ran(*words, env=environment)), (number, Ended(0, "created 1\n", "")))
-            self.assertEqual(ran("check", words[1]), Ended(0, "legal 1\n", ""))
+            self.assertEqual((number, ran(*arguments, env=environment)), (number, Ended(0, "created 1\n", "")))
+            self.assertEqual(ran("check", arguments[1]), Ended(0, "legal 1\n", ""))
 
     def test_a_read_that_is_interrupted(self) -> None:
         environment = self.environment(ERROR=errno.EINTR, READ_FAILS=1)
@@ -222,21 +222,21 @@ class Called(Case):
 
     def test_a_write_that_fails_where_a_store_is_made(self) -> None:
         """The device is not called again after it."""
-        words = ["init", self.path("store"), self.write("topology", ONE)]
-        ended, made = self.called(words, WRITE_FAILS=4)
+        arguments = ["init", self.path("store"), self.write("topology", ONE)]
+        ended, made = self.called(arguments, WRITE_FAILS=4)
         self.assertEqual(ended, Ended(0, "created 1\n", ""))
         for number in (1, 2, 3):
             for error in ERRORS:
                 os.remove(self.path("store"))
-                ended, called = self.called(words, WRITE_FAILS=number, ERROR=error)
+                ended, called = self.called(arguments, WRITE_FAILS=number, ERROR=error)
                 self.assertEqual((number, error, ended), (number, error, FAILED))
                 self.assertEqual(called, made[:len(called)])
                 self.assertTrue(made[len(called)].startswith("write"))
 
-    def called(self, words: list[str], **settings: int) -> tuple[Ended, list[str]]:
+    def called(self, arguments: list[str], **settings: int) -> tuple[Ended, list[str]]:
         """Returns how the program ended, and the writes and syncs that it made."""
         calls = self.write("calls", "")
-        ended = ran(*words, env=self.environment(CALLS=calls, **settings))
+        ended = ran(*arguments, env=self.environment(CALLS=calls, **settings))
         with open(calls, encoding="ascii") as lines:
             return ended, [line for line in lines if not line.startswith("out")]
 
@@ -264,7 +264,7 @@ class Called(Case):
                 kept = [{"kind": "finished", "step": 1 + each} for each in range(1, done + 1)]
                 self.assertEqual(answers, kept + [STOPPED] * (len(answers) - done))
                 ended = server.close()
-                self.assertEqual((ended.status, ended.told), (3, "resetd: Device\n"))
+                self.assertEqual((ended.status, ended.fault), (3, "resetd: Device\n"))
             self.assertGreaterEqual(int(ran("check", store).printed.split()[1]), 1 + done)
 
     def test_a_sync_that_fails_while_a_store_is_raised(self) -> None:
@@ -288,7 +288,7 @@ class Called(Case):
                 kept = [{"kind": "finished", "step": 1 + each} for each in range(1, done + 1)]
                 self.assertEqual(answers, kept + [STOPPED] * (ORDERS - done))
                 ended = server.close()
-                self.assertEqual((ended.status, ended.told), (3, "resetd: Device\n"))
+                self.assertEqual((ended.status, ended.fault), (3, "resetd: Device\n"))
                 self.assertEqual(server.signals(), [(1, epoch) for epoch in range(1, done + 1)])
             self.assertGreaterEqual(int(ran("check", store).printed.split()[1]), 1 + done)
 

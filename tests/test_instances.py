@@ -80,7 +80,7 @@ class Instances(Served):
             self.assertEqual(server.await_signals(206), wanted)
             self.expect_closed(server, 206)
 
-    def test_a_connection_that_stays_is_ended_behind_a_reply(self) -> None:
+    def test_a_connection_that_stays_is_ended_after_a_reply(self) -> None:
         """Whatever the client has sent, it can read all answers and then the end of the connection; it sends the rest again."""
         with Serving(self.made(topology([(1, 1)])), program=SHORT) as server:
             answered, connections = 0, 0
@@ -101,7 +101,7 @@ class Instances(Served):
             self.assertGreaterEqual(len(signals), answered)
             self.assertEqual(signals, [(1, epoch) for epoch in range(1, len(signals) + 1)])
 
-    def test_a_close_behind_many_instances(self) -> None:
+    def test_a_close_after_many_instances(self) -> None:
         """The answer to a close can be read although lines follow it, and everything is settled."""
         with Serving(self.made(topology([(1, 1)])), program=SHORT) as server:
             for number in range(1, 101):
@@ -110,7 +110,7 @@ class Instances(Served):
                 connection.send(b'{"op":"close"}\n' + b'{"op":"show"}\n' * 2_000)
                 self.assertEqual(connection.rest(), [b'{"kind":"closed"}\n'])
             ended = server.ended()
-            self.assertEqual((ended.status, ended.told, len(ended.printed.splitlines())), (0, "", 101))
+            self.assertEqual((ended.status, ended.fault, len(ended.printed.splitlines())), (0, "", 101))
 
     def test_an_output_that_is_not_read(self) -> None:
         """A slow output delays no answer and no next instance. What an instance has released is printed during later ones."""

@@ -5,7 +5,7 @@ from collections.abc import Callable
 from functools import partial
 
 from support.library_case import CountedLibrary, OfLibrary
-from support.memberlib import Order, Orders, Refused, Told
+from support.memberlib import Judgement, Order, Orders, Refused
 
 OUT_OF_MEMORY = 1
 WORD = b"blue"
@@ -33,7 +33,7 @@ class GivesBack(OfLibrary):
         self.begun = self.library.begun(1, 5)
         self.talk = self.library.judge(SHOW, 1, self.begun, b"", 5)
 
-    def judgements(self) -> dict[str, Callable[[], Told]]:
+    def judgements(self) -> dict[str, Callable[[], Judgement]]:
         """Returns a judgement for each action that may be due, with and without the possible content of the files."""
         judge, history = self.library.judge, self.talk.line
         return {

@@ -51,12 +51,12 @@ class Limits(OfLibrary):
         return line
 
     def test_each_order_of_each_client_under_each_number(self) -> None:
-        for op, (name, *words) in OPS.items():
+        for op, (name, *fields) in OPS.items():
             values = {"node": 5, "a": 5, "b": 2, "group": 2, "epoch": 9}
-            wanted: dict[str, object] = {"op": name, **{word: values[word] for word in words}}
+            wanted: dict[str, object] = {"op": name, **{field: values[field] for field in fields}}
             for client in CLIENTS:
                 for last in NUMBERS:
-                    order = Order(op, 5, 2 if "b" in words or "group" in words else 0, 9 if "epoch" in words else 0)
+                    order = Order(op, 5, 2 if "b" in fields or "group" in fields else 0, 9 if "epoch" in fields else 0)
                     self.assertEqual(self.line_of(last, order, client), {**wanted, "client": client, "number": last + 1})
 
     def test_an_order_of_each_node_group_and_epoch(self) -> None:

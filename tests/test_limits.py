@@ -48,14 +48,14 @@ class Descriptors(Case):
         store, ends = self.made(topology([(1, 1)])), set[tuple[str, str, int]]()
         before = self.read("store")
         for most in range(4, 13):
-            words = ["prlimit", f"--nofile={most}", PROGRAM, "serve", store, "127.0.0.1:0"]
-            with self.subTest(most=most), subprocess.Popen(words, stdout=subprocess.PIPE, stderr=subprocess.PIPE) as server:
+            command = ["prlimit", f"--nofile={most}", PROGRAM, "serve", store, "127.0.0.1:0"]
+            with self.subTest(most=most), subprocess.Popen(command, stdout=subprocess.PIPE, stderr=subprocess.PIPE) as server:
                 assert server.stdout and server.stderr
                 line = server.stdout.readline().decode()
                 if line:
                     self.is_served(line.removeprefix("listening ").strip())
-                told = server.stderr.read().decode()
-                ends.add((line[:10], told, server.wait()))
+                fault = server.stderr.read().decode()
+                ends.add((line[:10], fault, server.wait()))
             self.assertEqual(self.read("store"), before)
         self.assertEqual(ends, {("listening ", "", 0), ("", "resetd: Device\n", 3), ("", "resetd: Socket\n", 3)})
 
@@ -75,7 +75,7 @@ class Descriptors(Case):
             ended = ran("serve", store, "127.0.0.1:0", env=environment)
             self.assertEqual((error, ended), (error, faulted(3, "Socket")))
 
-    def test_an_address_that_is_not_told(self) -> None:
+    def test_an_address_that_is_not_known(self) -> None:
         """The address can't be printed, so nobody is served."""
         self.needs("a C compiler", preloaded.has_compiler())
         environment = {**os.environ, **preloaded.environment(self.folder, NAME_FAILS=1)}

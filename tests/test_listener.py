@@ -56,7 +56,7 @@ class Listener(Failing):
                     for number in range(1, after + 1):
                         self.assertEqual(server.order(number, "reset", node=1), {"kind": "finished", "step": 1 + number})
                     ended = server.ended()
-                    self.assertEqual((name, ended.status, ended.told), (name, 3, "resetd: Socket\n"))
+                    self.assertEqual((name, ended.status, ended.fault), (name, 3, "resetd: Socket\n"))
                     signals = "".join(f"signal 1 {epoch}\n" for epoch in range(1, after + 1))
                     self.assertEqual(ended.printed, f"listening {server.address}\n{signals}")
 
@@ -119,7 +119,7 @@ class LastTry(Failing):
 
     def test_one_failure_more(self) -> None:
         with self.serving("EMFILE", TRIES + 1) as server:
-            self.assertEqual((server.ended().status, server.ended().told), (3, "resetd: Socket\n"))
+            self.assertEqual((server.ended().status, server.ended().fault), (3, "resetd: Socket\n"))
 
 
 class Idle(Case):

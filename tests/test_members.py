@@ -175,18 +175,18 @@ class Members(OfLibrary):
         begun = kept.begun if kept.begun == work else None
         wanted = judge(Kept(begun, kept.party), set(history), shown_to(view, row))
         line, file = line_of(view), b"" if kept == Kept() else start_text(node, kept)
-        told = self.library.judge(line, node, file, history_text(history, torn), work)
-        self.assertEqual((told.due, told.epoch, told.history_size), (wanted.due.name, row.epoch, 65 * len(history)), state)
-        self.assertEqual(told.line, history_text([wanted.digest]) if wanted.digest else b"", state)
+        judged = self.library.judge(line, node, file, history_text(history, torn), work)
+        self.assertEqual((judged.due, judged.epoch, judged.history_size), (wanted.due.name, row.epoch, 65 * len(history)), state)
+        self.assertEqual(judged.line, history_text([wanted.digest]) if wanted.digest else b"", state)
         changes = wanted.due is Due.BEGIN or wanted.due is Due.TALK and kept.party is None
         count = None if wanted.due is Due.BEGIN else view.settled
-        self.assertEqual(told.start, start_text(node, wanted.kept, count) if changes else b"", state)
+        self.assertEqual(judged.start, start_text(node, wanted.kept, count) if changes else b"", state)
         if wanted.due is Due.TALK:
             assert wanted.kept.party is not None
             for word in ("", "blue"):
-                tag = self.library.tag(line, node, told.start or file, word.encode())
+                tag = self.library.tag(line, node, judged.start or file, word.encode())
                 self.assertEqual(tag.decode(), tag_of(wanted.kept.party, view.party(node), word), state)
-        return told.due
+        return judged.due
 
     def test_small_states(self) -> None:
         """Tries all of them."""
@@ -217,11 +217,11 @@ class Members(OfLibrary):
         """Checks that a member of another kind, after it was shown a state, has taken the action and has the files that the
         proved library determines. (One that begins has already continued.)"""
         view, node, kept, digests, work = state
-        told = self.library.judge(line_of(view), node, start_text(node, kept), history_text(digests), work)
-        self.assertEqual(due.name, told.due, state)
-        if told.due != "BEGIN":
-            self.assertEqual(after, kept_in(told.start, node) if told.start else kept, state)
-            self.assertEqual(history, history_text(digests) + told.line, state)
+        judged = self.library.judge(line_of(view), node, start_text(node, kept), history_text(digests), work)
+        self.assertEqual(due.name, judged.due, state)
+        if judged.due != "BEGIN":
+            self.assertEqual(after, kept_in(judged.start, node) if judged.start else kept, state)
+            self.assertEqual(history, history_text(digests) + judged.line, state)
 
     def test_the_files_of_the_python_library(self) -> None:
         """The starts of a member, over files: both libraries write the same bytes."""
@@ -248,14 +248,14 @@ class Members(OfLibrary):
             view, node, kept, digests, work = state = states.state()
             if work not in (None, kept.begun):
                 continue
-            folder, told = self.path(f"{turn}"), f"{kept.begun or 0} 1\n"
+            folder, instruction = self.path(f"{turn}"), f"{kept.begun or 0} 1\n"
             os.makedirs(f"{folder}/a")
             kept_row = json.loads(start_text(node, kept))
-            kept_row[str(node)]["told"] = told
+            kept_row[str(node)]["told"] = instruction
             self.write(f"{turn}/starts.json", json.dumps(kept_row) + "\n")
             self.write(f"{turn}/starts.history", history_text(digests))
             if work is not None:
-                self.write(f"{turn}/a/begun", told)
+                self.write(f"{turn}/a/begun", instruction)
             shelf = Shelf(f"{folder}/starts.json")
             due = Desk(node, shelf, folder, ["a"]).due(view, row_of(view, node))
             shelf.keep()
@@ -285,8 +285,8 @@ class Members(OfLibrary):
             after = Kept(None if first == "-1" else int(first), frozenset(party) if party else None)
             self.alike_in(state, due, after, self.read(f"{turn}/history"))
             if due is Due.TALK:
-                told = self.library.tag(line_of(view), node, start_text(node, after)).decode() or "-"
-                self.assertEqual(self.read(f"{turn}/run").decode(), f"{row_of(view, node).epoch} {told}\n", state)
+                tag = self.library.tag(line_of(view), node, start_text(node, after)).decode() or "-"
+                self.assertEqual(self.read(f"{turn}/run").decode(), f"{row_of(view, node).epoch} {tag}\n", state)
 
     def test_begun(self) -> None:
         for node, epoch in ((1, 0), (64, (1 << 64) - 1), (7, 12)):
@@ -378,17 +378,17 @@ class Members(OfLibrary):
 
 
 class Searches(OfLibrary):
-    def last_line(self, *words: str) -> str:
+    def last_line(self, *arguments: str) -> str:
         """Returns the last line that tools/member_search prints."""
-        done = subprocess.run([tool("member_search"), "--seconds", "500", *words], capture_output=True, text=True, check=False)
+        done = subprocess.run([tool("member_search"), "--seconds", "500", *arguments], capture_output=True, text=True, check=False)
         self.assertEqual(done.stderr, "")
         return done.stdout.splitlines()[-1]
 
     def test_the_search_with_the_proved_judge(self) -> None:
         """The search reaches as many states as with the Python judge, and finds the mix if a part is left out."""
         for about, depth in (("all", 5), ("lose", 5), ("restore", 6), ("readd", 8), ("links", 9)):
-            words = ["--about", about, "--depth", str(depth)]
-            self.assertEqual(self.last_line(*words, "--library", PATH), self.last_line(*words))
+            arguments = ["--about", about, "--depth", str(depth)]
+            self.assertEqual(self.last_line(*arguments, "--library", PATH), self.last_line(*arguments))
         weaker = ["--about", "readd", "--without", "dropped"]
         self.assertIn("mixed after 10 events", self.last_line(*weaker, "--library", PATH))
 
@@ -398,10 +398,10 @@ class Made(Case):
 
     programs: tuple[str, ...] = ("RESETD", "RESETD_MEMBER")
 
-    def make(self, compiler: str, *words: str, env: dict[str, str] | None = None) -> str:
+    def make(self, compiler: str, *arguments: str, env: dict[str, str] | None = None) -> str:
         """Compiles a member without a warning, and returns its program."""
         self.needs(COMPILERS[compiler], shutil.which(compiler) is not None, is_optional=True)
-        made = subprocess.run([compiler, *words], capture_output=True, text=True, cwd=EXAMPLES, env={**os.environ, **(env or {})}, timeout=600)
+        made = subprocess.run([compiler, *arguments], capture_output=True, text=True, cwd=EXAMPLES, env={**os.environ, **(env or {})}, timeout=600)
         self.assertEqual((made.returncode, made.stderr), (0, ""))
         return self.path("member")
 
@@ -482,19 +482,19 @@ class OneProcess(Made):
             return self.read("files/lock") == f"{process.pid}\n".encode()
         return False
 
-    def allows_one_process(self, *command: str) -> None:
+    def allows_one_process(self, *forms: str) -> None:
         folder = self.path("files")
-        words = [word.format(proxy=f"unix:{self.path('no proxy')}", folder=folder) for word in command]
-        first = self.starts(*words)
+        command = [form.format(proxy=f"unix:{self.path('no proxy')}", folder=folder) for form in forms]
+        first = self.starts(*command)
         until("the first process has the folder", lambda: self.has_the_folder(first))
-        second = self.starts(*words)
+        second = self.starts(*command)
         _, said = second.communicate(timeout=60)
         self.assertNotEqual(second.returncode, 0)
         self.assertIn(f"process {first.pid} works with {folder}", said.splitlines()[-1])
         self.assertIsNone(first.poll())
         first.kill()
         first.wait()
-        third = self.starts(*words)
+        third = self.starts(*command)
         until("the next process has the folder", lambda: self.has_the_folder(third))
 
     def test_python(self) -> None:
@@ -532,7 +532,7 @@ class Durable(Made):
 
     def run_until_it_talks(self, resets: int) -> list[traced.Call]:
         """Runs the member until it talks, and through this number of resets. Returns its calls."""
-        process = subprocess.Popen([*traced.words(self.path("trace")), self.member, "1", self.trial.address, self.path("files")],
+        process = subprocess.Popen([*traced.command(self.path("trace")), self.member, "1", self.trial.address, self.path("files")],
                                    stdout=subprocess.DEVNULL, start_new_session=True)
         try:
             self.trial.expect("it talks", self.is_talking)

@@ -50,7 +50,7 @@ class Memory(Case):
         self.needs("a C compiler", preloaded.has_compiler())
         self.refusing = Refusing(PROGRAM, self.folder)
 
-    def each_refusal(self, words: list[str], prepare: Callable[[], object],
+    def each_refusal(self, arguments: list[str], prepare: Callable[[], object],
                      given: bytes = b"") -> Iterator[tuple[str, Ended, Ended]]:
         """Runs a command with each of its allocations refused, alone or together with all later ones. Yields where that was,
         how the command ends with enough memory, and how it ended.
@@ -60,22 +60,22 @@ class Memory(Case):
         """
         usual = self.refusing.ran("check", self.path("none/store"))[1]
         prepare()
-        ample, count = self.refusing.ran(*words, given=given)
+        ample, count = self.refusing.ran(*arguments, given=given)
         for first in range(1, count + 1):
             for many in (1, ALL) if first > usual - 5 or first % 16 == 0 else ():
                 prepare()
-                ended, _ = self.refusing.ran(*words, first=first, many=many, given=given)
-                yield f"{words[0]}, {many} from {first} of {count}", ample, ended
+                ended, _ = self.refusing.ran(*arguments, first=first, many=many, given=given)
+                yield f"{arguments[0]}, {many} from {first} of {count}", ample, ended
 
-    def expect_unchanged(self, wanted: Ended, *words: str, content: bytes) -> None:
+    def expect_unchanged(self, wanted: Ended, *arguments: str, content: bytes) -> None:
         """Checks that the command ends as expected, or out of memory with its file unchanged."""
-        path, told = self.path("store"), 0
-        for where, ample, ended in self.each_refusal([words[0], path, *words[1:]], lambda: self.write("store", content)):
+        path, lacked = self.path("store"), 0
+        for where, ample, ended in self.each_refusal([arguments[0], path, *arguments[1:]], lambda: self.write("store", content)):
             self.assertEqual(ample, wanted)
             self.assertIn(ended, (wanted, NO_MEMORY), where)
             self.assertEqual(self.read("store"), content, where)
-            told += ended == NO_MEMORY
-        self.assertGreater(told, 10)
+            lacked += ended == NO_MEMORY
+        self.assertGreater(lacked, 10)
 
     def test_a_store_is_never_overwritten(self) -> None:
         for content in (stores.store(bodies=[batch(1, stores.add(1))]), b"\0"):
@@ -104,8 +104,8 @@ class Memory(Case):
 
     def test_a_store_that_is_made(self) -> None:
         """There is no store, an empty one, or a whole one, whose line may be missing."""
-        store, words = self.path("store"), ["init", self.path("store"), self.write("topology", PAIR)]
-        for where, ample, ended in self.each_refusal(words, lambda: pathlib.Path(store).unlink(missing_ok=True)):
+        store, arguments = self.path("store"), ["init", self.path("store"), self.write("topology", PAIR)]
+        for where, ample, ended in self.each_refusal(arguments, lambda: pathlib.Path(store).unlink(missing_ok=True)):
             self.assertEqual(ample, Ended(0, "created 3\n", ""))
             self.assertIn(ended, (ample, NO_MEMORY), where)
             if os.path.exists(store):
@@ -117,7 +117,7 @@ class Memory(Case):
         given = worked_runs()[run].given
         for where, ample, ended in self.each_refusal(["drill"], lambda: None, given):
             self.assertEqual(ample.status, 0)
-            self.assertIn((ended.status, ended.told), ENDS, where)
+            self.assertIn((ended.status, ended.fault), ENDS, where)
             if not LACKS.search(ended.printed):
                 self.assertTrue(ample.printed.startswith(ended.printed), where)
                 self.assertEqual(ended.status == 0, ended.printed == ample.printed, where)
@@ -140,16 +140,16 @@ class Start(Case):
         store unchanged."""
         self.needs("a C compiler", preloaded.has_compiler())
         refusing, store = Refusing(PROGRAM, self.folder), self.made(PAIR)
-        content, told, usual = self.read("store"), 0, refusing.ran("check", self.path("none/store"))[1]
+        content, lacked, usual = self.read("store"), 0, refusing.ran("check", self.path("none/store"))[1]
         with Serving(store, env=refusing.environment()):
             count = refusing.count()
         self.assertGreater(count, usual)
         for first in range(1, count + 1):
             for many in (1, ALL) if first > usual - 5 or first % 16 == 0 else ():
                 with self.subTest(first=first, many=many, of=count):
-                    told += self.start(store, refusing.environment(first, many)) == NO_MEMORY
+                    lacked += self.start(store, refusing.environment(first, many)) == NO_MEMORY
                     self.assertEqual(self.read("store"), content)
-        self.assertGreater(told, 10)
+        self.assertGreater(lacked, 10)
 
     def test_each_allocation_of_a_start_in_a_reset(self) -> None:
         """Packets are sent again after the line `listening`, for which the first thread allocates memory. If it runs out, the
@@ -158,11 +158,11 @@ class Start(Case):
         refusing, content = Refusing(PROGRAM, self.folder), stores.store(IN_A_RESET)
         with Serving(self.write("store", content), env=refusing.environment(threads=FIRST_THREAD)):
             count = unchanged(refusing.count)
-        told = 0
+        lacked = 0
         for first in range(count - 8, count + 1):
             with self.subTest(first=first, of=count):
-                told += self.lacks_memory(content, refusing.environment(first, threads=FIRST_THREAD))
-        self.assertGreater(told, 4)
+                lacked += self.lacks_memory(content, refusing.environment(first, threads=FIRST_THREAD))
+        self.assertGreater(lacked, 4)
 
     def lacks_memory(self, content: bytes, environment: dict[str, str]) -> bool:
         """Returns whether a server over a store in a reset ends out of memory."""
@@ -177,7 +177,7 @@ class Start(Case):
         except AssertionError as early:
             self.assertIn(str(NO_MEMORY), str(early))
             return True
-        self.assertEqual((ended.status, ended.told), (NO_MEMORY.status, NO_MEMORY.told))
+        self.assertEqual((ended.status, ended.fault), (NO_MEMORY.status, NO_MEMORY.fault))
         return True
 
     def start(self, store: str, environment: dict[str, str]) -> Ended | None:
@@ -200,7 +200,7 @@ class Later(Case):
         """Each allocation is refused in turn: the server continues, or it reports that and ends with everything that was
         answered."""
         self.needs("a C compiler", preloaded.has_compiler())
-        refusing, told = Refusing(SHORT, self.folder), 0
+        refusing, lacked = Refusing(SHORT, self.folder), 0
         with self.serving(refusing, 0) as server:
             before = self.live(server, refusing, 0)
             count = unchanged(refusing.count) - before
@@ -210,10 +210,10 @@ class Later(Case):
                 ended = self.end(server)
                 signals = "".join(f"signal 1 {epoch}\n" for epoch in range(1, SHORT_STEPS + 1))
                 self.assertEqual(ended.printed, f"listening {server.address}\n{signals}")
-                self.assertIn((ended.status, ended.told), ((0, ""), (NO_MEMORY.status, NO_MEMORY.told)))
+                self.assertIn((ended.status, ended.fault), ((0, ""), (NO_MEMORY.status, NO_MEMORY.fault)))
                 self.assertEqual(ran("check", server.store).printed, f"legal {1 + SHORT_STEPS}\n")
-                told += ended.status != 0
-        self.assertGreater(told, 5)
+                lacked += ended.status != 0
+        self.assertGreater(lacked, 5)
 
     def serving(self, refusing: Refusing, first: int) -> Serving:
         store = self.made(topology([(1, 1)]), f"store{first}")
@@ -420,11 +420,11 @@ class Kept(Case):
         self.needs("a C compiler", preloaded.has_compiler())
         refusing, path = Refusing(PROGRAM, self.folder), self.write("store", stores.store(bodies=[batch(1, stores.add(1))]))
         lines = b"add 1 1\nadd 2 1\njoin 1 2\nreset 1\n" + b"show\nresend\ncheck\nfly\nadd 1 1\n#\ncrash\n" * 20
-        for words, status in ((["init", self.path("made"), self.write("topology", PAIR)], 0), (["check", path], 0),
+        for arguments, status in ((["init", self.path("made"), self.write("topology", PAIR)], 0), (["check", path], 0),
                               (["show", path], 0), (["migrate", path], 0), (["check", self.write("none", "no")], 1),
                               (["init", path, self.path("topology")], 1), (["fly"], 2), (["drill"], 0)):
-            ended, count = refusing.ran(*words, given=lines)
-            with self.subTest(words=words):
+            ended, count = refusing.ran(*arguments, given=lines)
+            with self.subTest(arguments=arguments):
                 self.assertEqual((ended.status, refusing.kept()), (status, 0))
                 self.assertGreater(count, 0)
 

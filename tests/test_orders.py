@@ -157,12 +157,12 @@ class Orders(Served):
         """A line of at most 512 bytes is read, whether it is an order, another request, or no JSON. A carriage return counts."""
         order, unknown = b'{"op":"reset","client":1,"number":1,"node":1}', refused(6, "UnknownNode")
         with Serving(self.made("")) as server, server.connect() as connection:
-            for behind in (b"\n", b"\r\n"):
+            for ending in (b"\n", b"\r\n"):
                 for length, fault in ((511, None), (512, None), (513, "TooLong"), (1_025, "TooLong")):
-                    room = length - len(behind) + 1
-                    connection.send(order.ljust(room) + behind, b" " * (room - len(order)) + order + behind,
-                                    b"[".ljust(room) + behind, b"\xff" * room + behind, b"[" * room + behind,
-                                    b'{"op":"resend"}'.rjust(room) + behind)
+                    room = length - len(ending) + 1
+                    connection.send(order.ljust(room) + ending, b" " * (room - len(order)) + order + ending,
+                                    b"[".ljust(room) + ending, b"\xff" * room + ending, b"[" * room + ending,
+                                    b'{"op":"resend"}'.rjust(room) + ending)
                     replies = [connection.reply() for _ in range(6)]
                     wanted = [unknown, unknown, {"fault": "BadJson"}, {"fault": "BadText"}, {"fault": "BadJson"},
                               {"count": 0, "kind": "resent"}]

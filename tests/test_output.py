@@ -15,9 +15,9 @@ PAIR = topology([(1, 1), (2, 1)], [(1, 2)])
 LOST = (3, "resetd: Write\n")
 
 
-def by_shell(redirected: str, *words: str) -> tuple[int, str]:
+def by_shell(redirected: str, *arguments: str) -> tuple[int, str]:
     """Runs the program with a shell's redirections. Returns its status and its fault."""
-    done = subprocess.run(["sh", "-c", f'exec "$0" "$@" {redirected}', PROGRAM, *words], stdin=subprocess.DEVNULL,
+    done = subprocess.run(["sh", "-c", f'exec "$0" "$@" {redirected}', PROGRAM, *arguments], stdin=subprocess.DEVNULL,
                           capture_output=True, timeout=TIMEOUT)
     return done.returncode, done.stderr.decode()
 
@@ -27,9 +27,9 @@ class Printed(Case):
         """This holds for the output of a command and for each answer of a drill, so a reader never sees part of a line."""
         self.needs("a C compiler", preloaded.has_compiler())
         store, network = self.path("store"), self.write("topology", stores.ring(64))
-        for words in (["init", store, network], ["check", store], ["show", store], ["migrate", store]):
-            with self.subTest(words=words):
-                self.expect_writes(words, b"", [ran(*words).printed] if words[0] != "init" else ["created 128\n"])
+        for arguments in (["init", store, network], ["check", store], ["show", store], ["migrate", store]):
+            with self.subTest(arguments=arguments):
+                self.expect_writes(arguments, b"", [ran(*arguments).printed] if arguments[0] != "init" else ["created 128\n"])
         drill = b"add 1 1\nhold\n" + b"reset 1\n" * 50
         pending = "done 1\n" + "".join(f"pending {step}\n" for step in range(2, 52))
         settled = "".join(f"finished {step}\nsignal 1 {step - 1}\n" for step in range(2, 52))
@@ -48,9 +48,9 @@ class Printed(Case):
         self.needs("a C compiler", preloaded.has_compiler())
         environment = preloaded.environment(self.folder, WRITE_STORM=15_000)
         store = self.made(PAIR)
-        for words, printed in ((["check", store], "legal 3\n"), (["drill"], "done 1\n")):
-            with self.subTest(words=words):
-                ended = ran(*words, given=b"add 1 1\n", env={**os.environ, **environment})
+        for arguments, printed in ((["check", store], "legal 3\n"), (["drill"], "done 1\n")):
+            with self.subTest(arguments=arguments):
+                ended = ran(*arguments, given=b"add 1 1\n", env={**os.environ, **environment})
                 self.assertEqual(ended, Ended(0, printed, ""))
         with Serving(store, env=environment) as server:
             self.assertEqual(server.close().status, 0)
@@ -61,15 +61,15 @@ class Printed(Case):
         environment = {**os.environ, **preloaded.environment(self.folder, PIECE=1)}
         store = self.write("store", stores.store(stores.longest_world(), version=2))
         flight = b"add 1 1\nhold\n" + b"reset 1\n" * 256 + b"flush\n"
-        for words in (["show", store], ["drill"]):
-            with self.subTest(words=words):
-                usual = ran(*words, given=flight)
+        for arguments in (["show", store], ["drill"]):
+            with self.subTest(arguments=arguments):
+                usual = ran(*arguments, given=flight)
                 self.assertGreater(len(usual.printed), 3_000)
-                self.assertEqual(ran(*words, given=flight, env=environment), usual)
+                self.assertEqual(ran(*arguments, given=flight, env=environment), usual)
 
-    def expect_writes(self, words: list[str], given: bytes, wanted: list[str]) -> None:
+    def expect_writes(self, arguments: list[str], given: bytes, wanted: list[str]) -> None:
         environment = preloaded.environment(self.folder, CALLS=self.path("calls"))
-        self.assertEqual(ran(*words, given=given, env={**os.environ, **environment}).told, "")
+        self.assertEqual(ran(*arguments, given=given, env={**os.environ, **environment}).fault, "")
         self.assertEqual(self.writes(), wanted)
 
     def writes(self) -> list[str]:
@@ -92,7 +92,7 @@ class Unprinted(Case):
                 self.assertEqual(by_shell(redirected, "serve", store, "127.0.0.1:0"), LOST)
                 self.assertEqual(ran("check", store), Ended(0, "legal 3\n", ""))
 
-    def test_a_migration_is_done_though_it_is_not_told(self) -> None:
+    def test_a_migration_is_done_though_it_is_not_printed(self) -> None:
         path = self.write("store", stores.store())
         self.assertEqual(by_shell(">/dev/full", "migrate", path), LOST)
         self.assertEqual(stores.version_of(path), 2)
@@ -135,9 +135,9 @@ class Unprinted(Case):
     def test_a_store_does_not_take_the_place_of_a_stream(self) -> None:
         """If some streams are closed, their output is discarded, and never written into the store's file."""
         content, topology_path = stores.store(), self.write("topology", PAIR)
-        words: dict[str, list[str]] = {"init": [topology_path], "check": [], "show": [], "serve": ["127.0.0.1:0"]}
+        arguments: dict[str, list[str]] = {"init": [topology_path], "check": [], "show": [], "serve": ["127.0.0.1:0"]}
         for closed in ("<&- >&- 2>&-", ">&- 2>&-", "<&- >&-"):
-            for command, more in words.items():
+            for command, more in arguments.items():
                 with self.subTest(closed=closed, command=command):
                     path = self.write("store", content)
                     self.assertEqual(by_shell(closed, command, path, *more)[0], 1 if command == "init" else 3)

@@ -81,14 +81,14 @@ class Overlaps(Served):
         printed = until(f"the signals of {now}", lambda: self.printed_up_to(server, now))
         for node, epoch in now.epochs.items():
             signals = count_up_to(printed[node], epoch) - count_up_to(printed[node], last.epochs[node])
-            told = f"node {node} was signalled {signals} times: {since}"
+            message = f"node {node} was signalled {signals} times: {since}"
             if len(group.nodes) == 1:
-                self.assertEqual((signals, kinds.total()), (kinds[FINISHED], kinds[FINISHED]), told)
+                self.assertEqual((signals, kinds.total()), (kinds[FINISHED], kinds[FINISHED]), message)
             else:
-                self.assertEqual(kinds.total(), kinds[STARTED] + kinds[JOINED], told)
-                self.assertLessEqual(min(1, kinds.total()), signals, told)
-                self.assertLessEqual(signals, kinds[STARTED], told)
-            self.assertGreater(epoch, owed.get(node, -1), told)
+                self.assertEqual(kinds.total(), kinds[STARTED] + kinds[JOINED], message)
+                self.assertLessEqual(min(1, kinds.total()), signals, message)
+                self.assertLessEqual(signals, kinds[STARTED], message)
+            self.assertGreater(epoch, owed.get(node, -1), message)
         return kinds[STARTED] > 1
 
     def printed_up_to(self, server: Serving, now: Moment) -> dict[int, list[int]] | None:
@@ -185,8 +185,8 @@ class Searches(Case):
     programs = ()
     takes = 5
 
-    def search(self, name: str, *words: str) -> subprocess.CompletedProcess[str]:
-        return subprocess.run([tool(name), *words], capture_output=True, text=True, check=False)
+    def search(self, name: str, *arguments: str) -> subprocess.CompletedProcess[str]:
+        return subprocess.run([tool(name), *arguments], capture_output=True, text=True, check=False)
 
     def test_the_rules_with_a_link_that_is_dropped(self) -> None:
         found = self.search("overlap_search", "--drops", "1", "--joins", "1")

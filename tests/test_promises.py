@@ -49,14 +49,14 @@ class Promises(Copied):
         ran = subprocess.run([tool("promises")], capture_output=True, text=True, check=False)
         self.assertEqual(ran.returncode, 0, ran.stdout[-3_000:])
 
-    def test_a_weakened_statement_is_told_by_its_file(self) -> None:
+    def test_a_weakened_statement_is_reported_by_its_file(self) -> None:
         copy = self.copy()
         self.change(copy, CONNECTIONS, "AllServed d [] e = e ≡ d", "AllServed d [] e = Unit {0}")
         status, said = self.compare(copy)
         self.assertEqual(status, 1, said)
         self.assertIn("coord_admin.specs.Connections is changed", said)
 
-    def test_a_clause_that_is_gone_is_told_by_its_file(self) -> None:
+    def test_a_clause_that_is_gone_is_reported_by_its_file(self) -> None:
         copy = self.copy()
         self.change(copy, "crates/coord_admin/src/connections.rt",
                      "    ensures failed { OnErr result ((last", "    ensures broken { OnErr result ((last")

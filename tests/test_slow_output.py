@@ -46,7 +46,7 @@ class SlowOutput(Case):
             self.reset(server, range(4, 30))
             self.assertEqual(server.show()["nodes"], [[1, 1, "ready", 0, 29, 0]])
             ended = server.close()
-            self.assertEqual((ended.status, ended.told), (3, "resetd: Write\n"))
+            self.assertEqual((ended.status, ended.fault), (3, "resetd: Write\n"))
 
     def test_a_last_line_that_no_one_takes(self) -> None:
         """Only one signal is not printed, and no other follows it."""
@@ -54,14 +54,14 @@ class SlowOutput(Case):
             server.leave()
             self.reset(server, range(1, 2))
             ended = server.close()
-            self.assertEqual((ended.status, ended.told), (3, "resetd: Write\n"))
+            self.assertEqual((ended.status, ended.fault), (3, "resetd: Write\n"))
 
     def test_a_reader_that_leaves_a_server_that_waits_for_it(self) -> None:
         with Piped(self.made(topology([(1, 1)], half=stores.HALF))) as server:
             self.reset(server, range(1, SIGNALS + 1))
             self.assertEqual(server.ask({"op": "close"}), {"kind": "closed"})
             server.leave()
-            self.assertEqual((server.ended().status, server.ended().told), (3, "resetd: Write\n"))
+            self.assertEqual((server.ended().status, server.ended().fault), (3, "resetd: Write\n"))
 
     def test_an_output_that_is_full_in_the_midst(self) -> None:
         """A line is torn, no more lines are printed, and a close ends the server with Write. The next start prints again."""
@@ -73,7 +73,7 @@ class SlowOutput(Case):
         with Serving(store, before=["sh", "-c", f'trap "" XFSZ; exec prlimit --fsize={most} "$@"', "sh"]) as server:
             self.reset(server, range(1, 20))
             ended = server.close()
-            self.assertEqual((ended.status, ended.told), (3, "resetd: Write\n"))
+            self.assertEqual((ended.status, ended.fault), (3, "resetd: Write\n"))
         self.assertEqual(self.read("store.signals")[-14 - first:], f"listening {server.address}\nsignal 1 1\nsig".encode())
         with Serving(store) as server:
             self.reset(server, range(20, 22))

@@ -56,7 +56,7 @@ VIOLATED = [
     ("2 64 G", world_of_two(WAITS_2, QUIET_64, (0, 0, [IS_READY]), (0, 0, [ACK]))),
 ]
 # The same for worlds of version 1, each next to the legal world that is closest to it.
-TOLD = [
+CHECKED_WORLDS = [
     # node 2 is Abort and awaits nobody; of two such nodes the one with the smaller number is reported
     ("violated 2 2 N", world(3, [node(1), node(2, ABORT)], [link(1, 2, 3)])),
     ("violated 1 1 N", world(3, [node(1, ABORT), node(2, ABORT)], [link(1, 2, 3)])),
@@ -84,7 +84,7 @@ TOLD = [
 ]
 ASKED = [node(1, ABORT, awaits=[2], version=2), node(2, version=2)]
 # Worlds of version 2, and what `check` says of them.
-TOLD_OF_DISTANCES = [
+CHECKED_DISTANCES = [
     # a miscount is reported before an Abort that carries 2 from distance 0, although it is on the other lane
     ("violated 2 1 A", world(4, ASKED, [link(1, 2, 3, (0, 0, [abort(2, 2)]), (0, 1, []))])),
     # without the miscount, that Abort is reported; 1 would be right
@@ -158,7 +158,7 @@ class Refused(Case):
         for command, said in (("check", "legal 6"), ("migrate", "migrated 6"), ("show", "view 6 6")):
             with self.subTest(command=command):
                 ended = ran(command, self.path("name"))
-                self.assertEqual((ended.status, ended.printed.split("\n")[0], ended.told), (0, said, ""))
+                self.assertEqual((ended.status, ended.printed.split("\n")[0], ended.fault), (0, said, ""))
         with Serving(self.path("name")) as server:
             self.assertEqual(server.order(1, "reset", node=1), answered(STARTED, 7))
             self.assertEqual(server.close().status, 0)
@@ -182,7 +182,7 @@ class Refused(Case):
                 os.remove(self.path("second"))
                 for command, said in (("check", "legal 6"), ("migrate", "migrated 6"), ("show", "view 6 6")):
                     ended = ran(command, name, cwd=self.folder)
-                    self.assertEqual((ended.status, ended.printed.split("\n")[0], ended.told), (0, said, ""))
+                    self.assertEqual((ended.status, ended.printed.split("\n")[0], ended.fault), (0, said, ""))
                 with Serving(name, cwd=self.folder, output=self.path("output")) as server:
                     self.assertEqual(server.order(1, "reset", node=1), answered(STARTED, 7))
                     self.assertEqual(server.close().status, 0)
@@ -194,9 +194,9 @@ class Refused(Case):
             content = self.read("store")
             with self.subTest(name=name):
                 self.write("topology", stores.ring(number))
-                for words, said in ((["init", name, "topology"], f"created {2 * number}"), (["check", name], f"legal {2 * number}"),
+                for arguments, said in ((["init", name, "topology"], f"created {2 * number}"), (["check", name], f"legal {2 * number}"),
                                     (["migrate", name], f"migrated {2 * number}"), (["show", name], f"view {2 * number} {2 * number}")):
-                    self.assertEqual(ran(*words, cwd=self.folder).printed.split("\n")[0], said)
+                    self.assertEqual(ran(*arguments, cwd=self.folder).printed.split("\n")[0], said)
                 with Serving(name, cwd=self.folder, output=self.path("output")) as server:
                     self.assertEqual(server.order(1, "reset", node=1), answered(STARTED, 2 * number + 1))
                     self.assertEqual(server.close().status, 0)
@@ -222,8 +222,8 @@ class Checked(Case):
                 self.assertEqual(self.check(snapshot), Ended(1, f"violated {fault}\n", ""))
 
     def test_each_letter(self) -> None:
-        for version, told in ((1, TOLD), (2, TOLD_OF_DISTANCES)):
-            for line, snapshot in told:
+        for version, worlds in ((1, CHECKED_WORLDS), (2, CHECKED_DISTANCES)):
+            for line, snapshot in worlds:
                 with self.subTest(version=version, line=line):
                     self.assertEqual(self.check(snapshot, version), Ended(int(line[0] == "v"), f"{line}\n", ""))
 

@@ -40,9 +40,9 @@ def kept(client: int, server: int) -> tuple[int, int] | None:
     those that the server has not read yet. None if the connection is over."""
     with open("/proc/net/tcp", encoding="ascii") as rows:
         for row in rows:
-            words = row.split()
-            if words[1].endswith(f":{server:04X}") and words[2].endswith(f":{client:04X}") and words[3] == "01":
-                sent, unread = words[4].split(":")
+            fields = row.split()
+            if fields[1].endswith(f":{server:04X}") and fields[2].endswith(f":{client:04X}") and fields[3] == "01":
+                sent, unread = fields[4].split(":")
                 return int(sent, 16), int(unread, 16)
     return None
 
@@ -68,7 +68,7 @@ def waits(server: Serving, connection: Connection) -> bool:
 
 class Timeouts(Case):
     takes = 25
-    told = 0
+    rows_read = 0
 
     def serving(self, nodes: int = 1, env: dict[str, str] | None = None) -> Serving:
         return Serving(self.made(ring(nodes) if nodes > 2 else topology([(1, 1)])), env=env)
@@ -88,7 +88,7 @@ class Timeouts(Case):
                 await_end(connection)
             self.expect_within(SILENCE, begun, server)
 
-    def test_a_client_that_says_nothing_behind_a_reply(self) -> None:
+    def test_a_client_that_says_nothing_after_a_reply(self) -> None:
         with self.serving() as server, server.connect() as connection:
             for _ in range(2):
                 time.sleep(1)
@@ -113,7 +113,7 @@ class Timeouts(Case):
     def test_a_line_that_trickles(self) -> None:
         """The client sends a byte each half second: the line's timeout begins with its first byte."""
         for first in (list[Answer](), [SHOW]):
-            with self.subTest(behind=first), Serving(self.made(topology([(1, 1)]), f"store{len(first)}")) as server, \
+            with self.subTest(after=first), Serving(self.made(topology([(1, 1)]), f"store{len(first)}")) as server, \
                     server.connect() as connection:
                 connection.send(*first)
                 begun = self.trickle(connection)
@@ -155,11 +155,11 @@ class Timeouts(Case):
         with open(log, encoding="ascii") as calls:
             rows = [line.split(" ") for line in calls]
         sockets = {file for name, file, *_ in rows if name == "write-within"}
-        told = [name for name, file, *_ in rows if name in ("write-within", "out") and file in sockets]
+        calls_made = [name for name, file, *_ in rows if name in ("write-within", "out") and file in sockets]
         written = sum(map(len, ('{"count":0,"kind":"resent"}\n', '{"kind":"closed"}\n')))
-        self.assertEqual(told, ["write-within", "out"] * written)
+        self.assertEqual(calls_made, ["write-within", "out"] * written)
 
-    def test_the_times_that_the_system_is_told(self) -> None:
+    def test_the_times_that_the_system_is_given(self) -> None:
         """A timeout is set if a read or a write has another one than the last: the rest of the time of a line that has begun,
         not that of a silence. The clock stands still, and is advanced by a second between two parts of the input."""
         self.needs("a C compiler", preloaded.has_compiler())
@@ -184,11 +184,11 @@ class Timeouts(Case):
         """Checks that exactly these timeouts are set next, in seconds, those of writes as negative numbers."""
         def find_times() -> tuple[list[tuple[str, float]], int] | None:
             with open(log, encoding="ascii") as calls:
-                rows = [line.split(" ") for line in calls.readlines()[self.told:]]
+                rows = [line.split(" ") for line in calls.readlines()[self.rows_read:]]
             times = [(name, int(millis) / 1_000) for name, _, millis, _ in rows if name.endswith("-within")]
             return (times, len(rows)) if len(times) >= len(wanted) else None
         times, rows = until(f"times to wait {wanted}", find_times)
-        self.told += rows
+        self.rows_read += rows
         self.assertEqual(times, [("read-within" if each > 0 else "write-within", abs(each)) for each in wanted])
 
     def test_lines_that_are_slow_but_in_time(self) -> None:
@@ -273,7 +273,7 @@ class Timeouts(Case):
             self.clock(CONNECTION)
             self.assertLessEqual(self.served_to_the_end(connection, HALVES[1] + HALVES[0]), 1)
 
-    def test_a_line_that_begins_behind_a_slow_one(self) -> None:
+    def test_a_line_that_begins_after_a_slow_one(self) -> None:
         """The next line has its own time, which begins with its own first byte, although that arrived with the end of the
         previous line."""
         self.needs("a C compiler", preloaded.has_compiler())

@@ -102,7 +102,7 @@ class Together(Served):
             self.expect_closed(server, 0)
         self.expect_at_once()
 
-    def test_a_close_behind_nine_orders(self) -> None:
+    def test_a_close_after_nine_orders(self) -> None:
         with self.serving(ALONE) as server, server.connect() as connection:
             connection.send(*({"op": "reset", "client": 1, "number": number, "node": 1} for number in range(1, 10)),
                             {"op": "close"})
@@ -189,12 +189,12 @@ class Refused(Served):
             with contextlib.suppress(OSError):
                 connection.send(*({"op": "reset", "client": 1, "number": number, "node": 1} for number in range(1, 4)))
                 connection.socket.shutdown(socket.SHUT_WR)
-            replies, behind = self.replies(connection), refusing.count()
+            replies, after = self.replies(connection), refusing.count()
             # the number of earlier allocations varies a little; if this one has not happened yet, it does not belong to the close
             refusing.refuse(0, 0)
             # whatever that client received, the next one is served
             self.assertEqual(self.close(server).status, 0)
-            return replies, before, behind
+            return replies, before, after
 
     def close(self, server: Serving) -> Ended:
         """Closes the server. The number of earlier allocations varies a little, so the refused one may belong to the first
@@ -225,12 +225,12 @@ class Refused(Served):
         self.needs("a C compiler", preloaded.has_compiler())
         refusing, store = Refusing(PROGRAM, self.folder), self.made(topology([(1, 1)]))
         content, lacked = self.read("store"), 0
-        replies, before, behind = self.orders(store, refusing, threads)
+        replies, before, after = self.orders(store, refusing, threads)
         self.assertEqual(replies, [answered(FINISHED, 2), answered(FINISHED, 3), answered(FINISHED, 4)])
-        for first in range(before + 1, behind + 1):
+        for first in range(before + 1, after + 1):
             self.write("store", content)
             replies, _, _ = self.orders(store, refusing, threads, first)
-            with self.subTest(first=first - before, of=behind - before):
+            with self.subTest(first=first - before, of=after - before):
                 self.assertIn(len(replies), (0, 3), replies)
                 steps = [reply["step"] for reply in replies if "step" in reply]
                 self.assertEqual(steps, sorted(steps), replies)
@@ -246,11 +246,11 @@ class Refused(Served):
         refusing, store, lacked = Refusing(PROGRAM, self.folder), self.made(ring(3)), 0
         asked: list[Answer] = [{"op": "resend"}, {"op": "show"}, {"op": "reset", "client": 1, "number": 1, "node": 64}, {"op": "resend"}]
         resent = {"count": 0, "kind": "resent"}
-        wanted, before, behind = self.answers(store, refusing, asked, 0)
+        wanted, before, after = self.answers(store, refusing, asked, 0)
         self.assertEqual((wanted[1]["settled"], wanted[:1] + wanted[2:]), (6, [resent, refused(6, "UnknownNode"), resent]))
-        for first in range(before + 1, behind + 1):
+        for first in range(before + 1, after + 1):
             answers, _, _ = self.answers(store, refusing, asked, first)
-            with self.subTest(first=first - before, of=behind - before):
+            with self.subTest(first=first - before, of=after - before):
                 self.assertIn(len(answers), (0, 4), answers)
                 for answer, usual in zip(answers, wanted):
                     self.assertIn(answer, (usual, {"fault": "OutOfMemory"}))
@@ -264,10 +264,10 @@ class Refused(Served):
             with contextlib.suppress(OSError):
                 connection.send(*asked)
                 connection.socket.shutdown(socket.SHUT_WR)
-            answers, behind = self.replies(connection), refusing.count()
+            answers, after = self.replies(connection), refusing.count()
             refusing.refuse(0, 0)
             self.assertEqual(self.close(server).status, 0)
-            return answers, before, behind
+            return answers, before, after
 
     def rests(self, store: str, refusing: Refusing, first: int) -> list[int] | None:
         """Sends three orders, with 300 allocations refused from this one on. Returns the requested microseconds of each pause
@@ -278,8 +278,8 @@ class Refused(Served):
             with contextlib.suppress(OSError):
                 connection.send(*({"op": "reset", "client": 1, "number": number, "node": 1} for number in range(1, 4)))
                 connection.socket.shutdown(socket.SHUT_WR)
-            replies, behind = self.replies(connection), refusing.count()
-            is_done = [reply.get("step") for reply in replies] == [2, 3, 4] and behind >= first + 300
+            replies, after = self.replies(connection), refusing.count()
+            is_done = [reply.get("step") for reply in replies] == [2, 3, 4] and after >= first + 300
             rested = [int(line.split()[2]) for line in self.read("calls").splitlines() if line.startswith(b"rest ")]
             return rested if is_done else None
 
@@ -290,9 +290,9 @@ class Refused(Served):
         self.needs("a C compiler", preloaded.has_compiler())
         refusing, store = Refusing(PROGRAM, self.folder), self.made(topology([(1, 1)]))
         content = self.read("store")
-        _, before, behind = self.orders(store, refusing, ALL_THREADS)
+        _, before, after = self.orders(store, refusing, ALL_THREADS)
         found = []
-        for first in range(before + 1, behind + 1):
+        for first in range(before + 1, after + 1):
             self.write("store", content)
             found.append(self.rests(store, refusing, first))
         refused = [rested for rested in found if rested is not None]

@@ -35,9 +35,9 @@ class Run(Case):
     takes = 60
     most = 3_600
 
-    def expect(self, *words: str, ends_with: str = "") -> str:
+    def expect(self, *command: str, ends_with: str = "") -> str:
         """Checks that the command succeeds in time, and that its last line begins like this."""
-        run = subprocess.Popen(words, stdin=subprocess.DEVNULL, stdout=subprocess.PIPE, stderr=subprocess.STDOUT, text=True,
+        run = subprocess.Popen(command, stdin=subprocess.DEVNULL, stdout=subprocess.PIPE, stderr=subprocess.STDOUT, text=True,
                                cwd=ROOT, env={**os.environ, "RESETD": PROGRAM, "TMPDIR": self.folder},
                                start_new_session=True)
         is_late = False
@@ -75,8 +75,8 @@ class Nightly(Case):
     takes = 10
     programs = ("RESETD", "RESETD_PROXY")
 
-    def nightly(self, *words: str) -> subprocess.CompletedProcess[str]:
-        return subprocess.run([tool("nightly"), "--program", PROGRAM, "--proxy", os.environ["RESETD_PROXY"], "--library", self.folder, "--results", self.path("results"), *words],
+    def nightly(self, *arguments: str) -> subprocess.CompletedProcess[str]:
+        return subprocess.run([tool("nightly"), "--program", PROGRAM, "--proxy", os.environ["RESETD_PROXY"], "--library", self.folder, "--results", self.path("results"), *arguments],
                               env={**os.environ, "TMPDIR": self.folder, "PATH": self.path("bin")}, stdin=subprocess.DEVNULL,
                               capture_output=True, text=True, check=False)
 
@@ -99,9 +99,9 @@ class Nightly(Case):
             self.assertIn(missing, last)
             self.assertRegex(f"{commit} {minutes}", r"^[0-9a-f]{7,40}\+? \d+\.\d$")
         repeat = next(line for line in again if line.endswith("/powercut has what it printed)"))
-        words = shlex.split(repeat.removeprefix("to repeat it: ").split("    (which runs ")[0])
-        self.assertEqual(words[0], "tools/nightly")
-        second = subprocess.run(words, cwd=ROOT, env={**os.environ, "TMPDIR": self.folder, "PATH": self.path("bin")}, stdin=subprocess.DEVNULL,
+        repeated = shlex.split(repeat.removeprefix("to repeat it: ").split("    (which runs ")[0])
+        self.assertEqual(repeated[0], "tools/nightly")
+        second = subprocess.run(repeated, cwd=ROOT, env={**os.environ, "TMPDIR": self.folder, "PATH": self.path("bin")}, stdin=subprocess.DEVNULL,
                                 capture_output=True, text=True, check=False)
         self.assertEqual(second.returncode, 1, second.stderr)
         self.assertIn("\t7\tthese Debian packages are missing: ", second.stdout)

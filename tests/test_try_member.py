@@ -58,7 +58,7 @@ class Member:
     def view(self) -> View:
         return View.of(json.loads(self.line()))
 
-    def is_told_nothing(self) -> bool:
+    def is_shown_nothing(self) -> bool:
         return not select.select([self._connection], [], [], QUIET_SECONDS)[0]
 
     def order(self, op: str, epoch: int) -> None:
@@ -109,7 +109,7 @@ class Watching(Case):
         self.member.send(op="reset", node=NODE, epoch=0)
         self.assertEqual(self.member.view(), first)
         until("the end of the reset", lambda: all(row.epoch > 0 and row.mode == "ready" for row in self.trial.port.show().nodes))
-        self.assertTrue(self.member.is_told_nothing())
+        self.assertTrue(self.member.is_shown_nothing())
         self.between.is_let_go.set()
         self.assertIn(json.loads(self.member.line())["kind"], ("started", "joined"))
         self.member.send(op="show")

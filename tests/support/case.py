@@ -63,7 +63,7 @@ class Case(unittest.TestCase):
     def made(self, topology: str, name: str = "store") -> str:
         """Creates a store from a topology, and returns its path."""
         ended = ran("init", self.path(name), self.write(f"{name}.toml", topology), program=self.program)
-        self.assertEqual((ended.status, ended.told), (0, ""))
+        self.assertEqual((ended.status, ended.fault), (0, ""))
         return self.path(name)
 
     def needs(self, what: str, has: bool, is_optional: bool = False) -> None:

@@ -31,7 +31,7 @@ class Orders(ctypes.Structure):
     _fields_ = [("last", ctypes.c_uint64), ("in_hand", Order)]
 
 
-class Told(NamedTuple):
+class Judgement(NamedTuple):
     """A judgement: the due action, its epoch, the text for the start file, the line for the history, and the offset of that
     line."""
 
@@ -69,13 +69,13 @@ class Library:
         self._out = ctypes.create_string_buffer(MOST_TEXT)
         self._length = ctypes.c_size_t()
 
-    def judge(self, show: bytes, node: int, start: bytes = b"", history: bytes = b"", work: int | None = None) -> Told:
+    def judge(self, show: bytes, node: int, start: bytes = b"", history: bytes = b"", work: int | None = None) -> Judgement:
         judged = Judged()
         self._expect(self._calls.resetd_judge(
             *text_and_size(show), word(node), *text_and_size(start), *text_and_size(history), ctypes.byref(Work(work is not None, work or 0)),
             self._out, ctypes.c_size_t(MOST_TEXT), ctypes.byref(judged)))
         text = self._out.raw[:judged.start_length + judged.line_length]
-        return Told(DUE[judged.due], judged.epoch, text[:judged.start_length], text[judged.start_length:], judged.history_size)
+        return Judgement(DUE[judged.due], judged.epoch, text[:judged.start_length], text[judged.start_length:], judged.history_size)
 
     def begun(self, node: int, epoch: int) -> bytes:
         return self._text(self._calls.resetd_begun, word(node), ctypes.c_uint64(epoch))
@@ -112,8 +112,8 @@ class Library:
         self._expect(self._calls.resetd_hear(ctypes.byref(orders), *text_and_size(line), ctypes.byref(meaning)))
         return meaning.value
 
-    def _text(self, call: Callable[..., int], *words: object) -> bytes:
-        self._expect(call(*words, self._out, ctypes.c_size_t(MOST_TEXT), ctypes.byref(self._length)))
+    def _text(self, call: Callable[..., int], *arguments: object) -> bytes:
+        self._expect(call(*arguments, self._out, ctypes.c_size_t(MOST_TEXT), ctypes.byref(self._length)))
         return self._out.raw[:self._length.value]
 
     def _expect(self, status: int) -> None:

@@ -184,10 +184,10 @@ int nanosleep(const struct timespec *time, struct timespec *left) {
 // library's own `syscall` can't be looked up yet where the first call comes.)
 long syscall(long number, ...) {
     long each[6], status;
-    va_list words;
-    va_start(words, number);
-    for (int at = 0; at < 6; at++) each[at] = va_arg(words, long);
-    va_end(words);
+    va_list arguments;
+    va_start(arguments, number);
+    for (int at = 0; at < 6; at++) each[at] = va_arg(arguments, long);
+    va_end(arguments);
     register long fourth __asm__("r10") = each[3], fifth __asm__("r8") = each[4], sixth __asm__("r9") = each[5];
     __asm__ volatile("syscall" : "=a"(status) : "a"(number), "D"(each[0]), "S"(each[1]), "d"(each[2]), "r"(fourth), "r"(fifth),
                      "r"(sixth) : "rcx", "r11", "memory");
@@ -206,10 +206,10 @@ int shutdown(int socket, int how) {
 }
 // Where a file is to be made, another process has just made one there: the file MEANWHILE has this name too.
 int open(const char *path, int flags, ...) {
-    va_list words;
-    va_start(words, flags);
-    int mode = flags & O_CREAT ? va_arg(words, int) : 0;
-    va_end(words);
+    va_list arguments;
+    va_start(arguments, flags);
+    int mode = flags & O_CREAT ? va_arg(arguments, int) : 0;
+    va_end(arguments);
     if (flags & O_CREAT && getenv("MEANWHILE")) syscall(SYS_link, getenv("MEANWHILE"), path);
     return syscall(SYS_openat, AT_FDCWD, path, flags, mode);
 }

@@ -18,13 +18,13 @@ class Ended(NamedTuple):
 
     status: int
     printed: str
-    told: str
+    fault: str
 
 
-def ran(*words: str | bytes, given: bytes = b"", program: str | None = None, seconds: float = TIMEOUT,
+def ran(*arguments: str | bytes, given: bytes = b"", program: str | None = None, seconds: float = TIMEOUT,
         env: Mapping[str, str] | None = None, cwd: str | None = None, umask: int = -1) -> Ended:
     """Runs the program to its end."""
-    done = subprocess.run([program or PROGRAM, *words], input=given, capture_output=True, timeout=seconds, env=env, cwd=cwd,
+    done = subprocess.run([program or PROGRAM, *arguments], input=given, capture_output=True, timeout=seconds, env=env, cwd=cwd,
                           umask=umask, check=False)
     return Ended(done.returncode, done.stdout.decode(), done.stderr.decode())
 

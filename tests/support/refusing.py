@@ -174,8 +174,8 @@ class Refusing:
             file.seek(16)
             file.write(struct.pack("=2q", first, many))
 
-    def ran(self, *words: str, first: int = 0, many: int = 1, given: bytes = b"") -> tuple[Ended, int]:
+    def ran(self, *arguments: str, first: int = 0, many: int = 1, given: bytes = b"") -> tuple[Ended, int]:
         """Runs the program, and refuses this many of its allocations from this number on. Returns how it ended, and the number
         of allocations that it requested."""
         environment = {**os.environ, **self.environment(first, many)}
-        return ran(*words, program=self.program, env=environment, given=given), self.count()
+        return ran(*arguments, program=self.program, env=environment, given=given), self.count()

@@ -33,6 +33,6 @@ class Served(Case):
         """Checks that the server ends in order after it has printed its first line and this many signals, and that its store
         opens."""
         ended = server.close()
-        self.assertEqual((ended.status, ended.told, len(ended.printed.splitlines())), (0, "", 1 + signals))
+        self.assertEqual((ended.status, ended.fault, len(ended.printed.splitlines())), (0, "", 1 + signals))
         checked = ran("check", server.store)
-        self.assertEqual((checked.status, checked.told), (0, ""))
+        self.assertEqual((checked.status, checked.fault), (0, ""))

@@ -66,8 +66,8 @@ def spelled(request: Request) -> bytes:
 def processor_seconds(process: int) -> float:
     """Returns the processor seconds that a process has used."""
     with open(f"/proc/{process}/stat", encoding="ascii") as file:
-        words = file.read().rsplit(")", 1)[1].split()
-    return (int(words[11]) + int(words[12])) / os.sysconf("SC_CLK_TCK")
+        fields = file.read().rsplit(")", 1)[1].split()
+    return (int(fields[11]) + int(fields[12])) / os.sysconf("SC_CLK_TCK")
 
 
 def sleeps(process: int) -> bool:

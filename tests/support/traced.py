@@ -13,8 +13,8 @@ DESCRIPTOR = re.compile(r"\d+<(.*?)>")
 TEXT = re.compile(r'"((?:[^"\\]|\\.)*)"')
 
 
-def words(trace: str) -> list[str]:
-    """Returns the arguments before those of the program. Its calls are written to the file `trace`."""
+def command(trace: str) -> list[str]:
+    """Returns the start of a command, before the program. strace writes its calls to the file `trace`."""
     return ["strace", "-y", "-s", "9999", "-o", trace, "-e", f"trace={CALLS}"]
 
 

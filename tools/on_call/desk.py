@@ -81,7 +81,7 @@ class Desk:
                    **settings: str | int) -> None:
         """Checks that a start ends with this status and this fault."""
         ended = ran("serve", store, address, env={**os.environ, **environment(self.folder, **settings)} if settings else None)
-        if (ended.status, ended.told) != (status, f"resetd: {name}\n"):
+        if (ended.status, ended.fault) != (status, f"resetd: {name}\n"):
             raise NotSeen(f"a start ended with {ended}, and not with {name}")
 
     def resetctl(self, *arguments: str, server: Serving | None = None, address: str | None = None, timeout: float = LONG,

@@ -86,7 +86,7 @@ def a_device_that_fails(desk: Desk) -> None:
         see(str(answer), "Stopped")
         see(desk.health(server, "--close-stopped", timeout=0).text, "the server answers Stopped", "was closed")
         ended = server.ended()
-        if (ended.status, ended.told) != (3, "resetd: Device\n"):
+        if (ended.status, ended.fault) != (3, "resetd: Device\n"):
             raise NotSeen(f"the server ended with {ended}")
     with Serving(store) as server:
         if server.show()["settled"] < step:
@@ -135,7 +135,7 @@ def a_file_of_signals_that_is_full(desk: Desk) -> None:
             server.await_quiet(epoch=number)
         desk.await_health(server, "the file of signals lacks `signal 1 2`", *arguments)
         ended = server.close()
-        see(ended.told, "resetd: Write")
+        see(ended.fault, "resetd: Write")
     os.truncate(server.output, 0)
     desk.expect_served(store)
 

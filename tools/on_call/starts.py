@@ -104,7 +104,7 @@ def damaged(desk: Desk) -> None:
     for name, bytes_ in (("BadRecord", data[:-8]), ("BadSnapshot", data[:17] + b"\7" + data[18:])):
         desk.write("store", bytes_)
         desk.start_ends(store, 1, name)
-        see(ran("check", store).told, name)
+        see(ran("check", store).fault, name)
         see(desk.why(store), f"a start now would end with the fault {name}: ")
         with open(store, "rb") as file:
             if file.read() != bytes_:

@@ -14,7 +14,7 @@ DISCARD = 1  # the number of seconds in which it is discarded
 LATE = 60  # the number of seconds by which a busy machine may be late
 
 
-class BehindAClose(Case):
+class AfterAClose(Case):
     takes = 6
 
     def serving(self, name: str = "store") -> Serving:
@@ -30,7 +30,7 @@ class BehindAClose(Case):
                 # a connection that was reset raises here
                 self.assertEqual(connection.rest(), [b'{"kind":"closed"}\n'])
                 connection.socket.close()
-                self.assertEqual((server.ended().status, server.ended().told), (0, ""))
+                self.assertEqual((server.ended().status, server.ended().fault), (0, ""))
 
     def test_lines_that_come_later_are_discarded(self) -> None:
         for number in range(20):
@@ -54,7 +54,7 @@ class BehindAClose(Case):
         connection.socket.close()
         self.assertEqual(server.ended().status, 0)
 
-    def test_a_client_is_told_that_no_more_comes(self) -> None:
+    def test_a_client_learns_that_no_more_comes(self) -> None:
         """The server shuts down writing after the answer, before it discards the client's remaining input. So the client need
         not wait for the end of that."""
         self.needs("a C compiler", preloaded.has_compiler())
@@ -99,4 +99,4 @@ class BehindAClose(Case):
                 connection.send({"op": "close"})
                 self.assertEqual(connection.line(), b'{"kind":"closed"}\n')
                 connection.socket.setsockopt(socket.SOL_SOCKET, socket.SO_LINGER, b"\1\0\0\0\0\0\0\0")
-            self.assertEqual((server.ended().status, server.ended().told), (0, ""))
+            self.assertEqual((server.ended().status, server.ended().fault), (0, ""))
