@@ -19,9 +19,9 @@ from edits import Edit
 
 # What runs together: the tests of tests/units as one program, and the program that the other tests of tests/ start.
 TOGETHER = ("units", "tests")
-# The words of the program's build, with the files that it leaves, by the variables that name them.
+# The arguments of the program's build, with the files that it leaves, by the variables that name them.
 PROGRAM, FILES = ["--steps", "32", "resetd", "resetd_short"], {"RESETD": "resetd", "RESETD_SHORT": "resetd_short"}
-# The words of the build of `resetd-proxy`, which is made if a mutant is in a crate that only this program has.
+# The arguments of the build of `resetd-proxy`, which is made if a mutant is in a crate that only this program has.
 PROXY = ["--proxy", "--plain", "resetd_proxy"]
 # Seconds within which a test of a crate ends, after which one that its edit makes wait counts as waiting, and for which a test of the
 # program waits for an answer.
@@ -69,14 +69,14 @@ def build_together(scratch: str, tests: str, edits: list[Edit]) -> tuple[list[Ed
 
 def build(scratch: str, tests: str, edits: list[Edit]) -> str:
     """Builds what these tests run. What a build says where it fails, and nothing where it does not."""
-    chosen = ["tools/trial_build", "--schemata", *(word for edit in edits for word in ("--mutant", edit.id))]
+    chosen = ["tools/trial_build", "--schemata", *(argument for edit in edits for argument in ("--mutant", edit.id))]
     if tests == "tests":
         file_of = {file: f"{scratch}/{file}" for file in [*FILES.values(), PROXY[-1]]}
         programs = [PROGRAM, PROXY] if any(is_of_proxy(edit) for edit in edits) else [PROGRAM]
-        wanted = [[*chosen, *(file_of.get(word, word) for word in words)] for words in programs] + [["tools/trial_library", scratch]]
+        wanted = [[*chosen, *(file_of.get(each, each) for each in arguments)] for arguments in programs] + [["tools/trial_library", scratch]]
     else:
         wanted = [[*chosen, "--units", f"{scratch}/{tests}"]]
-    making = [subprocess.Popen(words, stdout=subprocess.PIPE, stderr=subprocess.STDOUT, text=True) for words in wanted]
+    making = [subprocess.Popen(command, stdout=subprocess.PIPE, stderr=subprocess.STDOUT, text=True) for command in wanted]
     said = [process.communicate()[0] for process in making]
     return "\n".join(text for process, text in zip(making, said) if process.returncode)
 
@@ -116,10 +116,10 @@ def try_chosen(scratch: str, edit: Edit, number: int, passes: bool) -> str:
         found = "waits"
     if not passes:
         found = "did not pass without it either"
-    return tell(edit, found)
+    return report(edit, found)
 
 
-def tell(edit: Edit, found: str) -> str:
+def report(edit: Edit, found: str) -> str:
     print(f"{edit.id}: {edit.tests} {edit.test}: {found}", flush=True)
     return found
 
@@ -138,7 +138,7 @@ def try_alone(edit: Edit, copies: Queue[str]) -> str:
     """Puts an edit into a copy that is free, runs the tests of its killing test's crate there, and says what that test did."""
     if edit.tests == "tests":
         done = subprocess.run(["tests/run", "--mutant", edit.id, edit.test], capture_output=True, text=True)
-        return tell(edit, outcome_in(edit.test, done.stdout))
+        return report(edit, outcome_in(edit.test, done.stdout))
     copy = copies.get()
     try:
         fits = edit.apply(os.path.join(copy, "crates", edit.crate))
@@ -146,13 +146,13 @@ def try_alone(edit: Edit, copies: Queue[str]) -> str:
         copy_crate(edit.crate, copy)
         if edit.waits and found == LATE:
             found = "waits" if what_copy_did(edit, copy) == "ok" else "did not end without it either"
-        return tell(edit, found)
+        return report(edit, found)
     finally:
         copies.put(copy)
 
 
 def what_copy_did(edit: Edit, copy: str) -> str:
     """Runs the killing test of an edit in a copy of the crates: ok, FAILED, or that it did not end in time."""
-    words = [*RT, "try", "--test", "--seconds", str(WAITS), "--", edit.test]
-    done = subprocess.run(words, cwd=os.path.join(copy, "crates", edit.tests), capture_output=True, text=True)
+    command = [*RT, "try", "--test", "--seconds", str(WAITS), "--", edit.test]
+    done = subprocess.run(command, cwd=os.path.join(copy, "crates", edit.tests), capture_output=True, text=True)
     return outcome_in(edit.test, done.stdout + done.stderr)

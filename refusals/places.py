@@ -46,9 +46,9 @@ def owner_of(head: str) -> str:
     methods = re.match(r"\s*(?:<([^>]*)>)?\s*(\w+<[^()]*>)\s*$", head)
     if methods and " for " not in head:
         own = re.findall(r"(\w+)\s*(?::|,|$)", methods.group(1) or "")
-        words = [word for word in re.findall(r"\w+", methods.group(2)) if word != "_"]
-        if set(words[1:]) - set(own):
-            return "+".join(words)
+        names = [name for name in re.findall(r"\w+", methods.group(2)) if name != "_"]
+        if set(names[1:]) - set(own):
+            return "+".join(names)
     while re.search(r"<[^<>]*>", head):
         head = re.sub(r"<[^<>]*>", "", head)
     trait, _, name = re.sub(r"\w+::", "", head).rpartition(" for ")

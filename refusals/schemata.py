@@ -96,7 +96,7 @@ class Function:
         return "\n".join([*lines, f"{within}{self.call(NOTHING_CHOSEN)}", f"{self.indent}}}"])
 
 
-def behind_bracket(text: str, at: int) -> int:
+def after_bracket(text: str, at: int) -> int:
     """The place after the bracket that closes the one at `at`."""
     depth = 0
     while True:
@@ -129,8 +129,8 @@ def read_head(head: str) -> tuple[str, tuple[str, ...]]:
         raise Unfit("it is no function")
     at = named.end()
     if head[at] == "<":
-        at = behind_bracket(head, at)
-    parameters = [PARAMETER.match(it) for it in split_at_commas(head[at + 1 : behind_bracket(head, at) - 1])]
+        at = after_bracket(head, at)
+    parameters = [PARAMETER.match(it) for it in split_at_commas(head[at + 1 : after_bracket(head, at) - 1])]
     if not all(parameters):
         raise Unfit("a parameter has no name")
     return named[1], tuple(parameter[1] for parameter in parameters if parameter)
@@ -202,7 +202,7 @@ def put(path: str, text: str, crate: str, codes: dict[int, str]) -> None:
     if is_of_trait(whole, text):
         # a trait's methods are its own alone, so the copies are methods of the type
         head = head_above(whole, text)
-        generics = head[4 : behind_bracket(head, 4)] if head[4] == "<" else ""
+        generics = head[4 : after_bracket(head, 4)] if head[4] == "<" else ""
         owner = f"impl{generics} {head[4 + len(generics) :].split(' for ', 1)[1]}"
         whole = "\n\n".join([whole.replace(text, choosing).rstrip("\n"), f"{owner}\n" + "\n\n".join(copies) + "\n}\n"])
     else:
