@@ -19,9 +19,9 @@ done | awk '
   { part = $1 " " $2; ns = $4 / $3; if (!(part in least) || ns < least[part]) least[part] = ns }
   END {
     for (part in least) {
-      split(part, words); alone = least["judged " words[2]]
-      if (words[1] == "judged") rank = 0; if (words[1] == "submitted") rank = 1; if (words[1] == "begun") rank = 2
-      if (words[1] == "committed") rank = 3; if (words[1] == "ended") rank = 4
-      printf "%d %d %2d nodes, %-9s %7.1f ns a step, %5.2f times judged\n", words[2], rank, words[2], words[1], least[part], least[part] / alone
+      split(part, fields); alone = least["judged " fields[2]]
+      if (fields[1] == "judged") rank = 0; if (fields[1] == "submitted") rank = 1; if (fields[1] == "begun") rank = 2
+      if (fields[1] == "committed") rank = 3; if (fields[1] == "ended") rank = 4
+      printf "%d %d %2d nodes, %-9s %7.1f ns a step, %5.2f times judged\n", fields[2], rank, fields[2], fields[1], least[part], least[part] / alone
     }
   }' | sort -k1,1n -k2,2n | cut -d' ' -f3-

@@ -2,7 +2,7 @@
 # How much memory `resetd serve` has over many steps, by one client: 64 orders at once, in bursts of 1 to 300, or one at a
 # time, over a connection that stays (STEPS each), and over a connection for each burst or order (LEAVING each). The store is
 # on a file in memory where there is such a file system, since syncs are not what is measured. The least number of steps in
-# which lives end is 262,144 (two of them: 524,288 for the first).
+# which instances end is 262,144 (two of them: 524,288 for the first).
 # usage: bench/memory.sh [PROGRAM [STEPS [LEAVING [WAY..]]]]     WAY: steady, bursts, single, leaving, connects (all)
 set -euo pipefail
 here=$(cd "$(dirname "$0")/.." && pwd)

@@ -23,11 +23,11 @@ done | awk '
     printf "256 steps judged and applied %9.0f ns\n", 256 * judged
     printf "256 steps committed          %9.0f ns, %.2f times that\n", 256 * committed, committed / judged
     for (part in least) if (part ~ /^migrated/) {
-      split(part, words)
-      printf "migrated a world of %d bytes %9.0f ns\n", words[2], least[part]
+      split(part, fields)
+      printf "migrated a world of %d bytes %9.0f ns\n", fields[2], least[part]
     }
     for (part in least) if (part ~ /^opened/) {
-      split(part, words); bytes = words[2]; read = least["read " bytes]
+      split(part, fields); bytes = fields[2]; read = least["read " bytes]
       printf "opened %9d bytes, %7d steps %9.0f ms, %6.2f MB/s, %7.0f steps/s, %6.0f reads\n", bytes, steps[part], least[part] / 1e6, 1e3 * bytes / least[part], 1e9 * steps[part] / least[part], least[part] / read | "sort -k2n"
     }
   }'

@@ -135,9 +135,9 @@ class Signals:
         self.inotify.take()
         *lines, self.rest = (self.rest + self.file.read()).split(b"\n")  # the last line may be torn
         for line in lines:
-            words = line.split()
-            if words[0] == b"signal":
-                self.have[int(words[1])] = int(words[2])
+            fields = line.split()
+            if fields[0] == b"signal":
+                self.have[int(fields[1])] = int(fields[2])
         self.changed.set()
         self.changed = asyncio.Event()
 

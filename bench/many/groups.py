@@ -49,8 +49,8 @@ class Lines:
 @contextlib.contextmanager
 def running(commands: Sequence[Sequence[str]], others: Sequence[Sequence[str]] = ()) -> Iterator[Lines]:
     """Processes for as long as they are needed; the output of the first ones is read."""
-    processes = [subprocess.Popen([sys.executable, *words], stdout=subprocess.PIPE, stderr=subprocess.DEVNULL) for words in commands]
-    quiet = [subprocess.Popen([sys.executable, *words], stdout=subprocess.DEVNULL, stderr=subprocess.DEVNULL) for words in others]
+    processes = [subprocess.Popen([sys.executable, *command], stdout=subprocess.PIPE, stderr=subprocess.DEVNULL) for command in commands]
+    quiet = [subprocess.Popen([sys.executable, *command], stdout=subprocess.DEVNULL, stderr=subprocess.DEVNULL) for command in others]
     try:
         yield Lines(processes)
     finally:
@@ -81,10 +81,10 @@ def gateway(program: str, library: str, count: int) -> tuple[float, float]:
     """64 members after `examples/gateway`, over a ring with chords."""
     with Server(program, library, NODES, CHORDS) as server:
         folder = f"{server.folder}/gateway"
-        words = [f"{ROOT}/examples/gateway", f"1-{NODES}", "1", server.address, folder, "--signals", server.signals]
+        command = [f"{ROOT}/examples/gateway", f"1-{NODES}", "1", server.address, folder, "--signals", server.signals]
         for node in range(1, NODES + 1):
             os.makedirs(f"{folder}/{node}")
-        with running([[f"{HERE}/member.py", f"{folder}/{node}"] for node in range(1, NODES + 1)], [words]) as lines:
+        with running([[f"{HERE}/member.py", f"{folder}/{node}"] for node in range(1, NODES + 1)], [command]) as lines:
             return resets(at_port(server, NODES + len(CHORDS)), lines, count)
 
 
@@ -98,8 +98,8 @@ def services(program: str, library: str, nodes: int, count: int, proxy: str) -> 
             address, order = started.address, lambda _: once(lambda: at_socket(started.socket), {"op": "reset", "node": 1})
         for node in range(1, nodes + 1):
             os.mkdir(f"{server.folder}/{node}")
-        words = [[f"{HERE}/service.py", str(node), address, f"{server.folder}/{node}", server.signals] for node in range(1, nodes + 1)]
-        with running(words) as lines:
+        commands = [[f"{HERE}/service.py", str(node), address, f"{server.folder}/{node}", server.signals] for node in range(1, nodes + 1)]
+        with running(commands) as lines:
             return resets(order, lines, count)
 
 

@@ -45,10 +45,10 @@ def served(folder: str, work: Work, node: int) -> None:
 
 
 def main() -> None:
-    kind, *words = sys.argv[1:]
-    address = words.pop(0) if kind == "proxy" else ""
-    folder, work = words.pop(0), Work[words.pop(0)]
-    for node in map(int, words):
+    kind, *arguments = sys.argv[1:]
+    address = arguments.pop(0) if kind == "proxy" else ""
+    folder, work = arguments.pop(0), Work[arguments.pop(0)]
+    for node in map(int, arguments):
         threading.Thread(target=at_proxy if kind == "proxy" else served, args=(*([address] if address else []), folder, work, node)).start()
 
 

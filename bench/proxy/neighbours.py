@@ -13,7 +13,7 @@ import time
 from collections.abc import Iterable, Sequence
 
 from coordinator import Server
-from running import Proxy, Tools, audit_words, has_audit
+from running import Proxy, Tools, audit_arguments, has_audit
 from waves import CHORDS, NODES
 
 SHOW = b'{"op":"show"}\n'
@@ -85,9 +85,9 @@ def beside(tools: Tools, count: int, many: int) -> tuple[float, float, int, floa
     """Of looks beside 60 unfinished handshakes, 200 silent clients, `many` that don't read, one that floods and one that sends garbage:
     the median and the 99th percentile in milliseconds, how many were ended, and by how many KB the audit grew in a second."""
     with Server(tools.server, tools.library, NODES, CHORDS) as server:
-        words = ["--certificates", f"{server.folder}/certificates.socket", "--stuck", "600", "--patience", "600", "--server-silent", "60"]
-        words += audit_words(tools, server.folder)
-        with Proxy(tools, server.address, server.folder, *NAMES, words=words) as proxy:
+        arguments = ["--certificates", f"{server.folder}/certificates.socket", "--stuck", "600", "--patience", "600", "--server-silent", "60"]
+        arguments += audit_arguments(tools, server.folder)
+        with Proxy(tools, server.address, server.folder, *NAMES, arguments=arguments) as proxy:
             handshakes = [connected(f"{server.folder}/certificates.socket") for _ in range(60)]
             for each in handshakes:
                 each.sendall(HALF_HEADER)

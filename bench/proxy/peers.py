@@ -22,9 +22,9 @@ class Redis(Running):
 
     def __init__(self, folder: str) -> None:
         self.address = f"{folder}/redis.socket"
-        words = ["redis-server", "--port", "0", "--unixsocket", self.address, "--dir", folder, "--save", "", "--appendonly", "yes",
-                 "--appendfsync", "always", "--maxclients", "1000"]
-        super().__init__(words, f"{folder}/redis.messages")
+        command = ["redis-server", "--port", "0", "--unixsocket", self.address, "--dir", folder, "--save", "", "--appendonly", "yes",
+                   "--appendfsync", "always", "--maxclients", "1000"]
+        super().__init__(command, f"{folder}/redis.messages")
         await_true("Redis", self._answers)
 
     def _answers(self) -> bool:
@@ -46,10 +46,10 @@ class Etcd(Running):
         port, peers = free_port(), free_port()
         self.address, self._base = str(port), f"http://127.0.0.1:{port}"
         peer = f"http://127.0.0.1:{peers}"
-        words = ["etcd", "--data-dir", f"{folder}/etcd", "--listen-client-urls", self._base, "--advertise-client-urls", self._base,
-                 "--listen-peer-urls", peer, "--initial-advertise-peer-urls", peer, "--initial-cluster", f"default={peer}",
-                 "--log-level", "error"]
-        super().__init__(words, f"{folder}/etcd.messages")
+        command = ["etcd", "--data-dir", f"{folder}/etcd", "--listen-client-urls", self._base, "--advertise-client-urls", self._base,
+                   "--listen-peer-urls", peer, "--initial-advertise-peer-urls", peer, "--initial-cluster", f"default={peer}",
+                   "--log-level", "error"]
+        super().__init__(command, f"{folder}/etcd.messages")
         await_true("etcd", self._answers)
 
     def _answers(self) -> bool:

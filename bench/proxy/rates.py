@@ -10,7 +10,7 @@ from dataclasses import dataclass
 import peers
 import waves
 from coordinator import Links, Server
-from running import Answering, Driven, Proxy, Tools, audit_words
+from running import Answering, Driven, Proxy, Tools, audit_arguments
 
 LOADS = {(1, 1): 6_000, (16, 1): 20_000, (64, 1): 40_000, (16, 16): 60_000, (64, 64): 100_000}  # connections, outstanding: orders
 COUNTS = {1: 2_000, 16: 16_000, 64: 32_000}  # connections: orders of a round
@@ -32,24 +32,24 @@ def cost(tools: Tools, load: tuple[int, int], part: int, is_audited: bool) -> Dr
     """The processor time of the proxy for an order, by connections and orders outstanding on each. The server answers at once."""
     orders = max(LOADS[load] // part, load[0] * load[1])
     with tempfile.TemporaryDirectory() as folder, Answering(tools, folder) as server:
-        words = audit_words(tools, folder) if is_audited else []
-        with Proxy(tools, server.address, folder, words=words) as proxy:
+        arguments = audit_arguments(tools, folder) if is_audited else []
+        with Proxy(tools, server.address, folder, arguments=arguments) as proxy:
             tools.drive("own", proxy.path(), 1, 1, 1, proxy.process.pid)  # the number of its client is found
             return tools.drive("numbered", proxy.path(), load[0], orders, load[1], proxy.process.pid)
 
 
 def many(tools: Tools) -> Driven:
     """A thousand connections are idle, then each of four thousand orders once. What the idle ones take, and the rest of the others."""
-    words = ["--connections", str(MOST + 10)]
+    arguments = ["--connections", str(MOST + 10)]
     with tempfile.TemporaryDirectory() as folder, Answering(tools, folder) as server:
-        with Proxy(tools, server.address, folder, words=words) as proxy:
+        with Proxy(tools, server.address, folder, arguments=arguments) as proxy:
             tools.drive("numbered", proxy.path(), 1, 100, 1, proxy.process.pid)
             return tools.drive("numbered", proxy.path(), MOST, MOST, 1, proxy.process.pid)
 
 
 def through(tools: Tools, connections: int, orders: int) -> Driven:
     with Server(tools.server, tools.library, waves.NODES, []) as server:
-        with Proxy(tools, server.address, server.folder, words=audit_words(tools, server.folder)) as proxy:
+        with Proxy(tools, server.address, server.folder, arguments=audit_arguments(tools, server.folder)) as proxy:
             tools.drive("own", proxy.path(), 1, 1, 1, proxy.process.pid)
             return tools.drive("own", proxy.path(), connections, orders, 1, proxy.process.pid)
 
@@ -83,8 +83,8 @@ def committed(tools: Tools, connections: int, rounds: int, part: int) -> Rates:
 def wave(tools: Tools, links: Links, micros: int, count: int) -> tuple[float, float]:
     """Milliseconds and syncs from a reset to the last of 64 confirms, each over a connection of its own."""
     with Server(tools.server, tools.library, waves.NODES, links, micros) as server:
-        words = ["--signals", server.signals, *audit_words(tools, server.folder)]
-        with Proxy(tools, server.address, server.folder, words=words) as proxy:
+        arguments = ["--signals", server.signals, *audit_arguments(tools, server.folder)]
+        with Proxy(tools, server.address, server.folder, arguments=arguments) as proxy:
             return asyncio.run(waves.measure(waves.Own(server, links, proxy.path()), count))
 
 

@@ -37,8 +37,8 @@ class Tools:
 
     def drive(self, kind: str, address: str, connections: int, orders: int, outstanding: int, process: int) -> Driven:
         """What orders over many connections took."""
-        words = [kind, address, *map(str, (connections, orders, outstanding, process))]
-        ran = subprocess.run([self.tool("drive"), *words], stdout=subprocess.PIPE, text=True, check=True)
+        arguments = [kind, address, *map(str, (connections, orders, outstanding, process))]
+        ran = subprocess.run([self.tool("drive"), *arguments], stdout=subprocess.PIPE, text=True, check=True)
         rate, cost, memory, times = ran.stdout.strip().split(", ")
         before, within, _ = map(int, memory.split()[1:])
         return Driven(int(rate.split()[0]), float(cost.split()[0]), (within - before) / connections, *map(int, times.split()[1:]))
@@ -67,9 +67,9 @@ def await_true(what: str, holds: Callable[[], bool]) -> None:
 class Running:
     """A program in a folder, which ends with the block."""
 
-    def __init__(self, words: Sequence[str], messages: str) -> None:
+    def __init__(self, command: Sequence[str], messages: str) -> None:
         with open(messages, "ab") as file:
-            self.process = subprocess.Popen(words, stdin=subprocess.DEVNULL, stdout=file, stderr=file)
+            self.process = subprocess.Popen(command, stdin=subprocess.DEVNULL, stdout=file, stderr=file)
 
     def __enter__(self) -> Self:
         return self
@@ -82,12 +82,12 @@ class Running:
 class Proxy(Running):
     """`resetd-proxy`, with a socket for each of these principals, who may do everything."""
 
-    def __init__(self, tools: Tools, address: str, folder: str, *names: str, words: Sequence[str] = ()) -> None:
+    def __init__(self, tools: Tools, address: str, folder: str, *names: str, arguments: Sequence[str] = ()) -> None:
         self.folder, self.names = folder, names or ("all",)
         policy, messages = f"{folder}/policy.toml", f"{folder}/proxy.messages"
         pathlib.Path(policy).write_text(f"[[allow]]\nprincipals = {list(self.names)}\nops = {OPS}\n", encoding="ascii")
-        listen = [word for name in self.names for word in ("--listen", f"{name}={self.path(name)}")]
-        super().__init__([tools.proxy, "serve", "--server", address, "--policy", policy, *listen, *words], messages)
+        listen = [argument for name in self.names for argument in ("--listen", f"{name}={self.path(name)}")]
+        super().__init__([tools.proxy, "serve", "--server", address, "--policy", policy, *listen, *arguments], messages)
         await_true("the proxy", lambda: pathlib.Path(messages).read_text(encoding="utf-8").count("listening ") >= len(self.names))
 
     def path(self, name: str = "") -> str:
@@ -100,7 +100,7 @@ class Proxy(Running):
         return 0
 
 
-def audit_words(tools: Tools, folder: str) -> list[str]:
+def audit_arguments(tools: Tools, folder: str) -> list[str]:
     """What has the proxy write an audit, as it does where it is installed."""
     return ["--audit", f"{folder}/audit"] if has_audit(tools.proxy) else []
 
@@ -108,8 +108,8 @@ def audit_words(tools: Tools, folder: str) -> list[str]:
 @functools.cache
 def has_audit(proxy: str) -> bool:
     """Whether this build writes an audit: status 2 is that of unknown arguments."""
-    words = ["serve", "--server", "127.0.0.1:1", "--policy", "/nowhere/policy", "--listen", "a=/nowhere/a", "--audit", "/dev/null"]
-    return subprocess.run([proxy, *words], capture_output=True, check=False).returncode == 1
+    arguments = ["serve", "--server", "127.0.0.1:1", "--policy", "/nowhere/policy", "--listen", "a=/nowhere/a", "--audit", "/dev/null"]
+    return subprocess.run([proxy, *arguments], capture_output=True, check=False).returncode == 1
 
 
 class Answering(Running):

@@ -66,8 +66,8 @@ def reached_after(server: Server, connections: Sequence[socket.socket], epoch: i
 def until_the_last(tools: Tools, count: int, times: int) -> float:
     """Milliseconds from a signal line until the last of this many watchers has the view: the median of some resets."""
     with Server(tools.server, tools.library, 1, []) as server:
-        words = ["--signals", server.signals, "--connections", str(count + 10)]
-        with Proxy(tools, server.address, server.folder, words=words) as proxy:
+        arguments = ["--signals", server.signals, "--connections", str(count + 10)]
+        with Proxy(tools, server.address, server.folder, arguments=arguments) as proxy:
             connections = connect(proxy.path(), count)
             watch(connections)
             return statistics.median(reached_after(server, connections, epoch) for epoch in range(1, times + 1))

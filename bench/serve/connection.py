@@ -19,7 +19,7 @@ class Connection:
 
     def ask(self, *lines: bytes) -> list[bytes]:
         """Sends lines at once, and then reads their replies. A server ends a connection after a reply once one of its
-        lives is too old: what has no reply then is sent again over the next one."""
+        instances is too old: what has no reply then is sent again over the next one."""
         replies = self.speak(lines)
         while len(replies) < len(lines):
             self.close()

@@ -18,9 +18,9 @@ def measure(server: Server) -> None:
     server.must_start()
     connection, resets = Connection(server.address), Resets("finished")
     growth = growth_of(server, connection, resets)
-    tell_times(growth, *times(connection, resets, f"{server.store}.raw", growth))
+    report_times(growth, *times(connection, resets, f"{server.store}.raw", growth))
     for at_once in (1, AT_ONCE):
-        tell_rate(connection, resets, at_once)
+        report_rate(connection, resets, at_once)
     connection.close()
     server.must_close()
 
@@ -71,12 +71,12 @@ def raw_pair(file: int, place: int, count: int) -> None:
     os.fdatasync(file)
 
 
-def tell_times(growth: int, *spent: list[float]) -> None:
+def report_times(growth: int, *spent: list[float]) -> None:
     print(f"{'of ' + str(len(spent[0])) + ' each':30}{'p50':>12}{'p99':>12}    in raw pairs")
     pair = quantiles(spent[0])
-    for name, told in zip((f"pwrite of {growth}, fdatasync", "reset, to its answer", "show"), map(quantiles, spent)):
-        parts = "".join(f"{one * 1e3:9.3f} ms" for one in told)
-        pairs = "".join(f"{one / other:8.2f}" for one, other in zip(told, pair))
+    for name, row in zip((f"pwrite of {growth}, fdatasync", "reset, to its answer", "show"), map(quantiles, spent)):
+        parts = "".join(f"{one * 1e3:9.3f} ms" for one in row)
+        pairs = "".join(f"{one / other:8.2f}" for one, other in zip(row, pair))
         print(f"{name:30}{parts}{pairs}", flush=True)
 
 
@@ -85,7 +85,7 @@ def quantiles(spent: list[float]) -> list[float]:
     return [sorted(spent)[len(spent) * percent // 100] for percent in (50, 99)]
 
 
-def tell_rate(connection: Connection, resets: Resets, at_once: int) -> None:
+def report_rate(connection: Connection, resets: Resets, at_once: int) -> None:
     calls = ROUNDS * IN_A_ROUND // at_once
     begun = time.perf_counter()
     for _ in range(calls):

@@ -1,4 +1,4 @@
-"""Measures a coordinator: the words are its program, a folder of a real file system, a swift one, and by how much the
+"""Measures a coordinator: the arguments are its program, a folder of a real file system, a swift one, and by how much the
 logs are shorter than they are named (1)."""
 
 import os

@@ -1,7 +1,7 @@
 """How much memory a server has over many steps, by one client: in bursts of orders or one at a time, over a connection
 that stays or over one for each burst.
 
-The words are the program, a folder, how many steps each way makes where its connection stays, and how many where the
+The arguments are the program, a folder, how many steps each way makes where its connection stays, and how many where the
 client leaves after each burst. A line is printed for each twentieth of them: what is resident, what was resident at
 most since the start, and how many connections there were.
 """

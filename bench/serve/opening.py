@@ -27,7 +27,7 @@ def measure(growing: Server, scratch: str, shorter: int) -> None:
         grow(growing, resets, size // shorter)
         store = Server(growing.program, f"{scratch}/{name}")
         shutil.copyfile(growing.store, store.store)
-        tell(store, name)
+        report(store, name)
 
 
 def grow(server: Server, resets: Resets, size: int) -> None:
@@ -53,7 +53,7 @@ def wait_for(count: int, come: Callable[[], int]) -> None:
     raise Lost(f"a reset has not come to its end within {TIMEOUT} seconds")
 
 
-def tell(server: Server, name: int) -> None:
+def report(server: Server, name: int) -> None:
     """The least times of several rounds."""
     rounds = [(start(server), check(server), read(server.store)) for _ in range(ROUNDS)]
     started, checked, plain = (min(spent) * 1e3 for spent in zip(*rounds))

@@ -1,6 +1,6 @@
 """Where the time of an order goes: nested stand-ins of a server, each with one part more, beside the server itself.
 
-The words are the program and a folder of a real file system. Each stand-in is a process of its own, which waits at a
+The arguments are the program and a folder of a real file system. Each stand-in is a process of its own, which waits at a
 socket as the server does, and answers each line that one client sends:
 
   pairs      no server: two pairs of a pwrite and a sync, as an order needs them, in a loop
@@ -70,20 +70,20 @@ def stand_in(make_work: Callable[[], Callable[[], object]]) -> Connection:
 def by_another(work: Callable[[], object]) -> Callable[[], None]:
     """The same work, made by another process each time that this one asks for it, which waits meanwhile."""
     asks, asked = os.pipe()
-    tells, told = os.pipe()
+    answers, answered = os.pipe()
     if os.fork() == 0:
         os.close(asked)
-        os.close(tells)
+        os.close(answers)
         while os.read(asks, 1):
             work()
-            os.write(told, b"1")
+            os.write(answered, b"1")
         os._exit(0)
     os.close(asks)
-    os.close(told)
+    os.close(answered)
 
     def ask() -> None:
         os.write(asked, b"1")
-        os.read(tells, 1)
+        os.read(answers, 1)
     return ask
 
 
@@ -128,7 +128,7 @@ def a_round(prepare: Callable[[], object], call: Callable[[], object]) -> list[f
     return spent
 
 
-def tell(growth: int, spent: dict[str, list[float]]) -> None:
+def report(growth: int, spent: dict[str, list[float]]) -> None:
     """The halves of all, what lies between one and the next, and the whole in pairs."""
     half = {name: quantiles(times) for name, times in spent.items()}
     for name, (most, rare) in half.items():
@@ -156,7 +156,7 @@ def measure(server: Server, folder: str) -> None:
     for _ in range(ROUNDS):
         for name, call in timed.items():
             spent[name] += a_round(*call)
-    tell(growth, spent)
+    report(growth, spent)
 
 
 def main() -> None:

@@ -1,6 +1,6 @@
 """Orders that are sent together: how many are answered in a second over one connection, and how many syncs each takes.
 
-The words are a folder of a real file system, the file of a library that counts syncs and has them wait
+The arguments are a folder of a real file system, the file of a library that counts syncs and has them wait
 (syncs.c.txt), and programs, each as NAME=PATH. Over the file as it is and over one whose syncs wait a millisecond
 first, with 1, 4, 16, 64 and 256 orders sent before the first answer is read, by 16 clients in turn and by one client:
 each program by turns, so that all meet the same noise. An order resets a node without links, and is one step.
@@ -47,8 +47,8 @@ class Measured:
             file.write(bytes(8))
         self.server = Server(program, f"{folder}/{name}-{WAITS[disk]}.store")
         self.server.found(TOPOLOGY)
-        words = {"LD_PRELOAD": library, "SYNC_COUNT": self.counter, "SYNC_WAITS": str(WAITS[disk])}
-        if not self.server.start("env", *(f"{word}={value}" for word, value in words.items())):
+        environment = {"LD_PRELOAD": library, "SYNC_COUNT": self.counter, "SYNC_WAITS": str(WAITS[disk])}
+        if not self.server.start("env", *(f"{variable}={value}" for variable, value in environment.items())):
             raise Lost(f"{name} did not start: {self.server.ended()}")
         self.connection, self.orders = Connection(self.server.address), Orders()
 
@@ -75,7 +75,7 @@ class Measured:
         self.server.must_close()
 
 
-def tell(disk: str, clients: int, at_once: int, measured: list[Measured]) -> None:
+def report(disk: str, clients: int, at_once: int, measured: list[Measured]) -> None:
     rows: dict[str, list[tuple[float, float]]] = {one.name: [] for one in measured}
     for _ in range(ROUNDS):
         for one in measured:
@@ -90,11 +90,11 @@ def tell(disk: str, clients: int, at_once: int, measured: list[Measured]) -> Non
 def main() -> None:
     folder, library, *programs = sys.argv[1:]
     for disk in WAITS:
-        measured = [Measured(name, path, folder, library, disk) for name, path in (word.split("=", 1) for word in programs)]
+        measured = [Measured(name, path, folder, library, disk) for name, path in (program.split("=", 1) for program in programs)]
         try:
             for clients in (CLIENTS, 1):
                 for at_once in AT_ONCE:
-                    tell(disk, clients, at_once, measured)
+                    report(disk, clients, at_once, measured)
             for one in measured:
                 one.close()
         except Lost as lost:

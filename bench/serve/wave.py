@@ -1,6 +1,6 @@
 """How long one wave takes, from a reset to the last signal line, and how many syncs: the greatest ring with chords.
 
-The words are a program, a folder of a real file system, and the file of a library that counts syncs and has them wait
+The arguments are a program, a folder of a real file system, and the file of a library that counts syncs and has them wait
 (syncs.c.txt). Over the file as it is and over one whose syncs wait a millisecond first. The syncs are those until all is
 at rest again, of acknowledgements and receipts after the last signal too.
 """
@@ -30,8 +30,8 @@ class Waves:
         with open(self.counter, "wb") as file:
             file.write(bytes(8))
         self.server.found(topology(HALF, 2))
-        words = {"LD_PRELOAD": library, "SYNC_COUNT": self.counter, "SYNC_WAITS": str(micros)}
-        if not self.server.start("env", *(f"{word}={value}" for word, value in words.items())):
+        environment = {"LD_PRELOAD": library, "SYNC_COUNT": self.counter, "SYNC_WAITS": str(micros)}
+        if not self.server.start("env", *(f"{name}={value}" for name, value in environment.items())):
             raise Lost(f"the coordinator did not start: {self.server.ended()}")
         self.connection = Connection(self.server.address)
         self.syncs = 0
