@@ -90,7 +90,7 @@ class ReadOnly(Case):
         before = self.content(f"{folder}/store")
         os.chmod(folder, 0o300)
         for arguments in (["init", f"{folder}/other", topology_path], ["serve", f"{folder}/store", "127.0.0.1:0"],
-                      ["migrate", f"{folder}/store"]):
+                          ["migrate", f"{folder}/store"]):
             self.assertEqual(self.user(*arguments), FAILED)
         self.assertEqual(self.user("check", f"{folder}/store"), Ended(0, "legal 1\n", ""))
         os.chmod(folder, 0o700)
@@ -159,7 +159,7 @@ class Called(Case):
         os.mkdir(folder)
         store = f"{folder}/store"
         for arguments, path in ((["init", store, topology_path], store), (["init", "bare", topology_path], f"{folder}/bare"),
-                            (["check", f"{folder}/absent"], f"{folder}/absent"), (["migrate", store], store)):
+                                (["check", f"{folder}/absent"], f"{folder}/absent"), (["migrate", store], store)):
             with self.subTest(arguments=arguments):
                 ended = ran(*arguments, env=self.environment(CALLS=log), cwd=folder)
                 self.assertEqual(ended.status, int(arguments[0] == "check"))

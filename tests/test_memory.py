@@ -421,8 +421,8 @@ class Kept(Case):
         refusing, path = Refusing(PROGRAM, self.folder), self.write("store", stores.store(bodies=[batch(1, stores.add(1))]))
         lines = b"add 1 1\nadd 2 1\njoin 1 2\nreset 1\n" + b"show\nresend\ncheck\nfly\nadd 1 1\n#\ncrash\n" * 20
         for arguments, status in ((["init", self.path("made"), self.write("topology", PAIR)], 0), (["check", path], 0),
-                              (["show", path], 0), (["migrate", path], 0), (["check", self.write("none", "no")], 1),
-                              (["init", path, self.path("topology")], 1), (["fly"], 2), (["drill"], 0)):
+                                  (["show", path], 0), (["migrate", path], 0), (["check", self.write("none", "no")], 1),
+                                  (["init", path, self.path("topology")], 1), (["fly"], 2), (["drill"], 0)):
             ended, count = refusing.ran(*arguments, given=lines)
             with self.subTest(arguments=arguments):
                 self.assertEqual((ended.status, refusing.kept()), (status, 0))

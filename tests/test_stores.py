@@ -195,7 +195,7 @@ class Refused(Case):
             with self.subTest(name=name):
                 self.write("topology", stores.ring(number))
                 for arguments, said in ((["init", name, "topology"], f"created {2 * number}"), (["check", name], f"legal {2 * number}"),
-                                    (["migrate", name], f"migrated {2 * number}"), (["show", name], f"view {2 * number} {2 * number}")):
+                                        (["migrate", name], f"migrated {2 * number}"), (["show", name], f"view {2 * number} {2 * number}")):
                     self.assertEqual(ran(*arguments, cwd=self.folder).printed.split("\n")[0], said)
                 with Serving(name, cwd=self.folder, output=self.path("output")) as server:
                     self.assertEqual(server.order(1, "reset", node=1), answered(STARTED, 2 * number + 1))
