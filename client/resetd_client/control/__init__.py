@@ -22,7 +22,7 @@ from ..orders import CountLost, CountNotFound
 from ..store_file import NoStore, Restless
 from ..topology import BadTopology
 from . import audit, bench, changes, checks, completion, looks, ranges, report, restored, stores
-from .base import AWAY, COUNT, REFUSED, WRONG_WORDS, Control, complain
+from .base import AWAY, COUNT, REFUSED, WRONG_ARGUMENTS, Control, complain
 
 LEFT, INTERRUPTED = 141, 130  # as a shell reports an end by SIGPIPE and SIGINT
 
@@ -53,7 +53,7 @@ def parser() -> argparse.ArgumentParser:
         each = commands.add_parser(command.name, help=command.about, description=f"{command.about}.",
                                    epilog="resetctl --help describes the exit statuses and the common options.")
         each.set_defaults(call=command.call, is_look=command.is_look)
-        command.add_words(each)
+        command.add_arguments(each)
     return top
 
 
@@ -72,21 +72,21 @@ def default_state() -> str:
 def main(arguments: list[str] | None = None) -> int:
     """Runs one command and returns its exit status."""
     top = parser()
-    words = top.parse_args(arguments)
+    parsed = top.parse_args(arguments)
     try:
-        control = Control(words)
+        control = Control(parsed)
     except (BadWords, Unreadable) as fault:
         top.error(str(fault))
     try:
-        return int(words.call(control))
+        return int(parsed.call(control))
     except BadTopology as fault:
-        complain(f"{words.topology}: {fault}")
-        return WRONG_WORDS
+        complain(f"{parsed.topology}: {fault}")
+        return WRONG_ARGUMENTS
     except BadWords as fault:
         complain(str(fault))
-        return WRONG_WORDS
+        return WRONG_ARGUMENTS
     except (NoStore, Restless) as fault:
-        complain(f"{words.file}: {fault}")
+        complain(f"{parsed.file}: {fault}")
         return REFUSED
     except (CountLost, CountNotFound, Held, Unreadable) as fault:
         complain(f"{fault}{'; run resetctl count to recover the number' if isinstance(fault, CountLost) else ''}")

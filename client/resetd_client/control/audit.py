@@ -10,29 +10,29 @@ from typing import Any
 
 from ..waiting import AUDIT
 from . import ranges
-from .base import DONE, Command, Control
+from .base import DONE, Arguments, Command, Control
 
 Entry = Mapping[str, Any]
 
 
 def log(control: Control) -> int:
     """Prints the lines of the file that match the arguments."""
-    words = control.words
-    if words.file == "-":
-        print_entries(sys.stdin, words)
+    arguments = control.arguments
+    if arguments.file == "-":
+        print_entries(sys.stdin, arguments)
         return DONE
-    with open(words.file, encoding="utf-8", errors="replace", newline="\n") as file:
-        print_entries(file, words)
+    with open(arguments.file, encoding="utf-8", errors="replace", newline="\n") as file:
+        print_entries(file, arguments)
     return DONE
 
 
-def print_entries(lines: Iterable[str], words: argparse.Namespace) -> None:
+def print_entries(lines: Iterable[str], arguments: Arguments) -> None:
     for line in lines:
         entry = entry_of(line)
         if entry is None:
             print(printable(f"? {line.strip()}"), flush=True)  # a line that was cut, or that another program wrote
-        elif is_asked_for(entry, words):
-            print(json.dumps(entry, separators=(",", ":")) if words.json else printable(told(entry)), flush=True)
+        elif is_asked_for(entry, arguments):
+            print(json.dumps(entry, separators=(",", ":")) if arguments.json else printable(formatted(entry)), flush=True)
 
 
 def printable(text: str) -> str:
@@ -50,14 +50,14 @@ def entry_of(line: str) -> Entry | None:
     return entry if isinstance(entry, dict) and "time" in entry and "event" in entry else None
 
 
-def is_asked_for(entry: Entry, words: argparse.Namespace) -> bool:
+def is_asked_for(entry: Entry, arguments: Arguments) -> bool:
     """Returns whether an entry matches the arguments."""
     request = line_of(entry)
-    return ((not words.reset or is_reset(entry))
-            and (words.node is None or words.node in (request.get("node"), request.get("a"), request.get("b")))
-            and (not words.denied or entry["event"] in ("denied", "handshake"))
-            and (words.since is None or str(entry["time"]) >= words.since)
-            and (words.until is None or str(entry["time"]) < words.until))
+    return ((not arguments.reset or is_reset(entry))
+            and (arguments.node is None or arguments.node in (request.get("node"), request.get("a"), request.get("b")))
+            and (not arguments.denied or entry["event"] in ("denied", "handshake"))
+            and (arguments.since is None or str(entry["time"]) >= arguments.since)
+            and (arguments.until is None or str(entry["time"]) < arguments.until))
 
 
 def is_reset(entry: Entry) -> bool:
@@ -73,7 +73,7 @@ def line_of(entry: Entry) -> Entry:
     return line if isinstance(line, dict) else {}
 
 
-def told(entry: Entry) -> str:
+def formatted(entry: Entry) -> str:
     """Formats an entry: the time, the actor, the order, and the result."""
     parts = [str(entry["time"]), who(entry.get("who")), what(entry), came_of(entry)]
     return "  ".join(part for part in parts if part)
@@ -92,8 +92,8 @@ def what(entry: Entry) -> str:
     """Formats the order as a `resetctl` command, or the event."""
     line = entry.get("line")
     if isinstance(line, dict):
-        words = [str(value) for name, value in line.items() if name not in ("client", "number")]
-        return " ".join(words) + (f" [client {line['client']}, number {line['number']}]" if {"client", "number"} <= set(line) else "")
+        parts = [str(value) for name, value in line.items() if name not in ("client", "number")]
+        return " ".join(parts) + (f" [client {line['client']}, number {line['number']}]" if {"client", "number"} <= set(line) else "")
     return repr(line) if isinstance(line, str) else str(entry["event"])
 
 
@@ -118,7 +118,7 @@ def came_of(entry: Entry) -> str:
     return "; ".join([*parts, *([str(entry["why"])] if "why" in entry else [])])
 
 
-def add_log_words(parser: argparse.ArgumentParser) -> None:
+def add_log_arguments(parser: argparse.ArgumentParser) -> None:
     parser.add_argument("file", metavar="FILE", nargs="?", default=AUDIT, help=f"the proxy's audit file, or - for standard input (default: {AUDIT})")
     parser.add_argument("--reset", action="store_true", help="print only resets that were carried out, or may have been")
     parser.add_argument("--denied", action="store_true", help="print only denied requests")
@@ -128,4 +128,4 @@ def add_log_words(parser: argparse.ArgumentParser) -> None:
     parser.add_argument("--json", action="store_true", help="print each entry as a line of JSON, as in the file")
 
 
-COMMANDS = (Command("log", "prints who ordered what and when, from the proxy's audit file", log, add_log_words, is_look=True),)
+COMMANDS = (Command("log", "prints who ordered what and when, from the proxy's audit file", log, add_log_arguments, is_look=True),)

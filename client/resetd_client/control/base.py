@@ -19,11 +19,11 @@ from ..orders import CountLost, Order, Orders
 from ..port import Port, patiently
 from ..view import View
 
-DONE, REFUSED, WRONG_WORDS, AWAY, COUNT = 0, 1, 2, 3, 4
-PATIENCE, SECONDS = 30.0, 20.0
+DONE, REFUSED, WRONG_ARGUMENTS, AWAY, COUNT = 0, 1, 2, 3, 4
+TIMEOUT, SECONDS = 30.0, 20.0
 LOOK_SECONDS = 2.0  # how long a read-only command waits, in all and for one answer
 SILENCE_SECONDS = 1.0  # after this many seconds without an answer, a message names the pending request
-Words = argparse.Namespace
+Arguments = argparse.Namespace
 T = TypeVar("T")
 
 
@@ -36,7 +36,7 @@ def print_json(value: object) -> None:
     print(json.dumps(value, separators=(",", ":")), flush=True)
 
 
-def no_words(_: argparse.ArgumentParser) -> None:
+def no_arguments(_: argparse.ArgumentParser) -> None:
     """Adds no arguments: for a command that has none."""
 
 
@@ -47,54 +47,55 @@ class Command:
     name: str
     about: str
     call: Callable[[Control], int]
-    add_words: Callable[[argparse.ArgumentParser], None] = no_words
+    add_arguments: Callable[[argparse.ArgumentParser], None] = no_arguments
     is_look: bool = False
 
 
 class Control:
     """A command's arguments, and its connection to the coordinator."""
 
-    def __init__(self, words: Words) -> None:
-        self.words = words
-        self.patience: float = words.patience if words.patience is not None else LOOK_SECONDS if words.is_look else PATIENCE
-        self.seconds: float = words.seconds if words.seconds is not None else LOOK_SECONDS if words.is_look else SECONDS
-        self.port = Port(words.address, self.seconds, Credentials.found().over(
-            certificate=words.certificate, key=words.key, authority=words.authority))
-        self.folder = os.path.join(words.state, words.address.replace(":", "_").replace("/", "_"))
+    def __init__(self, arguments: Arguments) -> None:
+        self.arguments = arguments
+        self.timeout: float = arguments.patience if arguments.patience is not None else LOOK_SECONDS if arguments.is_look else TIMEOUT
+        self.seconds: float = arguments.seconds if arguments.seconds is not None else LOOK_SECONDS if arguments.is_look else SECONDS
+        self.port = Port(arguments.address, self.seconds, Credentials.found().over(
+            certificate=arguments.certificate, key=arguments.key, authority=arguments.authority))
+        self.folder = os.path.join(arguments.state, arguments.address.replace(":", "_").replace("/", "_"))
         self._asked: Mapping[str, Any] = {}
 
-    def tell(self, text: str) -> None:
+    def report(self, text: str) -> None:
         """Prints the reply of an order."""
-        if not self.words.quiet:
+        if not self.arguments.quiet:
             print(text, flush=True)
 
     def patient(self, call: Callable[[], T]) -> T:
         """Repeats a call until it is answered or the time is over. Prints a message immediately when it starts to wait."""
-        with told_after(SILENCE_SECONDS, f"waiting for an answer from {self.words.address}") as timer:
-            def tell(away: Away) -> None:
+        with complain_after(SILENCE_SECONDS, f"waiting for an answer from {self.arguments.address}") as timer:
+            def report(away: Away) -> None:
                 timer.cancel()
-                complain(f"{self.why(away)}; trying again for {self.patience:g} s")
-            return patiently(call, self.patience, tell)
+                complain(f"{self.why(away)}; trying again for {self.timeout:g} s")
+            return patiently(call, self.timeout, report)
 
     def show(self) -> View:
         return self.patient(self.port.show)
 
     def orders(self) -> Orders:
         """Returns the client's orders. They recover the client's number if another person has ordered as the same client."""
-        folder = os.path.join(self.folder, f"client-{self.words.client}")
-        return Orders(self.port, self.words.client, folder, recovers=True, held_seconds=10.0, told=complain)
+        folder = os.path.join(self.folder, f"client-{self.arguments.client}")
+        return Orders(self.port, self.arguments.client, folder, recovers=True, held_seconds=10.0, told=complain)
 
     def settle(self, book: Orders) -> None:
         """Sends the orders of an earlier call that have no answer again, and prints their results."""
         if not book.unanswered:
             return
         left = book.unanswered
-        complain(f"sending these orders again, because they had no answer: {'; '.join(map(told_order, left))}")
+        complain(f"sending these orders again, because they had no answer: {'; '.join(map(order_text, left))}")
         try:
             for order, outcome in zip(left, self.patient(book.settle)):
-                complain(f"{told_order(order)}: {outcome if isinstance(outcome, NotTaken) else told_reply(outcome)}")
+                complain(f"{order_text(order)}: {outcome if isinstance(outcome, NotTaken) else reply_text(outcome)}")
         except CountLost:
-            complain(f"client {self.words.client} has sent later orders, so this order is not sent again: use show to see whether it was carried out")
+            complain(f"client {self.arguments.client} has sent later orders, so this order is not sent again: "
+                     "use show to see whether it was carried out")
             self.patient(book.recover)
 
     def carry_out(self, book: Orders, op: str, **members: int) -> Reply:
@@ -129,7 +130,7 @@ class Control:
 
 
 @contextmanager
-def told_after(seconds: float, text: str) -> Iterator[threading.Timer]:
+def complain_after(seconds: float, text: str) -> Iterator[threading.Timer]:
     """Prints a text on standard error if the body takes longer than this many seconds, unless the body cancels the timer."""
     timer = threading.Timer(seconds, complain, [text])
     timer.daemon = True
@@ -144,10 +145,10 @@ def complain(text: str) -> None:
     print(f"resetctl: {text}", file=sys.stderr, flush=True)
 
 
-def told_order(order: Mapping[str, Any]) -> str:
-    return " ".join(str(word) for word in order.values())
+def order_text(order: Mapping[str, Any]) -> str:
+    return " ".join(str(value) for value in order.values())
 
 
-def told_reply(reply: Reply) -> str:
+def reply_text(reply: Reply) -> str:
     """Formats a reply as a line, without its step if the reply was lost with a connection."""
     return f"{reply.kind} {reply.step}" if reply.step else reply.kind

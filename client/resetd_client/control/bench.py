@@ -22,16 +22,16 @@ WAVE_SECONDS = 60.0  # after which an unfinished wave is reported
 def bench(control: Control) -> int:
     """Repeatedly adds and removes a node, and asks for resets. Refuses to run if there are services, because all of them would
     begin again. An interrupted run may leave a node without links."""
-    words = control.words
+    arguments = control.arguments
     view = control.show()
-    if (served := [node.node for node in view.nodes if node.confirmed]) and not words.with_services:
+    if (served := [node.node for node in view.nodes if node.confirmed]) and not arguments.with_services:
         complain(f"these nodes have services: {', '.join(map(str, served))}. Each service would begin again at each of the "
-                 f"{words.waves} resets; to run anyway, use --with-services")
+                 f"{arguments.waves} resets; to run anyway, use --with-services")
         return REFUSED
     with control.orders() as book:
         control.settle(book)
         found = {**measured_orders(control, book, view), **measured_waves(control, book, view)}
-    if words.json:
+    if arguments.json:
         print_json(found)
         return DONE
     for what, value in found.items():
@@ -47,7 +47,7 @@ def measured_orders(control: Control, book: Orders, view: View) -> dict[str, flo
         complain(f"all {len(NODES)} nodes exist, so the order rate is not measured: that needs a node to add and remove")
         return {}
     pair: list[Order] = [{"op": "add", "node": node, "group": GROUPS[-1]}, {"op": "remove", "node": node}]
-    each = [timed(partial(carried_out, control, book, [order])) for order in pair * (control.words.orders // 2)]
+    each = [timed(partial(carried_out, control, book, [order])) for order in pair * (control.arguments.orders // 2)]
     together = pair * (TOGETHER // 2)
     seconds = timed(partial(carried_out, control, book, together))
     return {"orders_a_second": len(each) / sum(each), "milliseconds_an_order_p50": 1_000 * statistics.median(each),
@@ -58,10 +58,10 @@ def measured_orders(control: Control, book: Orders, view: View) -> dict[str, flo
 def measured_waves(control: Control, book: Orders, view: View) -> dict[str, float]:
     """Measures the milliseconds from a reset to the view in which the whole largest group is ready again."""
     groups = [view.connected(node.node) for node in view.nodes]
-    if not groups or not control.words.waves:
+    if not groups or not control.arguments.waves:
         return {}
     group = max(groups, key=len)
-    waves = [timed(partial(wave, control, book, group[0].node)) for _ in range(control.words.waves)]
+    waves = [timed(partial(wave, control, book, group[0].node)) for _ in range(control.arguments.waves)]
     return {"nodes_of_a_wave": len(group), "milliseconds_a_wave_p50": 1_000 * statistics.median(waves),
             "milliseconds_a_wave_most": 1_000 * max(waves)}
 
@@ -90,7 +90,7 @@ def timed(call: Callable[[], object]) -> float:
     return time.perf_counter() - began
 
 
-def add_bench_words(parser: argparse.ArgumentParser) -> None:
+def add_bench_arguments(parser: argparse.ArgumentParser) -> None:
     add_json(parser)
     parser.add_argument("--orders", type=ranges.some_orders, default=ORDERS, metavar="N",
                         help=f"how many orders to send one after another, at least 2 (default: {ORDERS})")
@@ -99,4 +99,4 @@ def add_bench_words(parser: argparse.ArgumentParser) -> None:
 
 
 COMMANDS = (Command("bench", "measures the server's order rate and the duration of a wave; refuses to run if nodes have services", bench,
-                    add_bench_words),)
+                    add_bench_arguments),)

@@ -95,8 +95,8 @@ def bash(top: argparse.ArgumentParser) -> str:
         leaves_files = "[[ $word != -* ]] || " if any(is_file(option) and not option.names for option in found) else ""
         cases.append(f"    {name}) {leaves_files}COMPREPLY=($(compgen -W '{' '.join([*choices, *names_of(found)])}' -- \"$word\")) ;;")
     taking |= {each for option in every if option.value for each in option.names}
-    words = " ".join([*(name for name, _, _ in commands(top)), *names_of(every)])
-    return BASH.replace("@TAKING@", "|".join(sorted(taking))).replace("@TOP@", words).replace("@COMMANDS@", "\n".join(cases))
+    names = " ".join([*(name for name, _, _ in commands(top)), *names_of(every)])
+    return BASH.replace("@TAKING@", "|".join(sorted(taking))).replace("@TOP@", names).replace("@COMMANDS@", "\n".join(cases))
 
 
 def zsh(top: argparse.ArgumentParser) -> str:
@@ -115,8 +115,8 @@ def spec(option: Option) -> str:
     values = f"({' '.join(option.choices)})" if option.choices else "_files" if is_file(option) else " "
     if not option.names:
         return quoted(f":{option.value.lower()}:{values}")
-    behind = f":{option.value.lower()}:{values}" if option.value else ""
-    return " ".join(quoted(f"{name}[{about}]{behind}") for name in option.names)
+    value = f":{option.value.lower()}:{values}" if option.value else ""
+    return " ".join(quoted(f"{name}[{about}]{value}") for name in option.names)
 
 
 def is_file(option: Option) -> bool:
@@ -130,13 +130,13 @@ def quoted(text: str) -> str:
 def completion(control: Control) -> int:
     from . import parser  # which has this command in its table
 
-    print((bash if control.words.shell == "bash" else zsh)(parser()), end="")
+    print((bash if control.arguments.shell == "bash" else zsh)(parser()), end="")
     return DONE
 
 
-def add_completion_words(parser: argparse.ArgumentParser) -> None:
+def add_completion_arguments(parser: argparse.ArgumentParser) -> None:
     parser.add_argument("shell", choices=SHELLS, metavar="SHELL", help="the shell: bash or zsh")
 
 
-COMMANDS = (Command("completion", "prints a script with which a shell completes the commands of resetctl", completion, add_completion_words,
-                    is_look=True),)
+COMMANDS = (Command("completion", "prints a script with which a shell completes the commands of resetctl",
+                    completion, add_completion_arguments, is_look=True),)

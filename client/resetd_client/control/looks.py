@@ -25,7 +25,7 @@ LEGEND = "· confirmed, o not confirmed yet, A abort, C converge; node:epoch/con
 def show(control: Control) -> int:
     """Prints the nodes and links as tables or, with --json, the port's answer line."""
     view = control.show()
-    if control.words.json:
+    if control.arguments.json:
         print_json(view.members())
     else:
         print(table(view), flush=True)
@@ -52,10 +52,10 @@ def table(view: View) -> str:
 def watch(control: Control) -> int:
     """Draws the mode of each node, in place, as it changes. If the output is not a terminal, writes a line with the time for
     each change. The proxy reports changes; a server's port is queried repeatedly."""
-    until = math.inf if control.words.for_seconds is None else time.monotonic() + control.words.for_seconds
+    until = math.inf if control.arguments.for_seconds is None else time.monotonic() + control.arguments.for_seconds
     is_terminal = sys.stdout.isatty()
     wakes = wakes_of(control.port)
-    every = PROXY_SECONDS if control.port.is_front else control.words.every
+    every = PROXY_SECONDS if control.port.is_front else control.arguments.every
     seen: list[str] | None = None
     with closing(wakes) if isinstance(wakes, Watched) else nullcontext():
         while (left := until - time.monotonic()) > 0:
@@ -92,7 +92,7 @@ def note(picture: list[str]) -> None:
     print(datetime.now().astimezone().isoformat(timespec="milliseconds"), *picture, sep="  ", flush=True)
 
 
-def add_watch_words(parser: argparse.ArgumentParser) -> None:
+def add_watch_arguments(parser: argparse.ArgumentParser) -> None:
     parser.add_argument("--every", type=ranges.some_seconds, default=0.2, metavar="SECONDS",
                         help="the seconds between two looks, if no proxy reports changes (default: 0.2)")
     parser.add_argument("--for", dest="for_seconds", type=ranges.span, metavar="SECONDS", help="end after this many seconds (default: never)")
@@ -101,5 +101,5 @@ def add_watch_words(parser: argparse.ArgumentParser) -> None:
 COMMANDS = (
     Command("show", "prints the nodes and links", show, add_json, is_look=True),
     Command("watch", "draws the nodes' modes as they change; if the output is not a terminal, prints a line for each change", watch,
-            add_watch_words, is_look=True),
+            add_watch_arguments, is_look=True),
 )

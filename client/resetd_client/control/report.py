@@ -20,7 +20,7 @@ from ..port import patiently
 from ..processes import checksum_of, lock_holders, program_of, threads_of
 from ..store_file import NoStore, Restless, open_store, read_half, read_store, reader_of, store_of
 from .base import DONE, Command, Control
-from .stores import looked_at, store_rows, told_start
+from .stores import looked_at, store_rows, start_problems
 
 MOST_LINES = "5000"  # of the systemd journal
 PACKAGE = os.path.dirname(os.path.dirname(os.path.abspath(__file__)))
@@ -36,29 +36,30 @@ class Part:
 
 
 def parts(control: Control) -> Iterator[Part]:
-    words = control.words
+    arguments = control.arguments
     yield Part("why.txt", "the output of resetctl why", lambda: why_text(control))
     yield Part("show.json", "the nodes and links, as resetctl show --json prints them",
-               lambda: json.dumps(patiently(control.port.show, control.patience).members()))
+               lambda: json.dumps(patiently(control.port.show, control.timeout).members()))
     yield Part("store", "a copy of the store, made like resetctl backup, or the file's bytes if the store can't be read",
-               lambda: copy_of(words.store))
-    yield Part("steps.txt", "the store's steps since the last checkpoint", lambda: steps_text(words.store, False))
-    yield Part("steps-before.txt", "the steps in the store's previous half", lambda: steps_text(words.store, True))
+               lambda: copy_of(arguments.store))
+    yield Part("steps.txt", "the store's steps since the last checkpoint", lambda: steps_text(arguments.store, False))
+    yield Part("steps-before.txt", "the steps in the store's previous half", lambda: steps_text(arguments.store, True))
     for name, path in memories(control):
         yield Part(name, f"the state that resetctl health keeps ({path})", lambda path=path: bytes_of(path))  # type: ignore[misc]
-    yield Part("journal.txt", f"the last {MOST_LINES} journal lines of the units {words.unit}, {words.unit}-proxy and {words.unit}-health",
+    unit = arguments.unit
+    yield Part("journal.txt", f"the last {MOST_LINES} journal lines of the units {unit}, {unit}-proxy and {unit}-health",
                lambda: said("journalctl", "--no-pager", "--quiet", "--output", "short-iso-precise", "--lines", MOST_LINES,
-                            "--unit", words.unit, "--unit", f"{words.unit}-proxy", "--unit", f"{words.unit}-health"))
-    yield Part("versions.txt", "the versions, and the checksums of the program and the library", lambda: versions(words.store))
-    yield Part("process.txt", "the server's resource limits, and the state of each of its threads", lambda: process_text(words.store))
-    yield Part("filesystem.txt", "the mount, the free space and the device of the store", lambda: file_system(words.store))
-    yield Part("kernel.txt", "the kernel's messages about the store's device", lambda: kernel_lines(words.store))
+                            "--unit", unit, "--unit", f"{unit}-proxy", "--unit", f"{unit}-health"))
+    yield Part("versions.txt", "the versions, and the checksums of the program and the library", lambda: versions(arguments.store))
+    yield Part("process.txt", "the server's resource limits, and the state of each of its threads", lambda: process_text(arguments.store))
+    yield Part("filesystem.txt", "the mount, the free space and the device of the store", lambda: file_system(arguments.store))
+    yield Part("kernel.txt", "the kernel's messages about the store's device", lambda: kernel_lines(arguments.store))
 
 
 def why_text(control: Control) -> str:
-    port = next((str(each) for each in addresses_of(control.words.address) if isinstance(each, Tcp)), SERVER)  # because it is not the proxy's
-    findings = list(looked_at(control.words.store, None, port, control.seconds))
-    return "".join(f"{each.about:8s} {each.text}\n" for each in findings) + told_start(findings) + "\n"
+    port = next((str(each) for each in addresses_of(control.arguments.address) if isinstance(each, Tcp)), SERVER)  # because it is not the proxy's
+    findings = list(looked_at(control.arguments.store, None, port, control.seconds))
+    return "".join(f"{each.about:8s} {each.text}\n" for each in findings) + start_problems(findings) + "\n"
 
 
 def copy_of(path: str) -> bytes:
@@ -80,7 +81,7 @@ def steps_text(path: str, is_before: bool) -> str:
 def memories(control: Control) -> Iterator[tuple[str, str]]:
     """Returns the files in which health keeps its state: the timer's and this person's."""
     address = os.path.basename(control.folder)
-    for whose, folder in (("timer", os.path.join(control.words.memory, address)), ("person", control.folder)):
+    for whose, folder in (("timer", os.path.join(control.arguments.memory, address)), ("person", control.folder)):
         for name in ("health.json", "signals.json"):
             if os.path.exists(path := os.path.join(folder, name)):
                 yield f"health/{whose}-{name}", path
@@ -124,7 +125,7 @@ def found(part: Part) -> bytes:
 
 def report(control: Control) -> int:
     """Writes the report into a new file that only its owner can read, and prints its contents."""
-    out = control.words.out
+    out = control.arguments.out
     descriptor = os.open(out, os.O_WRONLY | os.O_CREAT | os.O_EXCL | os.O_CLOEXEC, 0o600)
     try:
         with open(descriptor, "wb") as file, tarfile.open(fileobj=file, mode="w:gz") as archive:
@@ -145,7 +146,7 @@ def put_into(archive: tarfile.TarFile, name: str, content: bytes) -> None:
     archive.addfile(entry, io.BytesIO(content))
 
 
-def add_words(parser: argparse.ArgumentParser) -> None:
+def add_arguments(parser: argparse.ArgumentParser) -> None:
     parser.add_argument("out", metavar="OUT.tar.gz", help="the file to write, which must not exist yet")
     parser.add_argument("--store", metavar="FILE", default="/var/lib/resetd/store", help="the store's file (default: /var/lib/resetd/store)")
     parser.add_argument("--unit", metavar="NAME", default="resetd", help="the server's systemd unit (default: resetd)")
@@ -155,5 +156,5 @@ def add_words(parser: argparse.ArgumentParser) -> None:
 
 COMMANDS = (Command("report", "writes a file for diagnosing a fault, with the output of why, show and steps, the state that "
                     "health keeps, a copy of the store, the units' journal, the versions, the server's limits, the file system, "
-                    "and the kernel's messages about the device", report, add_words,
+                    "and the kernel's messages about the device", report, add_arguments,
                     is_look=True),)

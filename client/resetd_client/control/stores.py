@@ -17,24 +17,24 @@ from ..waiting import AUDIT
 from ..why import of_file
 from ..why_server import of_address
 from . import ranges
-from .base import DONE, REFUSED, WRONG_WORDS, Command, Control, add_json, complain, print_json
+from .base import DONE, REFUSED, WRONG_ARGUMENTS, Command, Control, add_json, complain, print_json
 
 
 def why(control: Control) -> int:
     """Prints the causes of a fault at a server's start, for a store's file and an address."""
-    words = control.words
+    arguments = control.arguments
     findings = []
-    for finding in looked_at(words.file, words.user, words.at, control.seconds, words.audit):
-        if not words.json:
+    for finding in looked_at(arguments.file, arguments.user, arguments.at, control.seconds, arguments.audit):
+        if not arguments.json:
             print(f"{finding.about:8s} {finding.text}", flush=True)
         findings.append(finding)
-    told = told_start(findings)
-    if words.json:
-        print_json({"findings": [asdict(finding) for finding in findings], "told": told.splitlines()})
-        return REFUSED if told else DONE
+    problems = start_problems(findings)
+    if arguments.json:
+        print_json({"findings": [asdict(finding) for finding in findings], "told": problems.splitlines()})
+        return REFUSED if problems else DONE
     left_out = "".join(f"; not checked: {finding.left_out}" for finding in findings if finding.left_out)
-    print(told or f"these checks found nothing that prevents a start{left_out}")
-    return REFUSED if told else DONE
+    print(problems or f"these checks found nothing that prevents a start{left_out}")
+    return REFUSED if problems else DONE
 
 
 def looked_at(path: str, user: Account | None, address: str | None, seconds: float, audit: str = AUDIT) -> Iterator[Finding]:
@@ -44,19 +44,20 @@ def looked_at(path: str, user: Account | None, address: str | None, seconds: flo
         yield from of_address(address, seconds, path, audit)
 
 
-def told_start(findings: list[Finding]) -> str:
+def start_problems(findings: list[Finding]) -> str:
     """Returns the fault with which a start of the server would end now, and the faults that a running server may run into; empty if
     there is none."""
     faults = sorted((finding for finding in findings if finding.fault), key=lambda finding: finding.fault != "Usage")
-    told = [f"a start now would end with the fault {finding.fault}: {finding.about}: {finding.text}" for finding in faults[:1]]
-    told += [f"a running server may have this problem: {finding.later}: {finding.about}: {finding.text}" for finding in findings if finding.later]
-    return "\n".join(told)
+    problems = [f"a start now would end with the fault {finding.fault}: {finding.about}: {finding.text}" for finding in faults[:1]]
+    problems += [f"a running server may have this problem: {finding.later}: {finding.about}: {finding.text}"
+                 for finding in findings if finding.later]
+    return "\n".join(problems)
 
 
 def steps(control: Control) -> int:
     """Prints the steps of a store, each with the batch that settled it."""
-    store = read_store(control.words.file, control.words.before)
-    if control.words.json:
+    store = read_store(control.arguments.file, control.arguments.before)
+    if control.arguments.json:
         print_json(store_members(store))
         return DONE
     half, rows = store.half, list(store_rows(store))
@@ -86,18 +87,18 @@ def store_rows(store: Store) -> Iterator[str]:
 
 def backup(control: Control) -> int:
     """Copies a store, which may be served meanwhile. If the name of the copy is a link, the copy is written to its target."""
-    words = control.words
-    out = os.path.realpath(words.out)
-    descriptor = open_store(words.file)
+    arguments = control.arguments
+    out = os.path.realpath(arguments.out)
+    descriptor = open_store(arguments.file)
     try:
         if (refusal := why_not(out, os.fstat(descriptor))):
-            complain(f"{words.out}: {refusal}")
-            return WRONG_WORDS
+            complain(f"{arguments.out}: {refusal}")
+            return WRONG_ARGUMENTS
         store = store_of(read_half(reader_of(descriptor)))
         put(out, store.half.file(), os.fstat(descriptor))
     finally:
         os.close(descriptor)
-    control.tell(f"copied a store of {store.count} steps, version {store.half.version}")
+    control.report(f"copied a store of {store.count} steps, version {store.half.version}")
     return DONE
 
 
@@ -139,9 +140,9 @@ def put(path: str, data: bytes, like: os.stat_result) -> None:
     sync_folder(path)
 
 
-def add_why_words(parser: argparse.ArgumentParser) -> None:
+def add_why_arguments(parser: argparse.ArgumentParser) -> None:
     add_json(parser)
-    add_file_words(parser)
+    add_file_arguments(parser)
     parser.add_argument("at", metavar="ADDRESS", nargs="?", help="the server's address, as an IPv4 address and a port (A.B.C.D:P)")
     parser.add_argument("--audit", metavar="FILE", default=AUDIT,
                         help=f"the proxy's audit file, which shows how long a group has waited (default: {AUDIT})")
@@ -149,26 +150,26 @@ def add_why_words(parser: argparse.ArgumentParser) -> None:
                         help="the user that the server runs as (default: the owner of the store's folder)")
 
 
-def add_file_words(parser: argparse.ArgumentParser) -> None:
+def add_file_arguments(parser: argparse.ArgumentParser) -> None:
     parser.add_argument("file", metavar="FILE", help="the store's file")
 
 
-def add_steps_words(parser: argparse.ArgumentParser) -> None:
+def add_steps_arguments(parser: argparse.ArgumentParser) -> None:
     add_json(parser)
-    add_file_words(parser)
+    add_file_arguments(parser)
     parser.add_argument("--before", action="store_true",
                         help="read the store's previous half, from before the last checkpoint; it is kept until the next checkpoint")
 
 
-def add_backup_words(parser: argparse.ArgumentParser) -> None:
-    add_file_words(parser)
+def add_backup_arguments(parser: argparse.ArgumentParser) -> None:
+    add_file_arguments(parser)
     parser.add_argument("out", metavar="OUT", help="the file for the copy; an older copy there is replaced as a whole")
 
 
 COMMANDS = (
     Command("why", "checks the store's file and the server's address, and prints what would make a start fail; "
-            "exits with 1 if it finds a problem", why, add_why_words, is_look=True),
+            "exits with 1 if it finds a problem", why, add_why_arguments, is_look=True),
     Command("steps", "prints the steps of a store, each with the batch in which it was settled", steps,
-            add_steps_words),
-    Command("backup", "copies a store, even while a server uses it", backup, add_backup_words),
+            add_steps_arguments),
+    Command("backup", "copies a store, even while a server uses it", backup, add_backup_arguments),
 )
