@@ -71,17 +71,17 @@ def tried_as(account: Account, path: str, seconds: float = SYNC_SECONDS) -> Tria
     if child == 0:
         try:
             let_go(writer)
-            attempt(account, path, lambda told: os.write(writer, json.dumps(told).encode() + b"\n"))
+            attempt(account, path, lambda result: os.write(writer, json.dumps(result).encode() + b"\n"))
         finally:
             os._exit(0)
     os.close(writer)
     try:
-        told = lines_of(reader, seconds)
+        reports = lines_of(reader, seconds)
     finally:
         os.close(reader)
     os.kill(child, signal.SIGKILL)  # a process that waits for a disk ends once the disk responds
-    os.waitpid(child, 0 if told else os.WNOHANG)
-    last = told[-1] if told else ["begun"]
+    os.waitpid(child, 0 if reports else os.WNOHANG)
+    last = reports[-1] if reports else ["begun"]
     return Trial(last[1]) if last[0] == "failed" else Trial("", float(last[1]) if last[0] == "synced" else None)
 
 
@@ -100,7 +100,7 @@ def become(account: Account) -> None:
         os.setresuid(account.uid, account.uid, account.uid)
 
 
-def attempt(account: Account, path: str, tell: Callable[[list[object]], object]) -> None:
+def attempt(account: Account, path: str, report: Callable[[list[object]], object]) -> None:
     """Makes the calls, and reports each result."""
     call = "can't be impersonated"
     try:
@@ -113,9 +113,9 @@ def attempt(account: Account, path: str, tell: Callable[[list[object]], object])
         os.fdatasync(file)
         call = "can't sync the file's folder"
         os.fsync(folder)
-        tell(["synced", time.monotonic() - began])
+        report(["synced", time.monotonic() - began])
     except OSError as fault:
-        tell(["failed", f"{call}: {fault.strerror}"])
+        report(["failed", f"{call}: {fault.strerror}"])
 
 
 def lines_of(reader: int, seconds: float) -> list[list[str]]:

@@ -263,7 +263,7 @@ def untrusted(address: Address, fault: OSError) -> Untrusted | None:
     if isinstance(fault, ssl.SSLCertVerificationError):
         return Untrusted(f"{address}: this client does not accept the server's certificate: {fault.verify_message}")
     reason = getattr(fault, "reason", None) if isinstance(fault, ssl.SSLError) else None
-    words = set(reason.split("_")) if reason else set()
-    if reason and "ALERT" in words and words & {"CERTIFICATE", "CA", "DENIED", "DECRYPT"}:
+    parts = set(reason.split("_")) if reason else set()
+    if reason and "ALERT" in parts and parts & {"CERTIFICATE", "CA", "DENIED", "DECRYPT"}:
         return Untrusted(f"{address} does not accept this client's certificate ({reason.lower().replace('_', ' ')})")
     return None

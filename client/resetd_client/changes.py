@@ -28,15 +28,15 @@ class Changes:
         except OSError:
             self._inotify = None
         self._watched: dict[int, list[str]] = {}  # for each watch, the files in its folder
-        self._is_told = False  # whether the system reports each change from now on
+        self._is_reported = False  # whether the system reports each change from now on
 
     def descriptors(self) -> list[int] | None:
         """Returns the descriptors to wait for after the last `take`, or None if `take` has to be called every POLL_SECONDS."""
-        return [self._inotify.fileno()] if self._inotify and self._is_told else None
+        return [self._inotify.fileno()] if self._inotify and self._is_reported else None
 
     def take(self) -> list[str]:
         """Returns the files that have changed since the last call; the first call returns those that exist."""
-        changed = self._inotify.take() if self._inotify and self._is_told else None
+        changed = self._inotify.take() if self._inotify and self._is_reported else None
         if changed is None:
             self._watch_all()
             return self._changed(self._states)
@@ -49,14 +49,14 @@ class Changes:
         """Watches each folder that contains one of the files, or into which a link leads, before the files are checked."""
         if self._inotify is None:
             return
-        self._watched, self._is_told = {}, True
+        self._watched, self._is_reported = {}, True
         for folder, paths in self._folders().items():
             watch = self._inotify.watch(folder)
             if watch is None:
-                self._is_told = False
+                self._is_reported = False
             else:
                 self._watched.setdefault(watch, []).extend(paths)
-        if self._is_told:
+        if self._is_reported:
             self._inotify.take()
 
     def _changed(self, paths: Iterable[str]) -> list[str]:

@@ -48,8 +48,8 @@ def rows() -> list[Row]:
     return found
 
 
-def row_of(words: list[str]) -> Row:
-    return Row(words[1].removeprefix(MAPPED), words[2].removeprefix(MAPPED), words[3], int(words[7]), int(words[9]))
+def row_of(fields: list[str]) -> Row:
+    return Row(fields[1].removeprefix(MAPPED), fields[2].removeprefix(MAPPED), fields[3], int(fields[7]), int(fields[9]))
 
 
 def written(host: str, port: int) -> str:

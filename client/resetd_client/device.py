@@ -9,13 +9,13 @@ import subprocess
 LONGEST = 20.0  # seconds for a command
 
 
-def said(*words: str) -> str:
+def said(*command: str) -> str:
     """Returns the output of a command, or the reason why there is none."""
     try:
-        done = subprocess.run(words, stdin=subprocess.DEVNULL, capture_output=True, encoding="utf-8", errors="replace",
+        done = subprocess.run(command, stdin=subprocess.DEVNULL, capture_output=True, encoding="utf-8", errors="replace",
                               timeout=LONGEST, check=False)
     except (OSError, subprocess.TimeoutExpired) as fault:
-        return f"{words[0]}: {fault.strerror if isinstance(fault, OSError) else f'the command did not end within {LONGEST:g} s'}\n"
+        return f"{command[0]}: {fault.strerror if isinstance(fault, OSError) else f'the command did not end within {LONGEST:g} s'}\n"
     return done.stdout + done.stderr
 
 
@@ -61,8 +61,8 @@ def kernel_lines(path: str) -> str:
     if not names:
         return "the file is not on a block device of this machine\n"
     wanted = re.compile(r"\b(?:" + "|".join(map(re.escape, names)) + r")\b")
-    told = said("journalctl", "--dmesg", "--no-pager", "--quiet", "--output", "short-iso").splitlines()
-    if len(told) < 2:  # there is no journal, or this user may not read it
-        told = said("dmesg", "--time-format", "iso").splitlines()
-    lines = "".join(f"{line}\n" for line in told if wanted.search(line))
-    return lines or f"none of the kernel's {len(told):,} messages is about {', '.join(names)}\n"
+    messages = said("journalctl", "--dmesg", "--no-pager", "--quiet", "--output", "short-iso").splitlines()
+    if len(messages) < 2:  # there is no journal, or this user may not read it
+        messages = said("dmesg", "--time-format", "iso").splitlines()
+    lines = "".join(f"{line}\n" for line in messages if wanted.search(line))
+    return lines or f"none of the kernel's {len(messages):,} messages is about {', '.join(names)}\n"

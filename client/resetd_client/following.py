@@ -24,7 +24,7 @@ STOP_SECONDS = 0.1  # between two checks for a `stop`, while it waits for wake-u
 FIRST_WAIT = 0.01  # seconds between looks while others are not through: nothing wakes a member when another one confirms
 MOST_WAITS = 20  # at which that wait, longer by 1.3 each time, stops growing: about 2 seconds
 PUSH_SECONDS = 1.0  # to wait for a view that the proxy pushes after an order
-TOLD_SECONDS = 2.0  # between looks while others are not through, if the proxy reports each change
+REPORTED_SECONDS = 2.0  # between looks while others are not through, if the proxy reports each change
 PAST_SECONDS = 30.0  # for which all answering addresses may show the past, until one reset is asked for to find out
 DOUBT_SECONDS = 0.1  # between a message of another run and the look for it: more such messages cause no more looks
 
@@ -45,7 +45,7 @@ class Following:
     port: Port
 
     def __init__(self, orders: Orders | AtFront, told: Callable[[str], None] = warn) -> None:
-        self.orders, self._told = orders, told
+        self.orders, self._report = orders, told
         self._at_proxy = orders if isinstance(orders, AtFront) else None
         self.past_seconds = PAST_SECONDS
         self._settled = 0  # the number of steps in the last view
@@ -66,18 +66,18 @@ class Following:
 
     def _look_patiently(self) -> View | None:
         """Looks, and repeats that while the coordinator is away. Returns None once `stop` was called."""
-        wait, is_told, past = 0.1, False, time.monotonic() + self.past_seconds
+        wait, is_reported, past = 0.1, False, time.monotonic() + self.past_seconds
         while not self._is_stopping:
             try:
                 return self.look()
             except Stopped:
                 return None
             except Away as away:
-                if not is_told:
-                    self._told(f"{away}; trying again")
+                if not is_reported:
+                    self._report(f"{away}; trying again")
                 if not isinstance(away, Past):
                     past = time.monotonic() + self.past_seconds
-            is_told = True
+            is_reported = True
             if time.monotonic() >= past:
                 past = math.inf
                 self._find_out()
@@ -89,8 +89,8 @@ class Following:
         """Asks for one reset of a node that it serves: an address that carries the order out does not show the past. An old
         coordinator carries out nothing; then the answer is awaited only as long as the port waits."""
         node = self._served_node()
-        self._told(f"node {node}: every address that answers shows fewer steps than were seen before: asking for a reset, to find out "
-                   "which address serves the store")
+        self._report(f"node {node}: every address that answers shows fewer steps than were seen before: asking for a reset, to find out "
+                     "which address serves the store")
         with suppress(Away):
             raise_unless(self.orders.order_all([{"op": "reset", "node": node}]), {Refusal.UNKNOWN_NODE})
 
@@ -120,7 +120,7 @@ class Following:
         member when another one confirms; it grows each time, because a member that is down delays the others."""
         self._waits = 0 if is_through else min(self._waits + 1, MOST_WAITS)
         if not is_through and self._at_proxy and self._at_proxy.descriptors():
-            return min(every, TOLD_SECONDS)
+            return min(every, REPORTED_SECONDS)
         return every if is_through else min(every, FIRST_WAIT * 1.3 ** self._waits)
 
     def _view(self) -> View:
@@ -155,7 +155,7 @@ class Following:
         """Asks for a reset, and logs only the first in a row. It is not an error if the node was removed meanwhile. Raises like
         `_confirm`."""
         if node not in self._asked:
-            self._told(f"node {node}: {why}: asking for a reset")
+            self._report(f"node {node}: {why}: asking for a reset")
         self._asked.add(node)
         passed = {Refusal.UNKNOWN_NODE, Refusal.BAD_EPOCH}
         if isinstance(self.orders, AtFront):

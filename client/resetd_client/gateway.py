@@ -38,11 +38,11 @@ class Desk:
         self.seats = [Seat(os.path.join(folder, name)) for name in names]
         self._least = max([numbers.get(seat.name, 0) for seat in self.seats], default=0)
         self.starts = Starts(shelf, node, self._begun())
-        self.telling: int | None = None  # the epoch of this process's last instruction, until it is confirmed
+        self.instructed: int | None = None  # the epoch of this process's last instruction, until it is confirmed
         self.tag: str | None = None  # of the run in which the members may talk; empty if the node is alone
 
     @property
-    def told(self) -> str:
+    def instruction(self) -> str:
         """The last instruction to the members, empty if there was none."""
         return self._shelf.told(self.node)
 
@@ -51,42 +51,42 @@ class Desk:
         self.starts.work = begun = self._begun()
         if begun is not None and self.starts.begun != begun:
             self.starts.note_begun(begun)
-        return Due.WAIT if self._is_told(row) else self.starts.due(view, row)
+        return Due.WAIT if self._is_instructed(row) else self.starts.due(view, row)
 
     def has_begun(self, row: Node) -> bool:
         """Returns whether all members have begun as this process instructed, and that is stored, so that it can be confirmed."""
-        return self._is_told(row) and self.starts.begun == row.epoch
+        return self._is_instructed(row) and self.starts.begun == row.epoch
 
     def awaits_begin(self) -> bool:
         """Returns whether this process instructed the members to begin, and not all of them have."""
-        return self.telling is not None and self._begun() is None
+        return self.instructed is not None and self._begun() is None
 
     def note_begin(self, epoch: int) -> None:
         """Records that all members are to begin an epoch."""
-        number = 1 + max([self._least, number_of(self.told), *(seat.number for seat in self.seats)])
+        number = 1 + max([self._least, number_of(self.instruction), *(seat.number for seat in self.seats)])
         self.starts.note_begin(told=f"{epoch} {number}\n")
-        self.telling = epoch
+        self.instructed = epoch
 
     def note_confirmed(self) -> None:
         """Records that the instructed epoch, which all members have begun, was confirmed."""
-        self.telling = None
+        self.instructed = None
 
     def lines(self, boot: str) -> str:
         """Returns the instructions to the node's members (seats.py)."""
         run = "" if self.tag is None else f" {self.tag or '-'} {boot}"
-        return "".join(f"{seat.name} {self.told.strip()}{run}\n" for seat in self.seats) if self.told else ""
+        return "".join(f"{seat.name} {self.instruction.strip()}{run}\n" for seat in self.seats) if self.instruction else ""
 
     def is_parted(self) -> bool:
         """Returns whether a talking member has refused a tag that will never equal its own."""
         refused = [tag for seat in self.seats if (tag := seat.take_refused())]
         return any(are_parted(self.tag or "", tag) for tag in refused)
 
-    def _is_told(self, row: Node) -> bool:
-        return self.telling == row.epoch and not any(seat.has_lost(self.told) for seat in self.seats)
+    def _is_instructed(self, row: Node) -> bool:
+        return self.instructed == row.epoch and not any(seat.has_lost(self.instruction) for seat in self.seats)
 
     def _begun(self) -> int | None:
-        told = self.told
-        return int(told.split()[0]) if told and all(seat.has_begun(told) for seat in self.seats) else None
+        instruction = self.instruction
+        return int(instruction.split()[0]) if instruction and all(seat.has_begun(instruction) for seat in self.seats) else None
 
 
 class Judged(NamedTuple):
@@ -119,8 +119,8 @@ class Gateway(Following):
         self._is_through = False
         self._last: View | None = None
         if earlier := [seat.name for desk in self.desks for seat in desk.seats if seat.is_earlier]:
-            self._told(f"{len(earlier)} members, such as {earlier[0]}, have instructions from a gateway of an earlier version: start them again "
-                       "with this version")
+            self._report(f"{len(earlier)} members, such as {earlier[0]}, have instructions from a gateway of an earlier version: start them again "
+                         "with this version")
 
     def look(self) -> View:
         """Queries `show` once for all members. Publishes the epochs to begin, confirms the begun ones, asks for resets, and
@@ -150,7 +150,7 @@ class Gateway(Following):
             return None
 
     def _awaits_members(self) -> bool:
-        return any(desk.telling is not None for desk in self.desks)
+        return any(desk.instructed is not None for desk in self.desks)
 
     def _look_from(self, view: View) -> View:
         for _ in range(MOST_TURNS):
@@ -158,7 +158,7 @@ class Gateway(Following):
             rows = {row.node: row for row in view.nodes}
             self._note_absent({desk.node for desk in self.desks} - set(rows))
             judged = self._judge(view, rows)
-            self._tell_members(view, judged)
+            self._instruct_members(view, judged)
             if not self._order_what_is_due(view, judged):
                 return view
             self._waits = 0
@@ -188,13 +188,13 @@ class Gateway(Following):
         self._is_through = len(judged) == len(self.desks) and all(each.due is Due.TALK for each in judged)
         return judged
 
-    def _tell_members(self, view: View, judged: list[Judged]) -> None:
+    def _instruct_members(self, view: View, judged: list[Judged]) -> None:
         """Publishes the run in which members may talk, and the epochs that they must begin."""
         talking = {each.desk.node for each in judged if each.due is Due.TALK}
         self._asked -= talking
         for desk in self.desks:
             desk.tag = desk.starts.tag(view, self._word) if desk.node in talking else None
-        self._board.tell("".join(desk.lines(self._boot) for desk in self.desks))
+        self._board.publish("".join(desk.lines(self._boot) for desk in self.desks))
 
     def _order_what_is_due(self, view: View, judged: list[Judged]) -> bool:
         """Confirms the begun epochs, and asks for one reset at a time, because it may reach the other nodes too. Returns
@@ -223,5 +223,5 @@ class Gateway(Following):
 
     def _note_absent(self, absent: set[int]) -> None:
         if absent != self._absent:
-            self._told(f"nodes of this gateway that do not exist: {sorted(absent) or 'none'}")
+            self._report(f"nodes of this gateway that do not exist: {sorted(absent) or 'none'}")
         self._absent = absent

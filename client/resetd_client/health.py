@@ -45,13 +45,13 @@ class Health:
     is_stopped: bool = False
 
 
-def check(port: Port, since: Since, bounds: Bounds, patience: float = 0.0, signals: Signals | None = None,
+def check(port: Port, since: Since, bounds: Bounds, timeout: float = 0.0, signals: Signals | None = None,
           store: str | None = None) -> Health:
-    """Queries the server and returns the findings. If no view arrives within `patience` seconds, findings that were already
+    """Queries the server and returns the findings. If no view arrives within `timeout` seconds, findings that were already
     active stay active. `store` is the file that the coordinator should be serving. Raises NotTaken."""
     comparison = Comparison(store)
     try:
-        view = patiently(port.show, patience)
+        view = patiently(port.show, timeout)
     except NotNow as not_now:
         return Health(Level.CRITICAL, (f"the server answers {not_now.name}",), not_now.name == "Stopped")
     except Away as away:

@@ -217,7 +217,7 @@ class Member(Following):
             self.follow(self._wakes, self._every)
         except BaseException as fault:  # raised to the caller when the `with` ends
             self._fault = fault
-            self._told(f"node {self.node}: the member has stopped following the coordinator because of {fault!r}")
+            self._report(f"node {self.node}: the member has stopped following the coordinator because of {fault!r}")
             self._set_run(None)
 
     def _sooner(self, began: float) -> float:
@@ -304,7 +304,7 @@ class Member(Following):
 
     def _note_presence(self, is_there: bool) -> None:
         if is_there != self._is_there:
-            self._told(f"node {self.node} {'exists again' if is_there else 'does not exist'}")
+            self._report(f"node {self.node} {'exists again' if is_there else 'does not exist'}")
         if not is_there:
             self._set_run(None)
         self._is_there = is_there

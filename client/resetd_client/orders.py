@@ -251,9 +251,9 @@ class Orders:
             self._owner = None
         if is_new:
             first = pending[0] if pending else {}
-            behind = {"behind": pending[1:]} if len(pending) > 1 else {}
+            later = {"behind": pending[1:]} if len(pending) > 1 else {}
             (files.put if self.recovers else files.keep)(self._path, json.dumps(
-                {"number": number + bool(pending), "answered": not pending, "order": first, **behind}))
+                {"number": number + bool(pending), "answered": not pending, "order": first, **later}))
 
     def _read(self, text: str) -> Kept:
         try:

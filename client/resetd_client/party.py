@@ -30,7 +30,7 @@ def is_alone(party: Party) -> bool:
 
 def nodes_of(party: Party) -> frozenset[int]:
     """Returns the nodes of the party."""
-    return frozenset(int(words[0]) for line in party if len(words := line.split()) == 2)
+    return frozenset(int(fields[0]) for line in party if len(fields := line.split()) == 2)
 
 
 def tag_of(first: Party, shown: Party, word: str = "") -> str:

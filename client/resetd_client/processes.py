@@ -15,7 +15,7 @@ from collections.abc import Iterator
 from dataclasses import dataclass
 
 LISTENS = "0A"  # the state in /proc/net/tcp
-MOST_WORDS = 400  # characters of a command
+MOST_CHARACTERS = 400  # characters of a command
 LOOK_SECONDS = 0.5  # how long a thread has to be in one call, or in none, to count
 NETWORK = 0x40000000  # CLONE_NEWNET, for setns(2)
 
@@ -52,10 +52,10 @@ def commanded(process: int) -> str:
     """Returns the command line of a process as one line, if it can be read. A very long one is cut."""
     try:
         with open(f"/proc/{process}/cmdline", "rb") as file:
-            words = " ".join(file.read().replace(b"\0", b" ").decode("utf-8", "replace").split())
+            command = " ".join(file.read().replace(b"\0", b" ").decode("utf-8", "replace").split())
     except OSError:
         return ""
-    return f" ({words[:MOST_WORDS]}{' ..' if len(words) > MOST_WORDS else ''})" if words else ""
+    return f" ({command[:MOST_CHARACTERS]}{' ..' if len(command) > MOST_CHARACTERS else ''})" if command else ""
 
 
 def file_limit(process: int) -> int | None:

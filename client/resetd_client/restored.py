@@ -24,11 +24,11 @@ def renew(port: Port, orders: Orders, seconds: float) -> str:
     patiently(orders.recover, seconds)
     view = first = patiently(port.show, seconds)
     until = time.monotonic() + seconds
-    while behind := not_risen(first, view):
+    while lagging := not_risen(first, view):
         if time.monotonic() > until:
-            raise Away(f"there is no new epoch yet at {named(behind)}: run `resetctl resend`, and then this command again")
+            raise Away(f"there is no new epoch yet at {named(lagging)}: run `resetctl resend`, and then this command again")
         for group in groups(view):
-            due = [node for node in group if node.node in behind]
+            due = [node for node in group if node.node in lagging]
             if due and all(node.mode == "ready" for node in group):
                 reset(orders, due[0].node, view.accepted, seconds)
         time.sleep(LOOK_SECONDS)

@@ -30,7 +30,7 @@ from .party import is_same_run
 from .since import boot_name
 
 BEGUN = re.compile(r"(?:lost )?[0-9]+ ([0-9]+)\n", re.ASCII)
-TOLD = re.compile(r"^(\S+) ([0-9]+) ([0-9]+)(?: (\S+) (\S+))?\n", re.ASCII | re.MULTILINE)
+INSTRUCTION = re.compile(r"^(\S+) ([0-9]+) ([0-9]+)(?: (\S+) (\S+))?\n", re.ASCII | re.MULTILINE)
 NAME = re.compile(r"[^\s/]+", re.ASCII)
 BOARD = "told"  # the folder of the gateway's file; no member has this name
 WAIT_SECONDS = 1.0
@@ -75,9 +75,9 @@ class Board:
         self._path = board_in(folder)
         os.makedirs(os.path.dirname(self._path), exist_ok=True)
         self._text = files.read(self._path)
-        self.numbers = {name: int(number) for name, _, number, _, _ in TOLD.findall(self._text or "")}  # the last instructions
+        self.numbers = {name: int(number) for name, _, number, _, _ in INSTRUCTION.findall(self._text or "")}  # the last instructions
 
-    def tell(self, text: str) -> None:
+    def publish(self, text: str) -> None:
         """Publishes the instructions to all members at once, unless they are the same as last time."""
         if text != self._text:
             os.makedirs(os.path.dirname(self._path), exist_ok=True)
@@ -106,13 +106,13 @@ class Seat:
     def written_by_member(self) -> list[str]:
         return [os.path.join(self.folder, name) for name in ("begun", "refused")]
 
-    def has_begun(self, told: str) -> bool:
+    def has_begun(self, instruction: str) -> bool:
         """Returns whether the member has begun as instructed."""
-        return line_of(self._begun.read()) == told
+        return line_of(self._begun.read()) == instruction
 
-    def has_lost(self, told: str) -> bool:
+    def has_lost(self, instruction: str) -> bool:
         """Returns whether the member reports that the work of this instruction is lost."""
-        return line_of(self._begun.read()) == f"lost {told}"
+        return line_of(self._begun.read()) == f"lost {instruction}"
 
     def take_refused(self) -> str | None:
         """Returns the tag that the member refused last, if it has refused one since the last call."""
@@ -141,7 +141,7 @@ class Served:
         """`folder` is the member's own folder: NAME, inside the gateway's FOLDER."""
         os.makedirs(folder, exist_ok=True)
         self._folder, self._name = os.path.abspath(folder), os.path.basename(os.path.abspath(folder))
-        self._told = ""
+        self._instruction = ""
         self._own_line = re.compile(rf"^{re.escape(self._name)} ([0-9]+) ([0-9]+)(?: (\S+) (\S+))?\n", re.ASCII | re.MULTILINE)
         path = board_in(os.path.dirname(self._folder))
         os.makedirs(os.path.dirname(path), exist_ok=True)
@@ -157,7 +157,7 @@ class Served:
         epoch, number, _, _ = self._line()
         if number <= number_of(self._begun.read()):
             return None
-        self._told = f"{epoch} {number}\n"
+        self._instruction = f"{epoch} {number}\n"
         return epoch
 
     def has_begun(self, work: str = "", is_synced: bool = True) -> None:
@@ -165,7 +165,7 @@ class Served:
         written together with this report, in one file: so neither can exist without the other, and a begin costs two syncs,
         instead of the four that a separate file, synced before this call, would take. If the work is in memory, nothing has
         to be synced: the member's next process calls `has_lost` when it starts."""
-        (files.keep if is_synced else files.put)(os.path.join(self._folder, "begun"), self._told + work)
+        (files.keep if is_synced else files.put)(os.path.join(self._folder, "begun"), self._instruction + work)
 
     def work(self) -> str | None:
         """The work given to `has_begun`, or None if nothing is begun or its work was lost."""

@@ -39,14 +39,14 @@ class Row:
     kept: Kept = Kept()
     count: int | None = None
     foreseen: tuple[str, ...] = ()
-    told: str | None = None
+    instruction: str | None = None
     floor: int | None = None
     is_synced_form: bool = False
 
     @property
     def is_empty(self) -> bool:
         """Returns whether the row says only that nothing is begun."""
-        return self.kept == Kept() and self.told is None and self.floor is None
+        return self.kept == Kept() and self.instruction is None and self.floor is None
 
 
 def read_rows(path: str, text: str | None, boot: str) -> dict[int, Row]:
@@ -72,14 +72,14 @@ def read_row(row: dict[str, object], boot: str) -> Row:
     party = None if row["party"] is None else frozenset(str(line) for line in _list(row["party"]))
     if "epoch" in row:
         return Row(Kept(None, party), floor=_number(row["epoch"]))
-    told = None if "told" not in row else str(row["told"])
+    instruction = None if "told" not in row else str(row["told"])
     if "boot" in row:
         if row["boot"] != boot or not boot:
-            return Row(told=told)
-        return Row(Kept(_number(row["loaded"])), foreseen=tuple(map(str, _list(row["foreseen"]))), told=told)
+            return Row(instruction=instruction)
+        return Row(Kept(_number(row["loaded"])), foreseen=tuple(map(str, _list(row["foreseen"]))), instruction=instruction)
     begun = None if row["begun"] is None else _number(row["begun"])
     count = _number(row["count"]) if "count" in row else None
-    return Row(Kept(begun, party), count, told=told, is_synced_form=begun is not None and party is None)
+    return Row(Kept(begun, party), count, instruction=instruction, is_synced_form=begun is not None and party is None)
 
 
 def text_of(rows: dict[int, Row], boot: str) -> str:
@@ -88,13 +88,13 @@ def text_of(rows: dict[int, Row], boot: str) -> str:
 
 
 def members_of(row: Row, boot: str) -> dict[str, object]:
-    kept, told = row.kept, {} if row.told is None else {"told": row.told}
+    kept, instruction = row.kept, {} if row.instruction is None else {"told": row.instruction}
     if row.floor is not None:
         return {"epoch": row.floor, "party": lines_of(kept.party)}
     if kept.begun is not None and kept.party is None:
-        return {"begun": None, "party": None, "loaded": kept.begun, "foreseen": list(row.foreseen), "boot": boot, **told}
+        return {"begun": None, "party": None, "loaded": kept.begun, "foreseen": list(row.foreseen), "boot": boot, **instruction}
     count = {} if row.count is None else {"count": row.count}
-    return {"begun": kept.begun, "party": lines_of(kept.party), **count, **told}
+    return {"begun": kept.begun, "party": lines_of(kept.party), **count, **instruction}
 
 
 def lines_of(party: Party | None) -> list[str] | None:

@@ -66,7 +66,7 @@ class Shelf:
     def told(self, node: int) -> str:
         """Returns a gateway's last instruction to the members of a node, `EPOCH NUMBER` and a line feed; empty if there was
         none."""
-        return self._row(node).told or ""
+        return self._row(node).instruction or ""
 
     def floor(self, node: int) -> int | None:
         """Returns the greatest epoch that a node has ever begun, if the file has the oldest form."""
@@ -75,7 +75,7 @@ class Shelf:
     def put(self, node: int, kept: Kept, *, told: str | None = None) -> None:
         """Replaces a node's start. The next `keep` or `write` writes it to the file."""
         before = self._row(node)
-        row = Row(kept, before.count if kept == before.kept else None, before.foreseen, before.told if told is None else told)
+        row = Row(kept, before.count if kept == before.kept else None, before.foreseen, before.instruction if told is None else told)
         if row != before:
             self._set(node, row)
 

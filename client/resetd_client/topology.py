@@ -60,8 +60,8 @@ class Order:
     note: str = ""
 
     def __str__(self) -> str:
-        words = " ".join([self.op, *map(str, self.members.values())])
-        return f"{words}    # {self.note}" if self.note else words
+        line = " ".join([self.op, *map(str, self.members.values())])
+        return f"{line}    # {self.note}" if self.note else line
 
 
 def read_topology(text: bytes) -> Network:

@@ -134,12 +134,12 @@ class Watched:
         self._pause, self._not_before = FIRST_PAUSE, 0.0
         self._seen: View | None = None
         self._new: View | None = None  # the newest view, until `take` returns it
-        self._is_untold = False  # whether that view arrived after the last wait
+        self._is_unreported = False  # whether that view arrived after the last wait
 
     def take(self) -> View | None:
         """Returns the newest view once, if it is newer than all orders that were sent over the connection."""
         view = self._new if self.has_view else None
-        self._new, self._is_untold = None, False
+        self._new, self._is_unreported = None, False
         return view
 
     @property
@@ -201,7 +201,7 @@ class Watched:
         """Stores a view if it differs from the last one."""
         if view != self._seen:
             self._seen = self._new = view
-            self._is_untold = True
+            self._is_unreported = True
 
     @property
     def _address(self) -> Address:
@@ -212,10 +212,10 @@ class Watched:
         NotTaken (Garbled, or Faulted if the policy does not allow `watch`) and Untrusted."""
         until = time.monotonic() + seconds
         while True:
-            if not self._is_untold:
+            if not self._is_unreported:
                 self._wait_for_view(until - time.monotonic())
-            if self._is_untold:
-                self._is_untold = False
+            if self._is_unreported:
+                self._is_unreported = False
                 return Wake.CAME
             if time.monotonic() >= until:
                 return Wake.QUIET
@@ -251,11 +251,11 @@ class Watched:
             self._take(pushed, view)
             self._pause = FIRST_PAUSE
         if pushed.is_over:
-            is_untold, new, seen = self._is_untold, self._new, self._seen
+            is_unreported, new, seen = self._is_unreported, self._new, self._seen
             self.close()
             self._put_off()
             if view is not None:  # it arrived before the end
-                self._is_untold, self._new, self._seen = is_untold, new, seen
+                self._is_unreported, self._new, self._seen = is_unreported, new, seen
 
     def _connect(self, seconds: float) -> None:
         """Connects to the next address, once its pause is over. Waits at most this many seconds."""
@@ -269,7 +269,7 @@ class Watched:
         """Records that the proxy was away. The next address is tried after a growing pause, and its first view counts as new."""
         self._turn += 1
         self._seen = self._new = None
-        self._is_untold = False
+        self._is_unreported = False
         self._not_before = time.monotonic() + self._pause
         self._pause = min(2 * self._pause, PAUSE)
 

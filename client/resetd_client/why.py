@@ -128,8 +128,8 @@ def of_limit(who: str, limit: int | None, needed: int) -> Iterator[Finding]:
 
 def of_store(store: Store) -> Iterator[Finding]:
     half = store.half
-    behind = store.count - store.world.count
-    yield Finding("store", f"version {half.version}, {store.count:,} steps: {store.world.count:,} in the snapshot, {behind:,} in "
+    after = store.count - store.world.count
+    yield Finding("store", f"version {half.version}, {store.count:,} steps: {store.world.count:,} in the snapshot, {after:,} in "
                            f"{len(store.batches):,} batches after it")
     yield Finding("store", f"half {half.index} is selected; {half.used:,} of its {half.size:,} bytes are used")
     nodes = [node for node, mode in store.world.modes.items() if mode != "ready"]

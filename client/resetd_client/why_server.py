@@ -121,13 +121,13 @@ def of_silence(address: str, servers: list[int]) -> Iterator[Finding]:
     having = peers(*host_and_port(address))
     for peer in having:
         if peer.is_served:
-            yield Finding("client", f"{told_peer(peer)} has the server's only connection, so no other client is served: end that client, or wait "
+            yield Finding("client", f"{peer_text(peer)} has the server's only connection, so no other client is served: end that client, or wait "
                                     f"at most {KEPT_SECONDS}", later="a client keeps the server's only connection")
     if waiting := [peer for peer in having if not peer.is_served and peer.user is not None]:
-        yield Finding("client", f"{', '.join(map(told_peer, waiting))} {'wait' if len(waiting) > 1 else 'waits'} for a connection")
+        yield Finding("client", f"{', '.join(map(peer_text, waiting))} {'wait' if len(waiting) > 1 else 'waits'} for a connection")
 
 
-def told_peer(peer: Peer) -> str:
+def peer_text(peer: Peer) -> str:
     """Describes a client by its processes, or by its user if the processes can't be seen."""
     if peer.processes:
         return " and ".join(f"process {each}{commanded(each)}" for each in peer.processes) + (
