@@ -33,7 +33,7 @@ class Case(unittest.TestCase):
         self.addCleanup(temporary.cleanup)
         self.folder = temporary.name
         self.port = Port(self.server.address, 120)
-        self.told: list[str] = []
+        self.messages: list[str] = []
 
     def started(self) -> Any:
         """Starts a coordinator: a Fake or a Real, which have the same interface."""
@@ -42,15 +42,15 @@ class Case(unittest.TestCase):
         return server
 
     def orders(self, client: int = 1, name: str = "orders", recovers: bool = False) -> Orders:
-        orders = Orders(self.port, client, f"{self.folder}/{name}", recovers=recovers, told=self.told.append)
+        orders = Orders(self.port, client, f"{self.folder}/{name}", recovers=recovers, told=self.messages.append)
         self.addCleanup(orders.close)
         return orders
 
-    def run_words(self, *words: str, address: str = "") -> tuple[int, str, str]:
+    def run_resetctl(self, *arguments: str, address: str = "") -> tuple[int, str, str]:
         """Runs `resetctl` with these arguments. Returns its status, its output, and its messages."""
         out, err = io.StringIO(), io.StringIO()
         with redirect_stdout(out), redirect_stderr(err), mock.patch("resetd_client.control.base.SILENCE_SECONDS", 60.0):
-            status = main(["--address", address or self.server.address, "--state", self.folder, "--patience", "0", *words])
+            status = main(["--address", address or self.server.address, "--state", self.folder, "--patience", "0", *arguments])
         return status, out.getvalue(), err.getvalue()
 
 

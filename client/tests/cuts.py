@@ -7,7 +7,7 @@ between a write and its sync, in `begin`, before and after each order, and betwe
 come again, parties that come again, manual confirms. The judge is that of the theorem about members (NoMix in
 crates/coord_member), for one member.
 
-usage: cuts.py [LIVES] [--without PART]      LIVES of each kind of work (20,000); PART is one of PARTS, which is left out
+usage: cuts.py [COUNT] [--without PART]      COUNT scenarios of each kind of work (20,000); PART is one of PARTS, which is left out
 """
 
 from __future__ import annotations
@@ -44,7 +44,7 @@ PARTS = {
     "earlier": "a file of an earlier version, which says that an epoch is begun, is not replaced before the start talks",
 }
 START, HISTORY = "/disk/start-1.json", "/disk/start-1.history"
-MOST_LIVES = 5  # of a member's process
+MOST_PROCESSES = 5  # of a member, one after another, in a scenario
 
 Start = tuple[int, int] | None  # the epoch stored with the work, and the number of the begin that made it
 
@@ -139,9 +139,9 @@ CALLS = {"keep": Disk.keep, "put": Disk.put, "overwrite": Disk.put, "empty": Dis
 
 @contextmanager
 def in_memory(without: str) -> Iterator[None]:
-    """Redirects the library's files to the disk of the present life."""
+    """Redirects the library's files to the disk of the present scenario."""
     def of_now(call: Any) -> Any:
-        return lambda *words: call(Now.disk, *words)
+        return lambda *arguments: call(Now.disk, *arguments)
     with ExitStack() as stack:
         for name, call in CALLS.items():
             stack.enter_context(mock.patch(f"resetd_client.files.{name}", of_now(call)))
@@ -208,8 +208,8 @@ def view_of(links: list[list[int]], nodes: list[list[object]]) -> View:
     return View.of({"accepted": 9, "settled": 9, "links": links, "nodes": nodes})
 
 
-class Life:
-    """A member in a random life, and its messages in each run."""
+class Scenario:
+    """A member in a random scenario, and its messages in each run."""
 
     def __init__(self, seed: int, work: Work, without: str) -> None:
         self.rng = random.Random(seed)
@@ -250,7 +250,7 @@ class Life:
         if run is not None and run.tag:
             self.talked.append((self.start, run.tag.split("-")[0]))
 
-    def live(self, place: int) -> None:
+    def run_process(self, place: int) -> None:
         """Runs a process until it ends: the first, the second and so on."""
         if self.work is Work.MEMORY:
             self.start, self.maybe = None, [None]
@@ -295,26 +295,26 @@ def leave_out(without: str, shelf: Shelf) -> None:
 
 
 def search(seeds: Iterator[int] | range, work: Work, without: str = "") -> tuple[int, str] | None:
-    """Returns the first life that violates the theorem, and how."""
+    """Returns the first scenario that violates the theorem, and how."""
     with in_memory(without):
         for seed in seeds:
-            life = Life(seed, work, without)
-            Now.disk = life.disk
-            for place in range(life.rng.randint(3 if life.is_calm else 2, MOST_LIVES)):
-                life.live(place)
-            if fault := life.fault():
+            scenario = Scenario(seed, work, without)
+            Now.disk = scenario.disk
+            for place in range(scenario.rng.randint(3 if scenario.is_calm else 2, MOST_PROCESSES)):
+                scenario.run_process(place)
+            if fault := scenario.fault():
                 return seed, fault
     return None
 
 
 def main() -> None:
-    lives = next((int(word) for word in sys.argv[1:] if word.isdigit()), 20_000)
+    count = next((int(word) for word in sys.argv[1:] if word.isdigit()), 20_000)
     without = sys.argv[sys.argv.index("--without") + 1] if "--without" in sys.argv else ""
     if without and without not in PARTS:
         sys.exit(__doc__)
-    found = {work: search(range(lives), work, without) for work in Work}
+    found = {work: search(range(count), work, without) for work in Work}
     for work, fault in found.items():
-        print(f"{work.name.lower():7} {f'life {fault[0]}: {fault[1]}' if fault else f'no violation in {lives:,} lives'}", flush=True)
+        print(f"{work.name.lower():7} {f'scenario {fault[0]}: {fault[1]}' if fault else f'no violation in {count:,} scenarios'}", flush=True)
     sys.exit(any(found.values()))
 
 

@@ -10,7 +10,7 @@ SELECTOR = 0
 
 
 class Journal:
-    """The life of a store. `states` are the bytes of the file at each moment, and `contents` what the selected half holds then:
+    """The history of a store. `states` are the bytes of the file at each moment, and `contents` what the selected half holds then:
     its index, its snapshot, and its bodies."""
 
     def __init__(self, choice: random.Random, size: int, appends: int) -> None:

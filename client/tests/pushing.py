@@ -141,10 +141,10 @@ def make_certificates(folder: str) -> None:
             *(["-CA", f"{folder}/{signed_by}.pem", "-CAkey", f"{folder}/{signed_by}.key"] if signed_by else []))
 
 
-def ran(*words: str) -> None:
-    done = subprocess.run(words, capture_output=True, encoding="utf-8", check=False)
+def ran(*command: str) -> None:
+    done = subprocess.run(command, capture_output=True, encoding="utf-8", check=False)
     if done.returncode:
-        raise RuntimeError(f"{words}: {done.stderr}")
+        raise RuntimeError(f"{command}: {done.stderr}")
 
 
 def of_unix(fake: Fake, path: str) -> Pushing:

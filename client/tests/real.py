@@ -1,4 +1,4 @@
-"""Replaces the coordinator in memory by the program: `resetd serve` over a new store, after a port that fails in the ways that
+"""Replaces the coordinator in memory by the program: `resetd serve` over a new store, behind a port that fails in the ways that
 a test asks for."""
 
 from __future__ import annotations

@@ -21,7 +21,7 @@ from resetd_client.address import SERVER, addresses_of, default_address
 from resetd_client.control import main
 
 
-class Words(unittest.TestCase):
+class Parsing(unittest.TestCase):
     def test_what_an_address_is(self) -> None:
         text = "127.0.0.1:4170,unix:/run/proxy, tls:host.example:443,host:1"
         found = addresses_of(text, Credentials())
@@ -219,10 +219,10 @@ class Certificates(Case):
         self.assertRaises(Unreadable, Credentials.found, {"RESETD_TLS": "/none"})
 
     def test_resetctl(self) -> None:
-        words = ("--certificate", f"{self.pem}/client.pem", "--key", f"{self.pem}/client.key")
-        status, out, told = self.run_words(*words, "--authority", f"{self.pem}/authority.pem", "show", address=self.address)
-        self.assertEqual((status, "node group" in out), (0, True), told)
-        status, _, told = self.run_words(*words, "--authority", f"{self.pem}/foreign.pem", "show", address=self.address)
-        self.assertEqual((status, "does not accept the server's certificate" in told), (1, True), told)
-        status, _, told = self.run_words(*words, "show", address=self.address)
-        self.assertEqual((status, "these are not set: authority" in told), (1, True), told)
+        options = ("--certificate", f"{self.pem}/client.pem", "--key", f"{self.pem}/client.key")
+        status, out, errors = self.run_resetctl(*options, "--authority", f"{self.pem}/authority.pem", "show", address=self.address)
+        self.assertEqual((status, "node group" in out), (0, True), errors)
+        status, _, errors = self.run_resetctl(*options, "--authority", f"{self.pem}/foreign.pem", "show", address=self.address)
+        self.assertEqual((status, "does not accept the server's certificate" in errors), (1, True), errors)
+        status, _, errors = self.run_resetctl(*options, "show", address=self.address)
+        self.assertEqual((status, "these are not set: authority" in errors), (1, True), errors)

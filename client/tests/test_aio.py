@@ -30,7 +30,7 @@ class Coroutines(Case):
             self.begun.append(epoch)
 
         async def both() -> None:
-            member = aio.Member(self.port, self.orders(), 1, None, begin, told=self.told.append)
+            member = aio.Member(self.port, self.orders(), 1, None, begin, told=self.messages.append)
             following = asyncio.create_task(member.follow(wakes or Clock(), 0.2))
             working = asyncio.ensure_future(work(member))
             await asyncio.wait([following, working], return_when=asyncio.FIRST_COMPLETED)
@@ -147,7 +147,7 @@ class Coroutines(Case):
         async def follow() -> None:
             async def begin(epoch: int) -> None:
                 self.begun.append(epoch)
-            member = aio.Member(self.port, self.orders(), 1, None, begin, told=self.told.append)
+            member = aio.Member(self.port, self.orders(), 1, None, begin, told=self.messages.append)
             os.close(writer)
             await member.follow(Stream(reader))
             following = asyncio.create_task(member.follow(Stream(silent)))
@@ -174,7 +174,7 @@ class Loops(Case):
     def test_what_would_block_a_loop_is_refused(self) -> None:
         """It is refused only in the loop's own thread."""
         self.server.ring(1)
-        member = Member(self.port, self.orders(), 1, None, lambda _: None, told=self.told.append)
+        member = Member(self.port, self.orders(), 1, None, lambda _: None, told=self.messages.append)
         member.look()
 
         def enter() -> None:

@@ -63,7 +63,7 @@ class Answers(Case):
         answers = list(self.port.ask_many([{"op": "resend"}] * 150))
         self.assertEqual(len(answers), 150)
 
-    def test_patience_ends(self) -> None:
+    def test_patiently_ends(self) -> None:
         self.assertRaises(Away, patiently, Port("127.0.0.1:1").show, 0.0)
 
     def test_many_lines_go_out_in_one_write_each_sixty_four(self) -> None:
@@ -83,9 +83,9 @@ class Advice(unittest.TestCase):
         with open(os.path.join(ROOT, "docs/PROTOCOL.md"), encoding="utf-8") as file:
             table = file.read().split("## Acceptance and refusals")[1].split("\n## ")[0]
         rows = re.findall(r"^\| (\d+) \| (\w+) \| .* \| (.*?) ?\|$", table, re.MULTILINE)
-        told = {int(number): re.sub(r" \(in the drill: [^)]*\)", "", text) for number, _, text in rows}
-        self.assertEqual(len(told), 22)
-        self.assertEqual({number: text for number, text in told.items() if text}, dict(WHAT_TO_DO))
+        advice = {int(number): re.sub(r" \(in the drill: [^)]*\)", "", text) for number, _, text in rows}
+        self.assertEqual(len(advice), 22)
+        self.assertEqual({number: text for number, text in advice.items() if text}, dict(WHAT_TO_DO))
         self.assertEqual([refusal.name.replace("_", "").lower() for refusal in Refusal], [name.lower() for _, name, _ in rows])
 
     def test_what_was_found_stands_before_what_to_do(self) -> None:

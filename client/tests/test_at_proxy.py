@@ -78,7 +78,7 @@ class Orders(FrontCase):
     def test_a_proxy_of_an_earlier_version(self) -> None:
         """An earlier proxy does not know these orders: that is reported in one line, and ends the member."""
         self.proxy.to_order = '{"fault":"BadRequest"}'
-        member = Member(self.port, self.at_proxy, 1, None, lambda epoch: None, told=self.told.append)
+        member = Member(self.port, self.at_proxy, 1, None, lambda epoch: None, told=self.messages.append)
         with self.assertRaisesRegex(EarlierFront, "the proxy is older than this library"):
             member.look()
 
@@ -149,12 +149,13 @@ class Members(FrontCase):
 
     def member(self, work: Work = Work.PARTS) -> Member:
         self.begun, self.runs = list[int](), list[Run | None]()
-        return Member(self.port, self.at_proxy, 1, None, self.begun.append, told=self.told.append, every=3_600.0, on_run=self.runs.append, work=work)
+        return Member(self.port, self.at_proxy, 1, None, self.begun.append, told=self.messages.append, every=3_600.0,
+                      on_run=self.runs.append, work=work)
 
     def expect(self, holds: Callable[[], bool]) -> None:
         until = time.monotonic() + SECONDS
         while not holds():
-            self.assertLess(time.monotonic(), until, self.told)
+            self.assertLess(time.monotonic(), until, self.messages)
             time.sleep(0.005)
 
     def confirmed(self) -> int:
@@ -232,8 +233,8 @@ class Members(FrontCase):
         async def begin(epoch: int) -> None:
             begun.append(epoch)
 
-        async def lives() -> None:
-            member = aio.Member(self.port, self.at_proxy, 1, None, begin, told=self.told.append, work=Work.MEMORY)
+        async def follow() -> None:
+            member = aio.Member(self.port, self.at_proxy, 1, None, begin, told=self.messages.append, work=Work.MEMORY)
             async with asyncio.timeout(SECONDS):
                 following = asyncio.create_task(member.follow(self.at_proxy, 3_600.0))
                 while self.confirmed() != 1:
@@ -245,11 +246,11 @@ class Members(FrontCase):
                 with suppress(asyncio.CancelledError):
                     await following
 
-        asyncio.run(lives())
+        asyncio.run(follow())
         self.assertEqual((begun, sorted(os.listdir(f"{self.folder}/member"))), ([1], ["lock", "start-1.history"]))
 
     def test_what_is_begun_in_memory(self) -> None:
-        self.assertRaises(BadWords, Member, self.port, self.at_proxy, 1, 4, self.told.append, work=Work.MEMORY)
+        self.assertRaises(BadWords, Member, self.port, self.at_proxy, 1, 4, self.messages.append, work=Work.MEMORY)
 
 
 class OverTls(FrontCase):

@@ -28,9 +28,9 @@ class Bash(unittest.TestCase):
         with open(self.script, "w", encoding="utf-8") as file:
             file.write(bash(parser()))
 
-    def offered(self, *words: str) -> set[str]:
-        """Returns what bash offers after these words, the last of which is incomplete."""
-        done = subprocess.run(["bash", "--norc", "-c", ASK, "bash", self.script, "resetctl", *words], capture_output=True,
+    def offered(self, *arguments: str) -> set[str]:
+        """Returns what bash offers after these arguments, the last of which is incomplete."""
+        done = subprocess.run(["bash", "--norc", "-c", ASK, "bash", self.script, "resetctl", *arguments], capture_output=True,
                               encoding="utf-8", check=False, cwd="/")
         self.assertEqual((done.returncode, done.stderr), (0, ""))
         return set(done.stdout.split())
@@ -55,8 +55,8 @@ class Bash(unittest.TestCase):
                 self.assertEqual(self.offered(*before, "sho"), {"show"})
 
     def test_files_are_left_to_bash(self) -> None:
-        for words in (("steps", ""), ("apply", "x"), ("--state", ""), ("watch", "--every", "")):
-            self.assertEqual(self.offered(*words), set())
+        for arguments in (("steps", ""), ("apply", "x"), ("--state", ""), ("watch", "--every", "")):
+            self.assertEqual(self.offered(*arguments), set())
         self.assertEqual(self.offered("steps", "--b"), {"--before"})
 
 
@@ -74,6 +74,6 @@ class Zsh(Case):
 
     def test_the_command_prints_it(self) -> None:
         for shell, script in (("bash", bash), ("zsh", zsh)):
-            self.assertEqual(self.run_words("completion", shell), (0, script(parser()), ""))
+            self.assertEqual(self.run_resetctl("completion", shell), (0, script(parser()), ""))
         done = subprocess.run([f"{ROOT}/client/resetctl", "completion", "fish"], capture_output=True, check=False)
         self.assertEqual(done.returncode, 2)

@@ -1,5 +1,5 @@
-"""Power cuts and kills at each write of a member (cuts.py): some lives of each kind, and a proof that each part of the member
-is needed, by leaving it out. CUTS is the number of lives of each kind of work (400); the nightly run uses more."""
+"""Power cuts and kills at each write of a member (cuts.py): some scenarios of each kind, and a proof that each part of the member
+is needed, by leaving it out. CUTS is the number of scenarios of each kind of work (400); the nightly run uses more."""
 
 from __future__ import annotations
 
@@ -10,8 +10,8 @@ import case  # noqa: F401
 from cuts import PARTS, search
 from resetd_client import Work
 
-LIVES = int(os.environ.get("CUTS", "400"))
-MOST = 20_000  # lives within which the violation must be found if a part is left out
+COUNT = int(os.environ.get("CUTS", "400"))
+MOST = 20_000  # scenarios within which the violation must be found if a part is left out
 OF_WHOLE = ("again",)  # parts that only work which is replaced as a whole needs
 
 
@@ -19,7 +19,7 @@ class Cuts(unittest.TestCase):
     def test_no_start_talks_in_two_runs_and_no_two_in_one(self) -> None:
         for work in Work:
             with self.subTest(work=work):
-                self.assertIsNone(search(range(LIVES), work))
+                self.assertIsNone(search(range(COUNT), work))
 
     def test_each_part_is_needed(self) -> None:
         for part in PARTS:

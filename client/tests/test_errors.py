@@ -98,14 +98,14 @@ class Unread(Case):
         with self.assertRaisesRegex(Unreadable, "remove (it|the file)"):
             Member(self.port, self.orders(), 1, None, lambda _: None)
 
-    def test_resetctl_tells_them_from_wrong_words(self) -> None:
+    def test_resetctl_distinguishes_them_from_wrong_arguments(self) -> None:
         self.server.ring(2)
         self.write(f"{self.folder}/{self.server.address.replace(':', '_')}/client-16/order.json", b"no")
-        status, _, told = self.run_words("reset", "1")
-        self.assertEqual((status, "remove the file" in told), (4, True), told)
-        self.assertEqual(self.run_words("--client", "3", "reset", "1")[0], 0)
+        status, _, errors = self.run_resetctl("reset", "1")
+        self.assertEqual((status, "remove the file" in errors), (4, True), errors)
+        self.assertEqual(self.run_resetctl("--client", "3", "reset", "1")[0], 0)
 
-    def test_words(self) -> None:
+    def test_wrong_arguments(self) -> None:
         for wrong in (lambda: Port("here"), lambda: self.orders(17)):
             self.assertRaises(BadWords, wrong)
             self.assertRaises(ValueError, wrong)  # the message for such arguments before the exception had a name

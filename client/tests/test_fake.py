@@ -23,17 +23,17 @@ VALUES: list[Any] = [-1, 0, 1, 2, 16, 17, 64, 65, (1 << 64) - 1, 1 << 64, 1.0, 1
 
 def lines() -> list[bytes]:
     """Returns lines that are no requests, requests with each member out of its range or of another type, and repeats."""
-    told = list(WRONG_LINES)
+    found = list(WRONG_LINES)
     for order in (ORDER, {"op": "add", "client": 1, "number": 1, "node": 1, "group": 1},
                   {"op": "join", "client": 1, "number": 1, "a": 1, "b": 2},
                   {"op": "confirm", "client": 1, "number": 1, "node": 1, "epoch": 0}):
         for member in order:
             if member == "op":
                 continue
-            told += [line({**order, member: value}) for value in VALUES]
-            told.append(line({name: value for name, value in order.items() if name != member}))
-        told.append(line({**order, "more": 1}))
-    return told
+            found += [line({**order, member: value}) for value in VALUES]
+            found.append(line({name: value for name, value in order.items() if name != member}))
+        found.append(line({**order, "more": 1}))
+    return found
 
 
 def line(request: dict[str, Any]) -> bytes:
@@ -60,15 +60,15 @@ class Alike(unittest.TestCase):
 
     def compare(self, text: bytes) -> dict[str, Any]:
         """Compares the two answers, except the numbers of steps, because the program's resets take further steps."""
-        told: list[dict[str, Any]] = [json.loads(self.fake.respond(text)), json.loads(self.real.respond(text))]
-        for answer in told:
+        answers: list[dict[str, Any]] = [json.loads(self.fake.respond(text)), json.loads(self.real.respond(text))]
+        for answer in answers:
             answer.pop("step", None)
-        if told[1].get("kind") == "resent":
-            told[1]["count"] = 0
-        if "nodes" in told[1]:
+        if answers[1].get("kind") == "resent":
+            answers[1]["count"] = 0
+        if "nodes" in answers[1]:
             self.real.await_settled()
-        self.assertEqual(without_steps(told[0]), without_steps(told[1]), text)
-        return told[0]
+        self.assertEqual(without_steps(answers[0]), without_steps(answers[1]), text)
+        return answers[0]
 
     def test_lines(self) -> None:
         for text in lines():

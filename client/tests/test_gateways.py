@@ -47,53 +47,53 @@ class Seats(unittest.TestCase):
     def write(self, name: str, text: str) -> None:
         keep(f"{self.folder}/{name}", text)
 
-    def tell(self, told: str, run: str = "") -> None:
+    def instruct(self, instruction: str, run: str = "") -> None:
         """Writes the member's instruction between those of two others."""
-        self.board.tell(f"0 7 7 x-y {boot_name()}\n1 {told}{run}\n11 8 8\n")
+        self.board.publish(f"0 7 7 x-y {boot_name()}\n1 {instruction}{run}\n11 8 8\n")
 
-    def begin(self, told: str) -> None:
-        self.tell(told)
+    def begin(self, instruction: str) -> None:
+        self.instruct(instruction)
         self.served.wanted()
         self.served.has_begun()
 
-    def test_what_one_member_is_told(self) -> None:
+    def test_the_instructions_to_one_member(self) -> None:
         self.assertIsNone(self.served.wanted())
         self.begin("3 1")
         self.assertEqual((self.served.wanted(), self.seat.has_begun("3 1\n"), self.seat.has_begun("3 2\n")), (None, True, False))
-        self.tell("3 2")
+        self.instruct("3 2")
         self.assertEqual(self.served.wanted(), 3)
 
-    def test_it_is_told_in_one_write(self) -> None:
+    def test_it_is_instructed_in_one_write(self) -> None:
         """Nothing is written if nothing is new."""
         with mock.patch("os.replace", side_effect=os.replace) as replaced, mock.patch("os.fsync") as synced:
             for _ in range(3):
-                self.tell("1 1", f" a-b {boot_name()}")
+                self.instruct("1 1", f" a-b {boot_name()}")
         self.assertEqual((replaced.call_count, synced.call_count), (1, 0))
 
-    def test_a_member_that_is_told_again_while_it_begins(self) -> None:
-        self.tell("1 1")
+    def test_a_member_that_is_instructed_again_while_it_begins(self) -> None:
+        self.instruct("1 1")
         self.assertEqual(self.served.wanted(), 1)
-        self.tell("2 2")
+        self.instruct("2 2")
         self.served.has_begun()
         self.assertEqual((self.seat.has_begun("2 2\n"), self.served.wanted()), (False, 2))
 
     def test_work_goes_down_with_what_is_begun(self) -> None:
         """They are in one file, whole and on the disk: the file and its folder are synced."""
         self.assertIsNone(self.served.work())
-        self.tell("1 1")
+        self.instruct("1 1")
         self.served.wanted()
         with mock.patch("os.fsync", side_effect=os.fsync) as synced:
             self.served.has_begun("some\nwork\n")
         self.assertEqual((synced.call_count, self.served.work(), self.served.wanted()), (2, "some\nwork\n", None))
         self.assertEqual((self.seat.has_begun("1 1\n"), self.seat.number, read(f"{self.folder}/1/begun")), (True, 1, "1 1\nsome\nwork\n"))
-        self.tell("1 1", f" tag {boot_name()}")
+        self.instruct("1 1", f" tag {boot_name()}")
         self.assertEqual(self.served.tag(), "tag")
         self.served.has_lost()
         self.assertEqual((self.seat.has_lost("1 1\n"), self.served.work(), self.served.tag()), (True, None, None))
 
     def test_what_is_lost_is_lost_once(self) -> None:
         """The loss also removes the work."""
-        self.tell("1 1")
+        self.instruct("1 1")
         self.served.wanted()
         self.served.has_begun("work\n")
         for _ in range(2):
@@ -102,15 +102,15 @@ class Seats(unittest.TestCase):
 
     def test_what_was_lost_before_it_was_begun(self) -> None:
         """The member still has to begin."""
-        self.tell("1 1")
+        self.instruct("1 1")
         self.served.has_lost()
         self.assertEqual((self.seat.has_lost("1 1\n"), self.served.wanted()), (False, 1))
         self.begin("1 2")
-        self.tell("1 3")
+        self.instruct("1 3")
         self.served.has_lost()
         self.assertEqual((self.seat.has_lost("1 3\n"), self.served.wanted()), (False, 1))
 
-    def test_the_same_epoch_may_be_told_again(self) -> None:
+    def test_the_same_epoch_may_be_instructed_again(self) -> None:
         """The number is greater, and nothing else differs."""
         for number in range(1, 12):
             self.begin(f"1 {number}")
@@ -120,14 +120,14 @@ class Seats(unittest.TestCase):
         """The tag belongs to the epoch that the member has begun, not to one that it has to begin or has lost. It is valid only
         in this boot and in a complete line."""
         self.begin("1 1")
-        self.tell("1 1", f" a-b {boot_name()}")
+        self.instruct("1 1", f" a-b {boot_name()}")
         self.assertEqual(self.served.tag(), "a-b")
         for line in (f"1 2 a-b {boot_name()}\n", f"1 1 a-b {boot_name()}", f"1 1 - {boot_name()}\n", "1 1 a-b\n", "1 1 a-b another\n", "1 1\n"):
             self.write("told/members", f"1 {line}")
             self.assertIsNone(self.served.tag(), line)
         self.write("told/members", "")
         self.assertEqual((self.served.tag(), self.served.wanted()), (None, None))
-        self.tell("1 1", f" a-c {boot_name()}")
+        self.instruct("1 1", f" a-c {boot_name()}")
         self.assertEqual(self.served.tag(), "a-c")
         self.served.has_lost()
         self.assertIsNone(self.served.tag())
@@ -136,9 +136,9 @@ class Seats(unittest.TestCase):
         """The work is on the disk, `begun` is not, and the instruction is unchanged. The new work must not talk in the old
         work's run."""
         self.begin("1 1")
-        self.tell("1 1", f" a-b {boot_name()}")
+        self.instruct("1 1", f" a-b {boot_name()}")
         before = read(f"{self.folder}/told/members") or ""
-        self.tell("1 2")
+        self.instruct("1 2")
         self.assertEqual(self.served.wanted(), 1)
         self.write("told/members", before)
         with mock.patch("resetd_client.seats.boot_name", return_value="the next boot"):
@@ -148,24 +148,24 @@ class Seats(unittest.TestCase):
     def test_a_power_cut_after_begun(self) -> None:
         """An old text of the instructions asks for nothing, and gives the new start no run. A torn text does the same."""
         self.begin("1 1")
-        self.tell("1 1", f" a-b {boot_name()}")
+        self.instruct("1 1", f" a-b {boot_name()}")
         old = read(f"{self.folder}/told/members") or ""
         self.begin("1 2")
         for text in (old, old[:len(old) // 2], ""):
             self.write("told/members", text)
             self.assertEqual((self.served.wanted(), self.served.tag()), (None, None))
 
-    def test_what_is_refused_is_told(self) -> None:
+    def test_what_is_refused_is_reported(self) -> None:
         self.begin("1 1")
         self.assertEqual((self.served.takes("a-c"), self.seat.take_refused()), (False, None))
-        self.tell("1 1", f" a-b {boot_name()}")
+        self.instruct("1 1", f" a-b {boot_name()}")
         self.assertEqual((self.served.takes("a-c"), self.seat.take_refused()), (True, None))
         self.assertEqual((self.served.takes("x-c"), self.seat.take_refused(), self.seat.take_refused()), (False, "x-c", None))
 
     def test_a_refused_tag_that_replaces_another_one_as_that_is_taken(self) -> None:
         """No tag is lost."""
         self.begin("1 1")
-        self.tell("1 1", f" a-b {boot_name()}")
+        self.instruct("1 1", f" a-b {boot_name()}")
         self.served.takes("x-c")
         later = ["y-d"]
 
@@ -180,10 +180,10 @@ class Seats(unittest.TestCase):
 
     def test_a_wait_ends_with_a_change(self) -> None:
         """A change before the wait ends it too."""
-        self.tell("1 1")
+        self.instruct("1 1")
         began = time.monotonic()
         self.served.wait(120)
-        timer = threading.Timer(0.2, self.tell, ["1 2"])
+        timer = threading.Timer(0.2, self.instruct, ["1 2"])
         timer.start()
         self.served.wait(120)
         timer.join()
@@ -195,9 +195,9 @@ class Seats(unittest.TestCase):
         allowed."""
         for name, text in (("run", "1 tag 9 boot\n"), ("wanted", "1 9\n"), ("begun", "1 4\n")):
             self.write(f"1/{name}", text)
-        with self.assertLogs("resetd_client", "WARNING") as told:
+        with self.assertLogs("resetd_client", "WARNING") as logs:
             Served(f"{self.folder}/1")
-        self.assertIn("the gateway is of an earlier version", told.output[0])
+        self.assertIn("the gateway is of an earlier version", logs.output[0])
         seat = Seat(f"{self.folder}/1")
         self.assertEqual((seat.is_earlier, seat.number, sorted(os.listdir(f"{self.folder}/1"))), (True, 9, ["begun"]))
 
@@ -215,7 +215,7 @@ class Gateways(Case):
     def gateway_of(self, name: str) -> Gateway:
         self.book = self.orders(5, "book")
         return Gateway(self.port, self.book, {1: ["1"], 2: ["2"], 3: ["3"]}, f"{self.folder}/members",
-                       told=self.told.append)
+                       told=self.messages.append)
 
     def restarted(self) -> Gateway:
         self.book.close()
@@ -228,7 +228,7 @@ class Gateways(Case):
             served.has_begun()
         return epoch
 
-    def told_to(self, node: int) -> str:
+    def instruction_to(self, node: int) -> str:
         """Returns the instruction to the member."""
         lines = (read(f"{self.folder}/members/told/members") or "").splitlines()
         return next(line.partition(" ")[2] for line in lines if line.startswith(f"{node} "))
@@ -289,7 +289,7 @@ class Gateways(Case):
         self.gateway = self.restarted()
         self.assertEqual((self.all_begin(), self.tags(), None in tags), ([None] * 3, tags, False))
 
-    def test_what_it_tells_goes_down_once_for_all(self) -> None:
+    def test_its_instructions_go_down_once_for_all(self) -> None:
         """A begin, its confirmation and a first talk need as many syncs for three members as for one."""
         counts: list[int] = []
         sync = os.fsync
@@ -313,10 +313,10 @@ class Gateways(Case):
 
     def test_what_is_begun_while_it_looks(self) -> None:
         """A begun epoch is stored before it is confirmed."""
-        tell, confirm = self.gateway._tell_members, self.gateway._confirm
+        instruct, confirm = self.gateway._instruct_members, self.gateway._confirm
 
-        def tell_and_begin(*words: Any) -> None:
-            tell(*words)
+        def instruct_and_begin(*arguments: Any) -> None:
+            instruct(*arguments)
             for node in (1, 2, 3):
                 self.begin(node)
 
@@ -325,7 +325,8 @@ class Gateways(Case):
             self.assertEqual({node: kept[str(node)]["loaded"] for node in epochs}, epochs)
             confirm(epochs, foresee, view)
 
-        with mock.patch.object(self.gateway, "_tell_members", tell_and_begin), mock.patch.object(self.gateway, "_confirm", compare_and_confirm):
+        with mock.patch.object(self.gateway, "_instruct_members", instruct_and_begin), \
+                mock.patch.object(self.gateway, "_confirm", compare_and_confirm):
             self.look()
         self.assertEqual(self.rows(), [(1, 1)] * 3)
 
@@ -341,20 +342,20 @@ class Gateways(Case):
             self.server.by_somebody(op, **members)
         self.assertEqual((self.all_begin(), self.rows()), ([None, 1, None], [(1, 1)] * 3))
 
-    def test_the_greatest_number_is_told(self) -> None:
+    def test_the_greatest_number_is_published(self) -> None:
         """This is so even if the gateway's own file is missing, or those of its members."""
         self.all_begin()
-        self.assertTrue(self.told_to(1).startswith("1 1 "))
+        self.assertTrue(self.instruction_to(1).startswith("1 1 "))
         self.book.close()
         for name in ("starts.json", "starts.history"):
             os.remove(f"{self.folder}/members/{name}")
         self.gateway = self.gateway_of("next")
         self.assertEqual((self.all_begin(), self.rows()), ([2, 2, 2], [(2, 2)] * 3))
-        self.assertTrue(self.told_to(1).startswith("2 2 "))
+        self.assertTrue(self.instruction_to(1).startswith("2 2 "))
         for node in (1, 2, 3):
             shutil.rmtree(f"{self.folder}/members/{node}")
         self.assertEqual(self.all_begin(), [3, 3, 3])
-        self.assertTrue(self.told_to(1).startswith("3 3 "))
+        self.assertTrue(self.instruction_to(1).startswith("3 3 "))
 
     def test_a_file_of_an_earlier_version(self) -> None:
         """All begin again after one reset, and earlier begins of members do not count for it."""
@@ -381,7 +382,7 @@ class Gateways(Case):
     def test_the_word_of_a_group_is_in_its_tag(self) -> None:
         self.book.close()
         self.gateway = Gateway(self.port, self.orders(5, "book"), {1: ["1"], 2: ["2"], 3: ["3"]}, f"{self.folder}/members",
-                               word="word", told=self.told.append)
+                               word="word", told=self.messages.append)
         self.all_begin()
         self.assertEqual(self.tags(), {self.port.show().tag(1, "word")})
 
@@ -392,7 +393,7 @@ class Gateways(Case):
         for node in (1, 2, 3):
             self.server.reset(node)
         self.assertEqual((self.all_begin(), self.tags()), ([2, 2, 2], {None}))
-        self.assertEqual(self.told_to(1), f"2 2 - {boot_name()}")
+        self.assertEqual(self.instruction_to(1), f"2 2 - {boot_name()}")
 
     def test_a_run_ends_where_somebody_comes(self) -> None:
         """It ends before any member is instructed to begin."""
@@ -440,7 +441,7 @@ class Gateways(Case):
         keep(f"{self.folder}/members/2/refused", f"{32 * 'f'}-{own[33:]}\n")
         self.assertFalse(desk.is_parted())
 
-    def test_nothing_is_told_before_it_is_kept(self) -> None:
+    def test_nothing_is_published_before_it_is_kept(self) -> None:
         with mock.patch.object(self.gateway._shelf, "keep", side_effect=OSError("full")):
             for _ in range(3):
                 self.server.reset(1)
@@ -450,9 +451,9 @@ class Gateways(Case):
     def test_a_reset_while_its_members_begin(self) -> None:
         """They are instructed to begin the new epoch, although they have not begun the previous one."""
         self.look()
-        told = self.rows()[0][0]
+        epoch = self.rows()[0][0]
         self.server.reset(1)
-        self.assertEqual(self.all_begin(), [told + 1] * 3)
+        self.assertEqual(self.all_begin(), [epoch + 1] * 3)
 
     @in_memory
     def test_it_looks_again_after_it_asked_for_a_reset(self) -> None:
@@ -471,15 +472,15 @@ class Gateways(Case):
         self.look()
         self.assertFalse(self.gateway._is_through)
 
-    def test_a_reset_that_is_asked_for_again_is_told_again(self) -> None:
+    def test_a_reset_that_is_asked_for_again_is_reported_again(self) -> None:
         for times in (1, 2):
             self.all_begin()
             Served(f"{self.folder}/members/2").has_lost()
             self.look()
-            self.assertEqual(len([text for text in self.told if text.startswith("node 2: ")]), times, self.told)
+            self.assertEqual(len([text for text in self.messages if text.startswith("node 2: ")]), times, self.messages)
 
     @in_memory
-    def test_a_confirmed_epoch_that_it_never_told(self) -> None:
+    def test_a_confirmed_epoch_that_it_never_published(self) -> None:
         self.all_begin()
         self.server.nodes[3] = [1, 5, 5]
         self.assertEqual(self.all_begin(), [2, 2, 6])
@@ -501,7 +502,7 @@ class Gateways(Case):
     def test_all_members_of_a_node_begin_before_it_is_confirmed(self) -> None:
         self.book.close()
         self.gateway = Gateway(self.port, self.orders(5, "book"), {1: ["1", "2"], 3: ["3"]}, f"{self.folder}/members",
-                               told=self.told.append)
+                               told=self.messages.append)
         self.look()
         self.begin(1)
         self.look()
@@ -570,7 +571,8 @@ class AtAFront(Case):
         self.addCleanup(self.proxy.close)
         self.at_proxy = AtFront(Port(f"unix:{path}", 30), f"{self.folder}/members")
         self.addCleanup(self.at_proxy.close)
-        self.gateway = Gateway(self.at_proxy.port, self.at_proxy, {node: [f"{node}"] for node in (1, 2, 3)}, f"{self.folder}/members", told=self.told.append)
+        self.gateway = Gateway(self.at_proxy.port, self.at_proxy, {node: [f"{node}"] for node in (1, 2, 3)}, f"{self.folder}/members",
+                               told=self.messages.append)
         self.following = threading.Thread(target=self.gateway.follow, args=(self.at_proxy, 3_600.0), daemon=True)
         self.following.start()
         self.addCleanup(self.end)
@@ -582,7 +584,7 @@ class AtAFront(Case):
     def expect(self, holds: Callable[[], bool]) -> None:
         until = time.monotonic() + 60
         while not holds():
-            self.assertLess(time.monotonic(), until, self.told)
+            self.assertLess(time.monotonic(), until, self.messages)
             time.sleep(0.002)
 
     def begin_all(self, epoch: int) -> None:

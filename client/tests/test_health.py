@@ -31,7 +31,7 @@ class Watching(Case):
         health = check(self.port, Since(f"{self.folder}/since", now), Bounds())
         return health.level, health.findings
 
-    def test_unconfirmed_epochs_are_told_after_a_while(self) -> None:
+    def test_unconfirmed_epochs_are_reported_after_a_while(self) -> None:
         self.assertEqual(self.look(0), (Level.OK, ()))
         self.server.reset(1)
         self.server.by_somebody("confirm", node=2, epoch=1)
@@ -50,18 +50,18 @@ class Watching(Case):
             self.assertEqual([since.seconds(thing) for thing in things], lasted)
             since.keep()
 
-    def test_a_bound_is_the_least_that_is_told(self) -> None:
+    def test_a_bound_is_the_least_that_is_reported(self) -> None:
         """The bounds of waiting steps, of a wave that does not move, and of an unconfirmed epoch."""
         bounds = Bounds(steps=5, wave=5, unconfirmed=60)
         rows = [[1, 1, "abort", 0, 4, 4], [2, 1, "ready", 0, 4, 3], [3, 1, "ready", 0, 4, 4]]
         for settled, expected in ((8, [0, 0, 1, 1, 2]), (9, [0, 0, 1, 1, 2])):
             view = View.of({"accepted": 9, "settled": settled, "nodes": rows, "links": [[1, 2, 5]]})
-            told = []
+            counts = []
             for now in (0, 4, 5, 59, 60):
                 since = Since(f"{self.folder}/since{settled}", now)
-                told.append(len(findings(view, since, bounds)))
+                counts.append(len(findings(view, since, bounds)))
                 since.keep()
-            self.assertEqual(told, expected)
+            self.assertEqual(counts, expected)
         text = metrics(view, False)
         self.assertEqual([f'resetd_node_in_reset{{node="{node}",group="1"}} {there}\n' in text for node, there in
                           ((1, 1), (2, 0), (3, 0))], [True] * 3)
@@ -78,11 +78,11 @@ class Watching(Case):
     def expect(self, folder: str, looks: list[tuple[float, int, int, int, list[str]]]) -> None:
         """Looks at a row of two nodes, the first in a reset. Each look has its time, the numbers of accepted and settled steps,
         the second node's epoch, and the expected findings."""
-        for now, accepted, settled, epoch, told in looks:
+        for now, accepted, settled, epoch, expected in looks:
             rows = [[1, 1, "abort", 2, 0, 0], [2, 1, "ready", 0, epoch, epoch]]
             since = Since(f"{self.folder}/{folder}", now)
             view = View.of({"accepted": accepted, "settled": settled, "nodes": rows, "links": [[1, 2, 5]]})
-            self.assertEqual(findings(view, since, Bounds()), told, (now, accepted, settled))
+            self.assertEqual(findings(view, since, Bounds()), expected, (now, accepted, settled))
             since.keep()
 
     def test_the_oldest_step_that_waits(self) -> None:
@@ -100,9 +100,9 @@ class Watching(Case):
 
     def test_a_wave_that_stands_still(self) -> None:
         """A wave is reported if nothing waits, or if so many steps were settled meanwhile that its own must be among them."""
-        told = "a wave has made no progress at node 1 (abort) for {} s: run resetctl resend"
-        self.expect("idle", [(0, 9, 9, 0, []), (6, 9, 9, 0, [told.format(6)]), (7, 30, 30, 0, [told.format(7)])])
-        self.expect("busy", [(0, 9, 8, 0, []), (1, 1_000, 999, 0, []), (2, 1_040, 1_039, 0, []), (5, 1_050, 1_040, 0, [told.format(5)])])
+        message = "a wave has made no progress at node 1 (abort) for {} s: run resetctl resend"
+        self.expect("idle", [(0, 9, 9, 0, []), (6, 9, 9, 0, [message.format(6)]), (7, 30, 30, 0, [message.format(7)])])
+        self.expect("busy", [(0, 9, 8, 0, []), (1, 1_000, 999, 0, []), (2, 1_040, 1_039, 0, []), (5, 1_050, 1_040, 0, [message.format(5)])])
 
     def test_what_was_seen_in_another_boot_is_forgotten(self) -> None:
         """The clock for durations restarts with the machine."""
@@ -119,11 +119,11 @@ class Watching(Case):
         """Nobody can set the clock for durations."""
         self.server.reset(1)
         with mock.patch("time.time", lambda: 1_000.0):
-            self.assertEqual(self.run_words("health")[:2], (0, "resetd OK: well\n"))
+            self.assertEqual(self.run_resetctl("health")[:2], (0, "resetd OK: well\n"))
         with mock.patch("time.time", lambda: 5_000.0):
-            self.assertNotIn("unconfirmed", self.run_words("health")[1])
+            self.assertNotIn("unconfirmed", self.run_resetctl("health")[1])
         with mock.patch("resetd_client.control.checks.boot_clock", lambda: boot_clock() + 61):
-            self.assertIn("epoch 1 of node 1 has been unconfirmed for 6", self.run_words("health")[1])
+            self.assertIn("epoch 1 of node 1 has been unconfirmed for 6", self.run_resetctl("health")[1])
 
     def test_stopped_and_away(self) -> None:
         self.server.is_stopped = True
@@ -250,7 +250,7 @@ class OtherStore(Case):
     LOST = "resetd CRITICAL: this file is not the server's store: "
 
     def look(self) -> tuple[int, str]:
-        return self.run_words("health", "--unconfirmed", "1000000", "--store", self.server.store)[:2]
+        return self.run_resetctl("health", "--unconfirmed", "1000000", "--store", self.server.store)[:2]
 
     def spoil(self, how: str, copy: str) -> None:
         store = self.server.store
@@ -280,14 +280,14 @@ class OtherStore(Case):
                 self.server.reset(1)
                 self.server.await_settled()
                 self.assertEqual(self.look(), (0, "resetd OK: well\n"))
-                self.assertIn("resetd_store_differs 0\n", self.run_words("metrics", "--store", self.server.store)[1])
-                self.assertNotIn("resetd_store_differs", self.run_words("metrics")[1])
+                self.assertIn("resetd_store_differs 0\n", self.run_resetctl("metrics", "--store", self.server.store)[1])
+                self.assertNotIn("resetd_store_differs", self.run_resetctl("metrics")[1])
                 self.spoil(how, copy)
                 self.server.reset(1)
-                status, told = self.look()
-                self.assertEqual((status, told[:len(self.LOST)]), (2, self.LOST), how)
-                self.assertIn("resetd_store_differs 1\n", self.run_words("metrics", "--store", self.server.store)[1])
-                self.assertEqual(self.run_words("health", "--unconfirmed", "1000000")[0], 0)
+                status, out = self.look()
+                self.assertEqual((status, out[:len(self.LOST)]), (2, self.LOST), how)
+                self.assertIn("resetd_store_differs 1\n", self.run_resetctl("metrics", "--store", self.server.store)[1])
+                self.assertEqual(self.run_resetctl("health", "--unconfirmed", "1000000")[0], 0)
 
     def test_a_file_that_may_not_be_read_is_unknown(self) -> None:
         self.server.ring(2)
@@ -329,7 +329,7 @@ class FullDisk(Case):
         signal.signal(signal.SIGXFSZ, signal.SIG_IGN)
         resource.setrlimit(resource.RLIMIT_FSIZE, (self.MOST, self.MOST))
 
-    def test_health_tells_of_lines_that_do_not_come(self) -> None:
+    def test_health_reports_lines_that_do_not_come(self) -> None:
         assert isinstance(self.server, Real)
         self.server.ring(2)
         self.server.end()
@@ -343,15 +343,15 @@ class FullDisk(Case):
             while not (found := re.search(r"listening (\S+)\n", self.read(path))):
                 time.sleep(0.01)
             self.server.behind = found[1]
-            self.assertEqual(self.run_words("health", "--signals", path)[:2], (0, "resetd OK: well\n"))
+            self.assertEqual(self.run_resetctl("health", "--signals", path)[:2], (0, "resetd OK: well\n"))
             self.server.reset(1)
             self.server.reset(1)
-            self.run_words("health", "--signals", path)
+            self.run_resetctl("health", "--signals", path)
             with mock.patch("resetd_client.control.checks.boot_clock", lambda: boot_clock() + 10):
-                status, told, _ = self.run_words("health", "--signals", path)
+                status, out, _ = self.run_resetctl("health", "--signals", path)
             process.kill()
         self.assertEqual(status, 1)
-        self.assertIn("the file of signals lacks `signal 1 2` and 1 more for ", told)
+        self.assertIn("the file of signals lacks `signal 1 2` and 1 more for ", out)
 
     def read(self, path: str) -> str:
         with open(path, encoding="utf-8") as file:

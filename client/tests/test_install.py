@@ -25,29 +25,29 @@ class Installed(unittest.TestCase):
         self.addCleanup(temporary.cleanup)
         self.folder = temporary.name
 
-    def run_words(self, *words: str, **environment: str) -> tuple[int, str]:
-        done = subprocess.run(words, cwd=self.folder, env={**os.environ, "PYTHONDONTWRITEBYTECODE": "1", **environment},
+    def run_command(self, *command: str, **environment: str) -> tuple[int, str]:
+        done = subprocess.run(command, cwd=self.folder, env={**os.environ, "PYTHONDONTWRITEBYTECODE": "1", **environment},
                               capture_output=True, encoding="utf-8", check=False)
         return done.returncode, done.stdout + done.stderr
 
     def test_pip_installs_it_without_an_index(self) -> None:
-        status, told = self.run_words(sys.executable, "-m", "pip", "install", "--no-index", "--target", "there", CLIENT)
-        self.assertEqual(status, 0, told)
-        status, told = self.run_words(sys.executable, "-c", "import resetd_client as r; print(r.__version__, r.__file__)",
-                                      PYTHONPATH="there")
-        self.assertIn(f"{self.folder}/there/resetd_client", told)
+        status, output = self.run_command(sys.executable, "-m", "pip", "install", "--no-index", "--target", "there", CLIENT)
+        self.assertEqual(status, 0, output)
+        status, output = self.run_command(sys.executable, "-c", "import resetd_client as r; print(r.__version__, r.__file__)",
+                                          PYTHONPATH="there")
+        self.assertIn(f"{self.folder}/there/resetd_client", output)
         self.assertTrue(os.path.exists(f"{self.folder}/there/resetd_client/py.typed"))
-        status, told = self.run_words(f"{self.folder}/there/bin/resetctl", "--version", PYTHONPATH="there")
-        self.assertEqual(status, 0, told)
+        status, output = self.run_command(f"{self.folder}/there/bin/resetctl", "--version", PYTHONPATH="there")
+        self.assertEqual(status, 0, output)
 
     @unittest.skipUnless(shutil.which("mypy"), "it needs mypy: no types are checked")
     def test_its_types_hold_and_are_seen_from_outside(self) -> None:
         done = subprocess.run(["mypy", "--cache-dir", f"{self.folder}/cache"], cwd=CLIENT, capture_output=True, encoding="utf-8",
                               check=False)
         self.assertEqual(done.returncode, 0, done.stdout + done.stderr)
-        words = ("mypy", "--strict", "--cache-dir", f"{self.folder}/cache")
+        command = ("mypy", "--strict", "--cache-dir", f"{self.folder}/cache")
         for node, expected in (("3", 0), ('"three"', 1)):
             with open(f"{self.folder}/service.py", "w", encoding="utf-8") as file:
                 file.write(SERVICE.format(node=node))
-            status, told = self.run_words(*words, "service.py", MYPYPATH=CLIENT)
-            self.assertEqual(status, expected, told)
+            status, output = self.run_command(*command, "service.py", MYPYPATH=CLIENT)
+            self.assertEqual(status, expected, output)

@@ -25,7 +25,7 @@ class MemberCase(Case):
         self.begun: list[int] = []
 
     def member(self, begun: int | None = None, name: str = "member") -> Member:
-        return Member(self.port, self.orders(1, name, True), 1, begun, self.begun.append, told=self.told.append)
+        return Member(self.port, self.orders(1, name, True), 1, begun, self.begun.append, told=self.messages.append)
 
     def rows(self) -> list[tuple[int, int]]:
         return [(self.server.row(node)[1], self.server.row(node)[2]) for node in (1, 2)]
@@ -146,7 +146,7 @@ class Members(MemberCase):
         self.server.by_somebody("drop", a=1, b=2)
         self.server.by_somebody("remove", node=1)
         self.look(member)
-        self.assertEqual((self.told[-1], member.run), ("node 1 does not exist", None))
+        self.assertEqual((self.messages[-1], member.run), ("node 1 does not exist", None))
         self.server.by_somebody("add", node=1, group=1)
         self.look(member)
         self.assertEqual((self.begun, self.rows()[0], member.run), ([1, 1], (1, 1), Run(1, "")))
@@ -181,7 +181,7 @@ class Members(MemberCase):
             if len(self.begun) == 1:
                 self.server.reset(1)
         self.server.reset(1)
-        self.look(Member(self.port, self.orders(1, "m", True), 1, None, begin, told=self.told.append))
+        self.look(Member(self.port, self.orders(1, "m", True), 1, None, begin, told=self.messages.append))
         self.assertEqual((self.begun, self.rows()[0]), ([1, 2], (2, 2)))
 
     def test_a_confirm_that_meets_another_node_of_the_same_number(self) -> None:
@@ -192,7 +192,7 @@ class Members(MemberCase):
                 for op, members in (("drop", {"a": 1, "b": 2}), ("remove", {"node": 1}), ("add", {"node": 1, "group": 1}),
                                     ("join", {"a": 1, "b": 2}), ("reset", {"node": 1}), ("reset", {"node": 1})):
                     self.server.by_somebody(op, **members)
-        member = Member(self.port, self.orders(1, "m", True), 1, None, begin, told=self.told.append)
+        member = Member(self.port, self.orders(1, "m", True), 1, None, begin, told=self.messages.append)
         self.look(member)
         self.confirm_other()
         self.look(member)
@@ -227,7 +227,7 @@ class Members(MemberCase):
     def test_it_can_be_stopped(self) -> None:
         for port in (self.port, Port("127.0.0.1:1")):
             orders = self.orders(1, f"of {port.addresses}")
-            member = Member(port, orders, 1, None, self.begun.append, told=self.told.append)
+            member = Member(port, orders, 1, None, self.begun.append, told=self.messages.append)
             thread = threading.Thread(target=member.follow, args=(Clock(), 30))
             thread.start()
             time.sleep(0.3)
@@ -263,7 +263,7 @@ class Kept(MemberCase):
         """Otherwise a death after the confirm would cost a reset."""
         kept: list[str | None] = []
         orders = self.orders()
-        member = Member(self.port, orders, 1, None, self.begun.append, told=self.told.append)
+        member = Member(self.port, orders, 1, None, self.begun.append, told=self.messages.append)
         confirm = member._confirm
 
         def note_and_confirm(epochs: Mapping[int, int], foresee: Callable[[View], None], view: View) -> None:
@@ -286,7 +286,7 @@ class Kept(MemberCase):
         for op, members in (("drop", {"a": 1, "b": 2}), ("remove", {"node": 1}), ("add", {"node": 1, "group": 1}),
                             ("join", {"a": 1, "b": 2}), ("reset", {"node": 1}), ("confirm", {"node": 2, "epoch": 2})):
             self.server.by_somebody(op, **members)
-        dying = Member(self.port, self.orders(1, "member", True), 1, 1, dies, told=self.told.append)
+        dying = Member(self.port, self.orders(1, "member", True), 1, 1, dies, told=self.messages.append)
         self.assertRaises(ZeroDivisionError, dying.look)
         dying.orders.close()
         self.server.by_somebody("confirm", node=1, epoch=1)
@@ -361,11 +361,11 @@ class Refusals(MemberCase):
         help."""
         member = self.in_a_run()
         asked, settled = sum(order.get("op") == "reset" for order in self.server.seen), self.port.show().settled
-        for count, words in ((settled + 1, f"--fence {settled + 1}`"),
-                             (3 << 40, "generation 3 has used the resource, but this member has generation 0")):
+        for count, message in ((settled + 1, f"--fence {settled + 1}`"),
+                               (3 << 40, "generation 3 has used the resource, but this member has generation 0")):
             member.note_overtaken({2}, count)
             member.note_overtaken({2}, 0)
-            with self.assertRaisesRegex(StoreWentBack, words):
+            with self.assertRaisesRegex(StoreWentBack, message):
                 self.look(member)
         self.assertEqual((self.begun, sum(order.get("op") == "reset" for order in self.server.seen)), ([1], asked))
 
@@ -395,18 +395,18 @@ class Refusals(MemberCase):
         self.assertEqual((self.begun, self.rows()[0]), ([1, 2], (2, 2)))
 
 
-class Lives(MemberCase):
+class InThread(MemberCase):
     """A member that follows in its own thread."""
 
     def expect(self, holds: Callable[[], bool]) -> None:
         until = time.monotonic() + 60
         while not holds():
-            self.assertLess(time.monotonic(), until, self.told)
+            self.assertLess(time.monotonic(), until, self.messages)
             time.sleep(0.01)
 
     def followed(self, begin: Callable[[int], None] | None = None) -> Member:
         path = f"{self.folder}/signals"
-        return Member(self.port, self.orders(1, "m", True), 1, None, begin or self.begun.append, told=self.told.append,
+        return Member(self.port, self.orders(1, "m", True), 1, None, begin or self.begun.append, told=self.messages.append,
                       wakes=Follower(path), every=600.0, on_run=self.runs.append)
 
     def setUp(self) -> None:
@@ -433,7 +433,7 @@ class Lives(MemberCase):
             member.reset("the count is wrong")
             self.expect(lambda: self.begun == [1, 2])
             self.assertEqual(sum(order.get("op") == "reset" for order in self.server.seen), asked + 1)
-        self.assertTrue(any("the count is wrong" in told for told in self.told), self.told)
+        self.assertTrue(any("the count is wrong" in text for text in self.messages), self.messages)
         self.assertEqual([run.epoch if run else None for run in self.runs], [1, None])
 
     def test_what_ends_its_thread_is_raised_at_the_end(self) -> None:
@@ -442,7 +442,7 @@ class Lives(MemberCase):
             raise ZeroDivisionError
 
         with self.assertRaises(ZeroDivisionError), self.followed(begin) as member:
-            self.expect(lambda: any("has stopped following" in told for told in self.told))
+            self.expect(lambda: any("has stopped following" in text for text in self.messages))
             with self.assertRaises(ZeroDivisionError), member.in_run():
                 self.fail("there is no run")
         member.orders.close()
@@ -463,7 +463,7 @@ class Lives(MemberCase):
                 self.fail("it took a message of another run")
             self.expect(lambda: self.looks() > looks)
 
-    def test_a_run_is_told_once(self) -> None:
+    def test_a_run_is_reported_once(self) -> None:
         """It is called once, however often the member looks, and even if others leave."""
         with self.followed() as member:
             self.expect(lambda: self.begun == [1])
@@ -480,7 +480,7 @@ class Lives(MemberCase):
             self.expect(lambda: member.run is not None)
             with mock.patch.object(member.port, "show", side_effect=ZeroDivisionError):
                 member.reset("so that it looks")
-                self.expect(lambda: any("has stopped following" in told for told in self.told))
+                self.expect(lambda: any("has stopped following" in text for text in self.messages))
                 self.expect(lambda: member.run is None)
 
 
@@ -526,7 +526,7 @@ class Runs(MemberCase):
         kept: list[str | None] = []
         orders = self.orders()
         member = Member(self.port, orders, 1, None, lambda epoch: kept.append(read(f"{orders.folder}/start-1.json")),
-                        told=self.told.append)
+                        told=self.messages.append)
         self.server.reset(1)
         self.look(member)
         self.assertEqual(json.loads(kept[0] or "{}").get("1", {"begun": None, "party": None}), {"begun": None, "party": None})

@@ -91,7 +91,7 @@ class Ports(Case):
     def test_a_member_that_is_shown_a_past_for_long_finds_out(self) -> None:
         """The coordinator is lost, and another one serves an older copy of its store. It carries out a reset, and so it counts."""
         port = Port(f"{self.new.address},{self.old.address}", 120)
-        member = Member(port, self.orders_of(port), 1, None, lambda epoch: None, told=self.told.append)
+        member = Member(port, self.orders_of(port), 1, None, lambda epoch: None, told=self.messages.append)
         member.look()
         self.new.faults = ["lose"] * 10_000
         member.past_seconds = 0.2
@@ -101,12 +101,12 @@ class Ports(Case):
             if self.old.row(1)[2]:
                 break
             threading.Event().wait(0.1)
-        self.assertGreater(self.old.row(1)[2], 0, self.told)
+        self.assertGreater(self.old.row(1)[2], 0, self.messages)
         member.stop()
         following.join(60)
 
     def orders_of(self, port: Port) -> Orders:
-        orders = Orders(port, 1, f"{self.folder}/past", recovers=True, told=self.told.append)
+        orders = Orders(port, 1, f"{self.folder}/past", recovers=True, told=self.messages.append)
         self.addCleanup(orders.close)
         return orders
 
@@ -169,7 +169,7 @@ class Looks(unittest.TestCase):
                                   "nodes": [[node, 1, "ready", 0, 1, confirmed] for node in (1, 2)]}) for confirmed in (0, 1))
         return before, after
 
-    def starts_heard_of(self, behind_the_loss: list[View]) -> int:
+    def starts_heard_of(self, after_the_loss: list[View]) -> int:
         """Returns the number of starts of member 2 whose messages member 1 accepts in one run."""
         before, after = self.views()
         heard, names = set[int](), iter(range(1, 9))
@@ -180,7 +180,7 @@ class Looks(unittest.TestCase):
             own = next(names) if second.look(shown, 2) is Due.BEGIN else own
         heard |= {own} if is_same_run(first.tag, second.tag) else set()
         second = Judged()
-        for shown in behind_the_loss:
+        for shown in after_the_loss:
             own = next(names) if second.look(shown, 2) is Due.BEGIN else own
         heard |= {own} if is_same_run(first.tag, second.tag) else set()
         return len(heard)

@@ -90,7 +90,7 @@ class Numbers(Case):
         self.assertRaises(TooLong, orders.order, "reset" * 110, node=1)
         self.assertEqual((orders.unanswered, orders.number), ([], 1))
 
-    def test_numbers_out_of_their_range_are_told_before_anything_is_sent(self) -> None:
+    def test_numbers_out_of_their_range_are_reported_before_anything_is_sent(self) -> None:
         """Nothing is stored either, and none of several orders that are sent together is sent."""
         orders = self.orders()
         orders.order("reset", node=1)
@@ -142,7 +142,7 @@ class Numbers(Case):
         again = self.orders(recovers=True)
         again.order("reset", node=2)
         self.assertEqual(self.server.last(1), 6)
-        self.assertTrue(any("had no answer at first" in text for text in self.told))
+        self.assertTrue(any("had no answer at first" in text for text in self.messages))
 
     @in_memory
     def test_a_count_is_found_from_anywhere(self) -> None:
@@ -192,16 +192,16 @@ class Numbers(Case):
             self.assertRaises(CountLost, orders.order, "reset", node=2)
         self.assertEqual((send.call_count, recover.call_count), (4, 3))
 
-    def test_an_earlier_order_that_is_refused_is_told(self) -> None:
+    def test_an_earlier_order_that_is_refused_is_reported(self) -> None:
         """An order without an answer is sent first, and is dropped if it is refused."""
         orders = self.orders()
         orders.recover()
         self.server.faults = ["lose"]
         self.assertRaises(Away, orders.order, "remove", node=2)
         self.assertEqual(orders.order("reset", node=1).kind, "started")
-        self.assertEqual(len(self.told), 1, self.told)
-        self.assertIn("'remove'", self.told[0])
-        self.assertIn("had no answer at first, and now the answer is 8 HasLinks", self.told[0])
+        self.assertEqual(len(self.messages), 1, self.messages)
+        self.assertIn("'remove'", self.messages[0])
+        self.assertIn("had no answer at first, and now the answer is 8 HasLinks", self.messages[0])
 
     def test_a_count_is_found_without_nodes(self) -> None:
         self.assertEqual(find_count(Port(self.started().address, 120), 3), 0)
@@ -264,7 +264,7 @@ class Together(Case):
     def test_in_one_packet_to_the_program(self) -> None:
         if not self.is_real:
             self.skipTest("the program alone")
-        book = Orders(Port(self.server.behind, 120), 2, f"{self.folder}/direct", told=self.told.append)
+        book = Orders(Port(self.server.behind, 120), 2, f"{self.folder}/direct", told=self.messages.append)
         self.addCleanup(book.close)
         accepted = self.port.show().accepted
         outcomes = book.order_all([*self.adds(*range(3, 60)), {"op": "reset", "node": 1}, *self.adds(1, 60)])
@@ -282,7 +282,7 @@ class Together(Case):
         self.assertEqual(len(self.patient(orders)), len(orders))
         self.assertEqual(self.server.pairs(), [(1, 2)])
 
-    def test_nothing_behind_a_refused_one_is_carried_out(self) -> None:
+    def test_nothing_after_a_refused_one_is_carried_out(self) -> None:
         outcomes = self.patient([*self.adds(3, 4, 1, 5, 6)])
         self.assertEqual(len(outcomes), 3)
         self.assertEqual(str(outcomes[-1]), "7 NodeExists")
@@ -290,7 +290,7 @@ class Together(Case):
         self.assertEqual(len(self.patient(self.adds(5, 6))), 2)
         self.assertEqual((self.nodes(), self.server.last(1)), ([1, 2, 3, 4, 5, 6], 4))
 
-    def test_nothing_behind_a_fault_is_carried_out(self) -> None:
+    def test_nothing_after_a_fault_is_carried_out(self) -> None:
         with mock.patch("resetd_client.orders.check_order"):
             outcomes = self.patient([*self.adds(3, 4, 65, 5, 6)])
         self.assertEqual([str(outcome) for outcome in outcomes[2:]], ["BadRequest"])
@@ -340,7 +340,7 @@ class Together(Case):
             self.assertEqual(self.nodes(), list(range(1, nodes[-1] + 1)))
         self.assertEqual(self.server.last(1), 11)
 
-    def test_a_stale_count_carries_out_nothing_behind_the_first(self) -> None:
+    def test_a_stale_count_carries_out_nothing_after_the_first(self) -> None:
         other = self.orders(name="other")
         self.book.order("reset", node=1)
         for node in (3, 4):

@@ -130,11 +130,11 @@ class Strange(unittest.TestCase):
         self.assertEqual(list(port.ask_many([{"op": "resend"}] * 2)), [{"count": 1}, {"count": 2}])
 
 
-class Patience(unittest.TestCase):
+class Patiently(unittest.TestCase):
     def test_waits_grow_up_to_a_bound(self) -> None:
         """Each receiver gets the message once."""
         waits: list[float] = []
-        told: list[Away] = []
+        received: list[Away] = []
 
         def call() -> str:
             if len(waits) < 40:
@@ -142,8 +142,8 @@ class Patience(unittest.TestCase):
             return "done"
 
         with mock.patch("resetd_client.port.time.sleep", waits.append):
-            self.assertEqual(patiently(call, told=told.append), "done")
-        self.assertEqual(len(told), 1)
+            self.assertEqual(patiently(call, told=received.append), "done")
+        self.assertEqual(len(received), 1)
         self.assertLess(waits[0], 0.2)
         self.assertTrue(all(1.0 < wait < 3.0 for wait in waits[20:]), waits)
 

@@ -17,7 +17,7 @@ from test_store_file import APPENDED
 
 # Prints its arguments, and lines of two devices.
 JOURNAL = """#!/bin/sh
-echo "words: $*"
+echo "arguments: $*"
 echo "kernel: I/O error, dev vdz9, sector 7"
 echo "kernel: nvme0n1: another device"
 """
@@ -41,22 +41,22 @@ class Report(Case):
         self.addCleanup(path.stop)
         self.out = f"{self.folder}/report.tar.gz"
 
-    def report(self, *words: str) -> dict[str, bytes]:
+    def report(self, *arguments: str) -> dict[str, bytes]:
         """Returns the parts of the report by their names."""
-        status, told, complained = self.run_words("report", "--store", self.store, "--memory", f"{self.folder}/none", *words, self.out,
-                                                  address=self.server.behind)
-        self.assertEqual((status, complained), (0, ""))
+        status, out, errors = self.run_resetctl("report", "--store", self.store, "--memory", f"{self.folder}/none", *arguments, self.out,
+                                                address=self.server.behind)
+        self.assertEqual((status, errors), (0, ""))
         with tarfile.open(self.out) as archive:
             found = {name.removeprefix("report/"): archive.extractfile(name).read() for name in archive.getnames()}  # type: ignore[union-attr]
         for name in set(found) - {"README.txt"}:
-            self.assertIn(f"{name} ", told)
+            self.assertIn(f"{name} ", out)
         return found
 
     def test_what_is_in_it(self) -> None:
         assert isinstance(self.server, Real) and self.server.process
         self.server.reset(1)
         self.server.await_settled()
-        self.run_words("health", address=self.server.behind)
+        self.run_resetctl("health", address=self.server.behind)
         found = self.report("--unit", "other")
         self.assertEqual(set(found), {"README.txt", "why.txt", "show.json", "store", "steps.txt", "steps-before.txt",
                                       "health/person-health.json", "journal.txt", "versions.txt", "process.txt", "filesystem.txt",
@@ -66,7 +66,7 @@ class Report(Case):
         with open(f"{self.folder}/copy", "wb") as file:
             file.write(found["store"])
         self.assertIn(b"reset 1", found["steps.txt"])
-        self.assertIn(" order 1: reset 1", self.run_words("steps", f"{self.folder}/copy")[1])
+        self.assertIn(" order 1: reset 1", self.run_resetctl("steps", f"{self.folder}/copy")[1])
         self.assertIn(f"lock     process {self.server.process.pid} ".encode(), found["why.txt"])
         self.assertIn(f"{checksum_of(PROGRAM)}  {PROGRAM}, run by process {self.server.process.pid}".encode(), found["versions.txt"])
         self.assertIn(b"control/report.py\n", found["versions.txt"])
@@ -78,7 +78,7 @@ class Report(Case):
         self.report()
         with open(self.out, "rb") as file:
             before = file.read()
-        self.assertEqual(self.run_words("report", "--store", self.store, self.out)[0], 1)
+        self.assertEqual(self.run_resetctl("report", "--store", self.store, self.out)[0], 1)
         with open(self.out, "rb") as file:
             self.assertEqual(file.read(), before)
 

@@ -34,9 +34,9 @@ class Audit(Case):
         with open(self.path, "w", encoding="utf-8") as file:
             file.write("".join(json.dumps(line) + "\n" for line in LINES) + '{"time":"2026-01-31T08:0')
 
-    def printed(self, *words: str) -> list[str]:
-        status, out, told = self.run_words("log", self.path, *words)
-        self.assertEqual((status, told), (0, ""))
+    def printed(self, *arguments: str) -> list[str]:
+        status, out, errors = self.run_resetctl("log", self.path, *arguments)
+        self.assertEqual((status, errors), (0, ""))
         return out.splitlines()
 
     def test_who_asked_for_which_reset(self) -> None:
@@ -72,15 +72,15 @@ class Audit(Case):
         bad = [{**LINES[7], "line": escape}, {**LINES[2], "who": {"certificate": escape}}, {**LINES[6], "why": escape}]
         with open(self.path, "w", encoding="utf-8") as file:
             file.write("".join(json.dumps(line, ensure_ascii=False) + "\n" for line in bad) + f"{escape} cut")
-        for words in ((), ("--json",)):
-            lines = self.printed(*words)
+        for arguments in ((), ("--json",)):
+            lines = self.printed(*arguments)
             self.assertEqual((len(lines), [line.isprintable() for line in lines]), (4, [True] * 4))
 
     def test_as_the_file_has_them(self) -> None:
         self.assertEqual([json.loads(line) for line in self.printed("--json", "--denied")[:-1]], [LINES[2], LINES[5], LINES[6]])
 
     def test_a_file_that_is_not_there(self) -> None:
-        self.assertEqual(self.run_words("log", f"{self.folder}/none")[0], 1)
+        self.assertEqual(self.run_resetctl("log", f"{self.folder}/none")[0], 1)
 
 
 class Json(Case):
@@ -90,9 +90,9 @@ class Json(Case):
         super().setUp()
         self.server.ring(2)
 
-    def one(self, *words: str) -> tuple[int, Any]:
-        status, out, told = self.run_words(*words)
-        self.assertEqual((out.count("\n"), told), (1, ""))
+    def one(self, *arguments: str) -> tuple[int, Any]:
+        status, out, errors = self.run_resetctl(*arguments)
+        self.assertEqual((out.count("\n"), errors), (1, ""))
         return status, json.loads(out)
 
     def test_diff(self) -> None:
@@ -101,7 +101,7 @@ class Json(Case):
             file.write("[[node]]\nid = 1\ngroup = 1\n[[node]]\nid = 2\ngroup = 2\n")
         status, orders = self.one("diff", "--json", path)
         self.assertEqual((status, orders[0]), (1, {"op": "drop", "members": {"a": 1, "b": 2}, "note": "the group of a linked node changes"}))
-        self.run_words("apply", path)
+        self.run_resetctl("apply", path)
         self.assertEqual(self.one("diff", "--json", path), (0, []))
 
     def test_health(self) -> None:
@@ -118,7 +118,7 @@ class Json(Case):
     def test_of_a_store(self) -> None:
         if not self.is_real:
             self.skipTest("the program alone has a file")
-        self.run_words("add", "9", "1")
+        self.run_resetctl("add", "9", "1")
         status, found = self.one("steps", "--json", self.server.store)
         self.assertEqual((status, found["batches"][-1]["steps"][-1].split()[-3:]), (0, ["add", "9", "1"]))
         steps = found["snapshot"] + sum(len(batch["steps"]) for batch in found["batches"])
@@ -134,9 +134,9 @@ class Topology(Case):
                                    ("half = 1\n", 2, f"resetctl: {path}: BadValue: half must be a whole number from 32768 to 16777216\n")):
             with open(path, "w", encoding="utf-8") as file:
                 file.write(text)
-            self.assertEqual(self.run_words("check-topology", path, address="127.0.0.1:1"),
+            self.assertEqual(self.run_resetctl("check-topology", path, address="127.0.0.1:1"),
                              (status, "" if status else said, said if status else ""))
-        self.assertEqual(self.run_words("check-topology", f"{self.folder}/none")[0], 2)
+        self.assertEqual(self.run_resetctl("check-topology", f"{self.folder}/none")[0], 2)
 
 
 class Bench(Case):
@@ -148,31 +148,31 @@ class Bench(Case):
         self.addCleanup(fewer.stop)
 
     def test_it_measures_and_leaves_the_nodes_as_they_were(self) -> None:
-        status, out, told = self.run_words("bench", "--json", "--orders", "4", "--waves", "3")
-        self.assertEqual((status, told), (0, ""))
+        status, out, errors = self.run_resetctl("bench", "--json", "--orders", "4", "--waves", "3")
+        self.assertEqual((status, errors), (0, ""))
         found = json.loads(out)
         self.assertEqual(found["nodes_of_a_wave"], 3)
         self.assertTrue(all(value > 0 for value in found.values()), found)
         view = self.port.show()
         self.assertEqual([(node.node, node.epoch) for node in view.nodes], [(1, 3), (2, 3), (3, 3)])
-        self.assertEqual(len(self.run_words("bench", "--orders", "2", "--waves", "1")[1].splitlines()), len(found))
+        self.assertEqual(len(self.run_resetctl("bench", "--orders", "2", "--waves", "1")[1].splitlines()), len(found))
 
-    def test_where_services_are_it_wants_to_be_told(self) -> None:
+    def test_where_services_are_it_refuses(self) -> None:
         self.server.reset(1)
         self.server.await_settled()
-        self.run_words("confirm", "2", "1")
+        self.run_resetctl("confirm", "2", "1")
         last = self.server.last(16)
-        status, out, told = self.run_words("bench", "--waves", "1", "--orders", "2")
+        status, out, errors = self.run_resetctl("bench", "--waves", "1", "--orders", "2")
         self.assertEqual((status, out, self.server.last(16)), (1, "", last))
-        self.assertIn("these nodes have services: 2.", told)
-        self.assertEqual(self.run_words("bench", "--waves", "1", "--orders", "2", "--with-services")[0], 0)
+        self.assertIn("these nodes have services: 2.", errors)
+        self.assertEqual(self.run_resetctl("bench", "--waves", "1", "--orders", "2", "--with-services")[0], 0)
         self.assertEqual(self.server.row(1)[1], 2)
 
     def test_without_room_for_a_node_it_measures_waves_alone(self) -> None:
         with self.orders() as book:
             book.order_all([{"op": "add", "node": node, "group": 1} for node in range(4, 65)])
-        status, out, told = self.run_words("bench", "--waves", "1")
-        self.assertEqual((status, "orders" in out, "wave" in out, "the order rate is not measured" in told), (0, False, True, True))
+        status, out, errors = self.run_resetctl("bench", "--waves", "1")
+        self.assertEqual((status, "orders" in out, "wave" in out, "the order rate is not measured" in errors), (0, False, True, True))
 
 
 load_tests = over_both

@@ -21,8 +21,8 @@ class Restored(Case):
 
     def test_each_group_has_one_reset(self) -> None:
         for times in (1, 2):
-            told = renew(self.port, self.orders(name=str(times)), 300)
-            self.assertEqual((told, self.epochs()), (
+            message = renew(self.port, self.orders(name=str(times)), 300)
+            self.assertEqual((message, self.epochs()), (
                 "each of the 3 groups was reset, and all 6 nodes have a new epoch", [times] * 6))
 
     def test_after_a_restore_the_count_is_found(self) -> None:
@@ -36,19 +36,19 @@ class Restored(Case):
         self.assertEqual(self.epochs(), [1] * 6)
 
     def test_the_command(self) -> None:
-        status, out, _ = self.run_words("--patience", "300", "restored")
+        status, out, _ = self.run_resetctl("--patience", "300", "restored")
         self.assertEqual((status, out, self.epochs()), (0, "each of the 3 groups was reset, and all 6 nodes have a new epoch\n", [1] * 6))
 
     def test_the_generation_is_named(self) -> None:
         """It is one above that of the count, so that no earlier member has a greater fence."""
         for count, generation in ((0, 1), ((1 << 40) - 1, 1), (1 << 40, 2), ((8_388_607 << 40) - 1, 8_388_607)):
-            status, out, _ = self.run_words("--patience", "300", "restored", "--fence", str(count))
+            status, out, _ = self.run_resetctl("--patience", "300", "restored", "--fence", str(count))
             self.assertEqual((status, out.splitlines()[1:]), (0, [
                 f"now start all members with generation {generation}, or with a greater generation if a member has already used that one"]))
 
     def test_counts_above_which_there_is_no_generation(self) -> None:
         """Then nothing is asked for."""
-        status, _, errors = self.run_words("restored", "--fence", str((1 << 63) - 1))
+        status, _, errors = self.run_resetctl("restored", "--fence", str((1 << 63) - 1))
         self.assertEqual((status, self.epochs()), (2, [0] * 6))
         self.assertIn("from 0 to 8388607, not 8388608", errors)
 

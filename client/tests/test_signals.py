@@ -48,8 +48,8 @@ class Followed(unittest.TestCase):
         self.addCleanup(temporary.cleanup)
         self.path = f"{temporary.name}/signals"
 
-    def write(self, mode: str, text: str, behind: str = "") -> None:
-        with open(self.path + behind, mode, encoding="utf-8") as file:
+    def write(self, mode: str, text: str, suffix: str = "") -> None:
+        with open(self.path + suffix, mode, encoding="utf-8") as file:
             file.write(text)
 
     def test_each_change_is_a_wake(self) -> None:

@@ -134,13 +134,13 @@ class Kept(Case):
         self.assertEqual(self.due(Starts(Shelf(self.path), 1, 4), THROUGH), Due.TALK)
         self.assertEqual(self.due(Starts(Shelf(f"{self.folder}/none.json"), 1, 4), THROUGH), Due.RESET)
 
-    def test_what_a_gateway_tells_again_is_written(self) -> None:
+    def test_what_a_gateway_instructs_again_is_written(self) -> None:
         """It is written even if nothing else changes."""
         shelf = Shelf(self.path)
-        for told in ("1 1\n", "1 2\n"):
-            Starts(shelf, 1, None).note_begin(told)
+        for instruction in ("1 1\n", "1 2\n"):
+            Starts(shelf, 1, None).note_begin(instruction)
             shelf.keep()
-            self.assertEqual(Shelf(self.path).told(1), told)
+            self.assertEqual(Shelf(self.path).told(1), instruction)
 
     def test_nothing_is_written_where_nothing_changes(self) -> None:
         shelf, starts = self.begun(4)
@@ -153,7 +153,7 @@ class Kept(Case):
             shelf.keep()
         self.assertEqual(synced.call_count, 0)
 
-    def test_a_file_that_does_not_read_is_told(self) -> None:
+    def test_a_file_that_does_not_read_is_reported(self) -> None:
         for text in ("[]", "{", '{"1": {}}', '{"1": {"begun": 4}}', '{"1": {"begun": "4", "party": null}}', '{"1": {"begun": 4, "party": "1 4"}}'):
             keep(self.path, f"{text}\n")
             self.assertRaises(ValueError, Shelf, self.path)
@@ -170,11 +170,11 @@ class Cuts(Case):
         self.left = cut
 
         def made(call: Callable[..., object]) -> mock.Mock:
-            def called(*words: object) -> object:
+            def called(*arguments: object) -> object:
                 self.left -= 1
                 if self.left < 0:
                     raise Cut
-                return call(*words)
+                return call(*arguments)
             return mock.Mock(side_effect=called)
         return made
 

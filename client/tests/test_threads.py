@@ -85,7 +85,7 @@ class Threads(Case):
         self.in_threads(lambda: adds(3), lambda: adds(23), lambda: adds(43))
         self.assertEqual((len(self.server.nodes), self.server.last(1)), (62, 60))
 
-    def test_one_without_an_answer_goes_on_behind_what_another_ordered(self) -> None:
+    def test_one_without_an_answer_goes_on_after_what_another_ordered(self) -> None:
         """Whether it was carried out or not, its own thread calls again, and it is carried out once."""
         for node, fault in ((3, "mute"), (4, "lose")):
             self.server.faults = [fault]
@@ -95,7 +95,7 @@ class Threads(Case):
             self.assertIn(self.book.order("add", node=node, group=1).kind, ("done", CARRIED_OUT.kind))
             self.server.await_settled()
         self.assertEqual(self.server.last(1), 4)
-        self.assertEqual(self.told, [])
+        self.assertEqual(self.messages, [])
 
     def test_several_of_which_the_first_alone_was_answered(self) -> None:
         wanted = [{"op": "add", "node": node, "group": 1} for node in (3, 4, 5)]
@@ -108,9 +108,9 @@ class Threads(Case):
         self.assertEqual([isinstance(outcome, Reply) for outcome in outcomes], [True] * 3)
         self.assertEqual((sorted(self.server.nodes), self.server.last(1)), ([1, 2, 3, 4, 5], 5))
 
-    def test_a_folder_is_let_go_behind_the_call_that_works(self) -> None:
+    def test_a_folder_is_let_go_after_the_call_that_works(self) -> None:
         port = Held(self.server.address)
-        book = Orders(port, 2, f"{self.folder}/held", told=self.told.append)
+        book = Orders(port, 2, f"{self.folder}/held", told=self.messages.append)
         asker = threading.Thread(target=lambda: book.order("reset", node=1), daemon=True)
         asker.start()
         self.assertTrue(port.is_asked.wait(SECONDS))

@@ -15,28 +15,28 @@ class Topologies(unittest.TestCase):
     def network(self, nodes: dict[int, int], *links: tuple[int, int]) -> Network:
         return Network(dict(nodes), set(links))
 
-    def words(self, have: Network, want: Network) -> list[str]:
+    def lines(self, have: Network, want: Network) -> list[str]:
         return [str(order) for order in plan(have, want)]
 
     def test_nothing_to_do(self) -> None:
-        self.assertEqual(self.words(self.network({1: 1}), self.network({1: 1})), [])
+        self.assertEqual(self.lines(self.network({1: 1}), self.network({1: 1})), [])
 
     def test_joins_come_before_drops_and_removals_last(self) -> None:
         have = self.network({1: 1, 2: 1, 3: 1}, (1, 2), (2, 3))
         want = self.network({1: 1, 2: 1, 4: 1}, (1, 2), (1, 4), (2, 4))
-        self.assertEqual(self.words(have, want), ["add 4 1", "join 1 4", "join 2 4", "drop 2 3", "remove 3"])
+        self.assertEqual(self.lines(have, want), ["add 4 1", "join 1 4", "join 2 4", "drop 2 3", "remove 3"])
 
     def test_a_changed_group_is_a_removal_and_an_addition(self) -> None:
         have = self.network({1: 1, 2: 1}, (1, 2))
         want = self.network({1: 2, 2: 2}, (1, 2))
-        self.assertEqual([word.split("    #")[0] for word in self.words(have, want)],
+        self.assertEqual([line.split("    #")[0] for line in self.lines(have, want)],
                          ["drop 1 2", "remove 1", "add 1 2", "remove 2", "add 2 2", "join 1 2"])
 
     def test_a_drop_comes_first_where_there_is_no_room(self) -> None:
         star = {node: 1 for node in range(1, 19)}
         have = self.network(star, *((1, node) for node in range(2, 18)))
         want = self.network(star, *((1, node) for node in range(3, 19)))
-        self.assertEqual(self.words(have, want), [
+        self.assertEqual(self.lines(have, want), [
             "drop 1 2    # this makes room for the link between 1 and 18", "join 1 18"])
 
     def test_all_links_are_taken(self) -> None:

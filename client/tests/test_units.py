@@ -60,11 +60,11 @@ class Units(unittest.TestCase):
         return parser
 
     def test_the_timer_looks_at_the_store_and_the_signals(self) -> None:
-        words = self.unit("resetd-health.service")["Service"]["ExecStart"]
+        command = self.unit("resetd-health.service")["Service"]["ExecStart"]
         for expected in ("--close-stopped", "--store /var/lib/resetd/store", "--signals /var/log/resetd/signals"):
-            self.assertIn(expected, words)
+            self.assertIn(expected, command)
 
-    def test_a_unit_that_failed_is_told(self) -> None:
+    def test_a_unit_that_failed_is_reported(self) -> None:
         for name in ("resetd.service", "resetd-health.service"):
             self.assertEqual(self.unit(name)["Unit"]["OnFailure"], "resetd-alert@%n.service")
         self.assertTrue(self.unit("resetd-alert@.service")["Service"]["ExecStart"])

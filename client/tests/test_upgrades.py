@@ -50,9 +50,9 @@ class Gateways(Case):
         for node in (1, 2):
             os.makedirs(f"{self.folder}/members/{node}")
             keep(f"{self.folder}/members/{node}/wanted", "1 9\n")
-        Gateway(self.port, self.orders(5, "book"), {1: ["1"], 2: ["2"]}, f"{self.folder}/members", told=self.told.append)
-        self.assertEqual(self.told, ["2 members, such as 1, have instructions from a gateway of an earlier version: "
-                                     "start them again with this version"])
+        Gateway(self.port, self.orders(5, "book"), {1: ["1"], 2: ["2"]}, f"{self.folder}/members", told=self.messages.append)
+        self.assertEqual(self.messages, ["2 members, such as 1, have instructions from a gateway of an earlier version: "
+                                         "start them again with this version"])
         self.assertEqual([os.listdir(f"{self.folder}/members/{node}") for node in (1, 2)], [[], []])
 
 

@@ -92,5 +92,5 @@ class Wakes(Case):
         os.remove(path)
         self.assertIs(follower.wait(5), Wake.CAME)
 
-    def test_it_waits_no_longer_than_it_is_told(self) -> None:
+    def test_it_waits_no_longer_than_the_given_time(self) -> None:
         self.assertIs(Follower(f"{self.folder}/none").wait(0.2), Wake.QUIET)

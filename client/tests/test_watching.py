@@ -14,7 +14,7 @@ from resetd_client import (
 SECONDS = 60.0  # for events that take milliseconds
 
 
-class Told(Case):
+class Watching(Case):
     def setUp(self) -> None:
         super().setUp()
         self.server.ring(1)
@@ -108,7 +108,7 @@ class Told(Case):
         self.assertIsInstance(wakes_of(port, "file"), Follower)
         self.assertIsInstance(wakes_of(self.port), Watched)
 
-    def test_a_member_is_told(self) -> None:
+    def test_a_member_is_woken(self) -> None:
         """It learns of a reset at once, although it looks only once an hour."""
         begun: list[int] = []
         is_begun = threading.Condition()
@@ -122,7 +122,7 @@ class Told(Case):
             with is_begun:
                 self.assertTrue(is_begun.wait_for(lambda: begun == epochs, SECONDS), begun)
 
-        member = Member(self.port, self.orders(), 1, None, begin, told=self.told.append)
+        member = Member(self.port, self.orders(), 1, None, begin, told=self.messages.append)
         following = threading.Thread(target=member.follow, args=(self.watched, 3_600.0), daemon=True)
         following.start()
         wait_for([1])
@@ -143,13 +143,13 @@ class Told(Case):
             if "[o]" in picture[0]:
                 raise KeyboardInterrupt
 
-        threading.Thread(target=self.change_behind_the_first_view, daemon=True).start()
+        threading.Thread(target=self.change_after_the_first_view, daemon=True).start()
         with mock.patch("resetd_client.control.looks.note", note), mock.patch("resetd_client.control.looks.PROXY_SECONDS", 3_600.0):
-            status, _, told = self.run_words("watch", "--for", str(SECONDS), address=f"unix:{self.path}")
-        self.assertEqual((status, told), (130, ""), pictures)
+            status, _, errors = self.run_resetctl("watch", "--for", str(SECONDS), address=f"unix:{self.path}")
+        self.assertEqual((status, errors), (130, ""), pictures)
         self.assertIn("[·]", pictures[0])
 
-    def change_behind_the_first_view(self) -> None:
+    def change_after_the_first_view(self) -> None:
         if self.proxy.wait_for_watchers(1):
             self.server.reset(1)
             self.proxy.push()

@@ -41,9 +41,9 @@ class Files(Case):
         self.folder = folder.name
         os.chmod(self.folder, 0o755)
 
-    def why(self, *words: str) -> tuple[int, list[str]]:
-        status, out, told = self.run_words("why", *words)
-        self.assertEqual(told, "")
+    def why(self, *arguments: str) -> tuple[int, list[str]]:
+        status, out, errors = self.run_resetctl("why", *arguments)
+        self.assertEqual(errors, "")
         return status, out.splitlines()
 
     def test_a_store(self) -> None:
@@ -56,26 +56,26 @@ class Files(Case):
             self.assertIn("lock     no process on this machine holds the lock", lines)
 
     def test_where_it_stops_to_read(self) -> None:
-        for data, told in ((b"", "NoMagic: at byte 0, the file does not begin with the header of a store: the file is empty"),
-                           (APPENDED[:50], "BadRecord: at byte 38, a body of 23 bytes and its gate byte extend past the end"),
-                           (FRESH[:17] + b"\3" + FRESH[18:], "BadSnapshot: at byte 17, this library does not know version 3 of the format"),
-                           (APPENDED[:48] + b"\7" + APPENDED[49:], "BadBatch: at byte 48, batch 0 can't be decoded (BadByte)")):
+        for data, expected in ((b"", "NoMagic: at byte 0, the file does not begin with the header of a store: the file is empty"),
+                               (APPENDED[:50], "BadRecord: at byte 38, a body of 23 bytes and its gate byte extend past the end"),
+                               (FRESH[:17] + b"\3" + FRESH[18:], "BadSnapshot: at byte 17, this library does not know version 3 of the format"),
+                               (APPENDED[:48] + b"\7" + APPENDED[49:], "BadBatch: at byte 48, batch 0 can't be decoded (BadByte)")):
             status, lines = self.why(self.put(data))
-            name = told.split(":")[0]
+            name = expected.split(":")[0]
             self.assertEqual((status, lines[-1]), (
-                1, f"a start now would end with the fault {name}: store: the file is not a readable store: {told}"))
+                1, f"a start now would end with the fault {name}: store: the file is not a readable store: {expected}"))
 
     def test_what_is_no_file(self) -> None:
         os.mkfifo(f"{self.folder}/fifo")
         os.symlink(f"{self.folder}/nowhere", f"{self.folder}/link")
-        for path, told in (("none", "NoMagic: file: No such file or directory; a start of the server would create an empty file"),
-                           ("link", f"Device: file: the path is a symbolic link to a missing file: {self.folder}/nowhere"),
-                           ("none/store", f"Device: folder: {self.folder}/none: No such file or directory"),
-                           (".", "Device: file: a folder of "), ("fifo", "Device: file: a FIFO of 0 bytes, p"),
-                           ("/dev/null", "Device: file: a character device of 0 bytes, c")):
+        for path, expected in (("none", "NoMagic: file: No such file or directory; a start of the server would create an empty file"),
+                               ("link", f"Device: file: the path is a symbolic link to a missing file: {self.folder}/nowhere"),
+                               ("none/store", f"Device: folder: {self.folder}/none: No such file or directory"),
+                               (".", "Device: file: a folder of "), ("fifo", "Device: file: a FIFO of 0 bytes, p"),
+                               ("/dev/null", "Device: file: a character device of 0 bytes, c")):
             status, lines = self.why(os.path.join(self.folder, path))
             self.assertEqual(status, 1)
-            self.assertTrue(lines[-1].startswith(f"a start now would end with the fault {told}"), lines)
+            self.assertTrue(lines[-1].startswith(f"a start now would end with the fault {expected}"), lines)
 
     def test_who_holds_the_lock(self) -> None:
         store = self.put(FRESH)
@@ -153,8 +153,8 @@ class Files(Case):
         with socket.create_server(("127.0.0.1", 0)) as other:
             status, lines = self.why(store, f"127.0.0.1:{other.getsockname()[1]}")
         self.assertEqual(status, 1)
-        told = rf"^a start now would end with the fault Socket: address: process {os.getpid()} \(.*\) listens at this address"
-        self.assertTrue(any(re.search(told, line) for line in lines), lines)
+        expected = rf"^a start now would end with the fault Socket: address: process {os.getpid()} \(.*\) listens at this address"
+        self.assertTrue(any(re.search(expected, line) for line in lines), lines)
         self.assertTrue(any("connected, but got no answer for 2 s" in line for line in lines))
         for address, name in (("localhost:4170", "Usage"), ("127.0.0.1:0", "Usage"), ("192.0.2.7:4170", "Socket")):
             status, lines = self.why(store, address)
@@ -194,8 +194,8 @@ class Files(Case):
 class Conditions(unittest.TestCase):
     """The reasons why a process makes no progress."""
 
-    def started(self, *words: str) -> int:
-        process = subprocess.Popen([sys.executable, "-c", *words], stdout=subprocess.PIPE)
+    def started(self, *code: str) -> int:
+        process = subprocess.Popen([sys.executable, "-c", *code], stdout=subprocess.PIPE)
         self.addCleanup(process.wait)
         self.addCleanup(process.kill)
         assert process.stdout
@@ -245,8 +245,8 @@ class Connections(unittest.TestCase):
                     self.assertTrue(served)
 
     def test_a_client_with_an_address_of_version_6(self) -> None:
-        words = "0: 0000000000000000FFFF00000100007F:C350 0000000000000000FFFF00000100007F:104A 01 0:0 0:0 0 1000 0 77 1".split()
-        self.assertEqual(row_of(words), Row("0100007F:C350", "0100007F:104A", "01", 1000, 77))
+        fields = "0: 0000000000000000FFFF00000100007F:C350 0000000000000000FFFF00000100007F:104A 01 0:0 0:0 0 1000 0 77 1".split()
+        self.assertEqual(row_of(fields), Row("0100007F:C350", "0100007F:104A", "01", 1000, 77))
         self.assertEqual((written("127.0.0.1", 4170), read_address("0100007F:104A")), ("0100007F:104A", "127.0.0.1:4170"))
 
 
@@ -277,10 +277,10 @@ class BesideTheProgram(Case):
 
     is_real = True
 
-    def foretold(self, path: str, address: str) -> str:
-        last = self.run_words("why", path, address)[1].splitlines()
-        told = [line for line in last if line.startswith("a start now would end with the fault ")]
-        return told[0].split()[8].rstrip(":") if told else ""
+    def predicted(self, path: str, address: str) -> str:
+        last = self.run_resetctl("why", path, address)[1].splitlines()
+        predicted = [line for line in last if line.startswith("a start now would end with the fault ")]
+        return predicted[0].split()[8].rstrip(":") if predicted else ""
 
     def ended(self, path: str, address: str) -> str:
         """Returns the fault with which a start ends, or nothing if the server listens."""
@@ -309,14 +309,14 @@ class BesideTheProgram(Case):
         for path in ("good", "empty", "cut", "text", "later", "batch", "fifo", "to-fifo", "to-good", "to-nothing", "/dev/null", ".",
                      "none", "none/store", self.server.store):
             place = os.path.join(self.folder, path)
-            self.assertEqual(self.foretold(place, free), self.ended(place, free), path)
+            self.assertEqual(self.predicted(place, free), self.ended(place, free), path)
         for address in ("localhost:4170", "127.0.0.1", "192.0.2.7:4170", self.server.behind):
-            self.assertEqual(self.foretold(f"{self.folder}/good", address), self.ended(f"{self.folder}/good", address), address)
+            self.assertEqual(self.predicted(f"{self.folder}/good", address), self.ended(f"{self.folder}/good", address), address)
 
     def test_a_store_that_is_served(self) -> None:
         assert isinstance(self.server, Real) and self.server.process
         self.server.ring(2)
-        _, out, _ = self.run_words("why", self.server.store, self.server.behind)
+        _, out, _ = self.run_resetctl("why", self.server.store, self.server.behind)
         self.assertIn(f"process {self.server.process.pid} ({PROGRAM} serve {self.server.store} 127.0.0.1:0)", out)
         self.assertIn("a coordinator with 2 nodes and 3 steps on the disk", out)
         self.assertNotIn("this file is not the server's store", out)
@@ -328,13 +328,13 @@ class BesideTheProgram(Case):
         shutil.copy(PROGRAM, program)
         self.server.program = program
         self.server.found("")
-        told = f"runs {program}, SHA-256 {checksum_of(PROGRAM)}"
-        _, out, _ = self.run_words("why", self.server.store)
-        self.assertIn(f"{told}\n", out)
+        line = f"runs {program}, SHA-256 {checksum_of(PROGRAM)}"
+        _, out, _ = self.run_resetctl("why", self.server.store)
+        self.assertIn(f"{line}\n", out)
         shutil.copy(sys.executable, f"{program}.new")
         os.replace(f"{program}.new", program)
-        _, out, _ = self.run_words("why", self.server.store)
-        self.assertIn(f"{told}; the file at that path has changed", out)
+        _, out, _ = self.run_resetctl("why", self.server.store)
+        self.assertIn(f"{line}; the file at that path has changed", out)
 
     def test_a_client_that_keeps_the_one_connection(self) -> None:
         assert isinstance(self.server, Real) and self.server.process
@@ -342,7 +342,7 @@ class BesideTheProgram(Case):
         with socket.create_connection((host, int(port))) as client:
             client.sendall(b'{"op":"show"}\n')
             self.assertTrue(client.recv(1))  # this client is the one that is served
-            lines = self.run_words("why", self.server.store, self.server.behind)[1].splitlines()
+            lines = self.run_resetctl("why", self.server.store, self.server.behind)[1].splitlines()
         keeps = "a running server may have this problem: a client keeps the server's only connection: client: process "
         self.assertTrue(any(line.startswith(f"{keeps}{os.getpid()} (") for line in lines), lines)
 
@@ -350,22 +350,22 @@ class BesideTheProgram(Case):
         assert isinstance(self.server, Real) and self.server.process
         process = self.server.process.pid
         os.kill(process, signal.SIGSTOP)
-        lines = self.run_words("why", self.server.store, self.server.behind)[1].splitlines()
+        lines = self.run_resetctl("why", self.server.store, self.server.behind)[1].splitlines()
         os.kill(process, signal.SIGCONT)
         stopped = f"a running server may have this problem: a signal has stopped the server: server: process {process} is stopped by a signal"
         self.assertTrue(any(line.startswith(stopped) and f"kill -CONT {process}" in line for line in lines), lines)
         self.assertFalse(any("has the server's only connection" in line for line in lines), lines)
 
     def test_an_output_that_nobody_reads(self) -> None:
-        self.expect_the_reader_told(*os.pipe())
+        self.expect_the_reader_reported(*os.pipe())
 
     def test_a_fifo_that_nobody_reads(self) -> None:
         """The reader of a named pipe has opened it for reading and writing, like a shell's `<>`."""
         os.mkfifo(f"{self.folder}/fifo")
         reader = os.open(f"{self.folder}/fifo", os.O_RDWR)
-        self.expect_the_reader_told(reader, os.open(f"{self.folder}/fifo", os.O_WRONLY))
+        self.expect_the_reader_reported(reader, os.open(f"{self.folder}/fifo", os.O_WRONLY))
 
-    def expect_the_reader_told(self, reader: int, writer: int) -> None:
+    def expect_the_reader_reported(self, reader: int, writer: int) -> None:
         """The process that has the pipe is named, and once the pipe is full that is a finding about the running server."""
         self.addCleanup(os.close, reader)
         fcntl.fcntl(writer, fcntl.F_SETPIPE_SZ, 4_096)
@@ -378,19 +378,19 @@ class BesideTheProgram(Case):
         os.close(writer)
         self.server.behind = os.read(reader, 100).decode().split()[1]
         output = f"output   process {process.pid} writes to a pipe that process {os.getpid()} ("
-        told = self.run_words("why", self.server.store, self.server.behind)[1]
-        self.assertIn(output, told)
-        self.assertNotIn("a running server may have this problem", told)
+        out = self.run_resetctl("why", self.server.store, self.server.behind)[1]
+        self.assertIn(output, out)
+        self.assertNotIn("a running server may have this problem", out)
         for number in range(1, 401):
             self.server.ask(op="reset", client=9, number=number, node=1)
         self.assertEqual(self.server.ask(op="close"), {"kind": "closed"})
-        told = self.run_words("why", self.server.store, self.server.behind)[1]
-        self.assertIn(output, told)
-        self.assertIn("a running server may have this problem: nobody reads the server's output: output: process", told.splitlines()[-1])
+        out = self.run_resetctl("why", self.server.store, self.server.behind)[1]
+        self.assertIn(output, out)
+        self.assertIn("a running server may have this problem: nobody reads the server's output: output: process", out.splitlines()[-1])
 
     def test_a_file_that_was_cut_under_its_server(self) -> None:
         assert isinstance(self.server, Real)
         self.server.ring(2)
         self.server.reset(1)
         os.truncate(self.server.store, 100)
-        self.assertIn("this file is not the server's store", self.run_words("why", self.server.store, self.server.behind)[1])
+        self.assertIn("this file is not the server's store", self.run_resetctl("why", self.server.store, self.server.behind)[1])

@@ -14,7 +14,7 @@ import resetd_client
 from resetd_client import Away, Orders
 
 
-class Told(Case):
+class Messages(Case):
     def overtaken(self, orders: Orders) -> None:
         """Makes an order without an answer be refused, which is reported to a person."""
         self.server.faults = ["lose"]
@@ -38,7 +38,7 @@ class Told(Case):
         orders.recover()
         with self.assertNoLogs("resetd_client"):
             self.overtaken(orders)
-        self.assertEqual(len(self.told), 1)
+        self.assertEqual(len(self.messages), 1)
 
 
 class Page(unittest.TestCase):
