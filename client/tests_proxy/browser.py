@@ -44,8 +44,8 @@ def pictured(driver: Any, picture: str) -> bool:
 def main() -> None:
     address, path, picture = sys.argv[1:]
     options: Any = Options()
-    for word in ("--headless=new", "--no-sandbox", "--disable-dev-shm-usage", "--disable-gpu"):
-        options.add_argument(word)
+    for option in ("--headless=new", "--no-sandbox", "--disable-dev-shm-usage", "--disable-gpu"):
+        options.add_argument(option)
     driver: Any = webdriver.Chrome(service=Service("/usr/bin/chromedriver"), options=options)
     try:
         driver.set_window_size(1200, 900)

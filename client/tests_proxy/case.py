@@ -144,9 +144,9 @@ class Proxy:
         usual = {"--patience": "600", "--stuck": "600", "--server-silent": "600", "--audit": self.audit, "--policy": f"{folder}/everything.toml"}
         write_policy(usual["--policy"], policy((principal, OPS)))
         addresses = [servers] if isinstance(servers, str) else servers
-        self._command = [*before, RESETD_PROXY, "serve", *(word for address in addresses for word in ("--server", address)),
+        self._command = [*before, RESETD_PROXY, "serve", *(argument for address in addresses for argument in ("--server", address)),
                          "--listen", f"{principal}={self.path}",
-                         *(word for flag, value in usual.items() if flag not in arguments for word in (flag, value)), *arguments]
+                         *(argument for flag, value in usual.items() if flag not in arguments for argument in (flag, value)), *arguments]
         self._principal = principal
         self.process: subprocess.Popen[bytes] | None = None
         self.start()

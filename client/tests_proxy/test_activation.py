@@ -16,7 +16,7 @@ from headers import header
 # `{}` in a value of the environment is this process.
 MANAGER = """
 import fcntl, json, os, socket, sys
-paths, environment, words = json.loads(sys.argv[1]), json.loads(sys.argv[2]), sys.argv[3:]
+paths, environment, command = json.loads(sys.argv[1]), json.loads(sys.argv[2]), sys.argv[3:]
 opened = []
 for path in paths:
     listener = socket.socket(socket.AF_INET if isinstance(path, int) else socket.AF_UNIX)
@@ -27,12 +27,12 @@ for place, descriptor in enumerate(opened):
     os.dup2(descriptor, 3 + place)
     os.close(descriptor)
 os.environ.update({name: value.replace("{}", str(os.getpid())) for name, value in environment.items()})
-os.execv(words[0], words)
+os.execv(command[0], command)
 """
 
 
 def manager(paths: list[str | int], **environment: str) -> tuple[str, ...]:
-    """The words before the program's, of a manager that opens these sockets."""
+    """The start of the command line, before the program, of a manager that opens these sockets."""
     usual = {"LISTEN_PID": "{}", "LISTEN_FDS": str(len(paths)), **environment}
     return (sys.executable, "-c", MANAGER, json.dumps(paths), json.dumps(usual))
 
@@ -83,9 +83,9 @@ class Passed(Case):
 
     def ended(self, names: str, paths: list[str | int], **environment: str) -> tuple[int, str]:
         """The status and the last line of a proxy that does not start."""
-        words = [*manager(paths, **environment), RESETD_PROXY, "serve", "--server", self.server.address, "--policy", self.policy,
-                 "--listen-fds", names]
-        done = subprocess.run(words, stdin=subprocess.DEVNULL, capture_output=True, encoding="utf-8", timeout=120, check=False)
+        command = [*manager(paths, **environment), RESETD_PROXY, "serve", "--server", self.server.address, "--policy", self.policy,
+                   "--listen-fds", names]
+        done = subprocess.run(command, stdin=subprocess.DEVNULL, capture_output=True, encoding="utf-8", timeout=120, check=False)
         for path in paths:
             if isinstance(path, str):
                 os.remove(path)

@@ -79,8 +79,8 @@ class Lines(Audited):
 
     def test_a_link_is_refused(self) -> None:
         os.symlink("/dev/null", f"{self.folder}/link")
-        words = [RESETD_PROXY, "serve", "--server", self.server.address, "--policy", self.policy, "--audit", f"{self.folder}/link"]
-        self.assertEqual(subprocess.run(words, capture_output=True, timeout=DEADLINE).returncode, 1)
+        command = [RESETD_PROXY, "serve", "--server", self.server.address, "--policy", self.policy, "--audit", f"{self.folder}/link"]
+        self.assertEqual(subprocess.run(command, capture_output=True, timeout=DEADLINE).returncode, 1)
 
 
 class Quotas(Audited):

@@ -20,8 +20,8 @@ class Addresses(Case):
     nodes = 2
     has_proxy = False
 
-    def proxy_before(self, *addresses: str, patience: float = 600) -> Proxy:
-        proxy = Proxy(self.folder, addresses, "--patience", str(patience))
+    def proxy_before(self, *addresses: str, timeout: float = 600) -> Proxy:
+        proxy = Proxy(self.folder, addresses, "--patience", str(timeout))
         self.addCleanup(proxy.kill)
         return proxy
 
@@ -62,7 +62,7 @@ class Addresses(Case):
 
     def test_one_who_sends_on_is_ended_too(self) -> None:
         """The first line without an answer counts."""
-        proxy = self.proxy_before(self.server.address, patience=1.5)
+        proxy = self.proxy_before(self.server.address, timeout=1.5)
         self.server.kill()
         ended, began = threading.Event(), time.monotonic()
         with proxy.connect() as client:

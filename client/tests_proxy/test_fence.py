@@ -58,13 +58,13 @@ class Workers(Case):
         return "".join([*(f"[[node]]\nid = {node}\ngroup = 1\n" for node in range(1, MEMBERS + 1)),
                         *(f"[[link]]\na = 1\nb = {node}\n" for node in range(2, MEMBERS + 1))])
 
-    def start(self, database: str, *words: str, python: str = sys.executable) -> None:
-        self.processes = [self.worker(node, database, python, words) for node in range(1, MEMBERS + 1)]
+    def start(self, database: str, *arguments: str, python: str = sys.executable) -> None:
+        self.processes = [self.worker(node, database, python, arguments) for node in range(1, MEMBERS + 1)]
 
-    def worker(self, node: int, database: str, python: str, words: Sequence[str]) -> subprocess.Popen[bytes]:
+    def worker(self, node: int, database: str, python: str, arguments: Sequence[str]) -> subprocess.Popen[bytes]:
         with open(f"{self.folder}/{node}.lines", "ab") as lines:
             process = subprocess.Popen([python, f"{ROOT}/examples/fenced", str(node), f"unix:{self.proxy.path}", f"{self.folder}/{node}",
-                                        database, *words], stdin=subprocess.DEVNULL, stdout=lines, stderr=lines)
+                                        database, *arguments], stdin=subprocess.DEVNULL, stdout=lines, stderr=lines)
         self.addCleanup(process.wait)
         self.addCleanup(process.kill)
         return process
@@ -107,8 +107,8 @@ class Workers(Case):
         generation all go on, and the two that were paused are refused."""
         until("workers that talk", self.are_through)
         copy = self.copy_store()
-        words: tuple[dict[str, Any], ...] = ({"op": "remove"}, {"op": "add", "group": 1})
-        steps = [{"client": 9, "number": number, "node": SPARE, **words[number % 2]} for number in range(1, SPARE_STEPS + 1)]
+        orders: tuple[dict[str, Any], ...] = ({"op": "remove"}, {"op": "add", "group": 1})
+        steps = [{"client": 9, "number": number, "node": SPARE, **orders[number % 2]} for number in range(1, SPARE_STEPS + 1)]
         self.assertEqual({answer.get("kind") for answer in Port(self.server.address).ask_many(steps) if isinstance(answer, dict)}, {"done"})
         for _ in range(LOST):
             self.proxy.ask(op="reset", node=1)
@@ -261,19 +261,19 @@ class OverPostgres(Workers):
         self.addCleanup(shutil.rmtree, self.data, True)
         os.chmod(self.data, 0o777)
         self.ran([f"{self.binaries}/initdb", "-D", f"{self.data}/data", "-A", "trust", "-U", "resetd", "-N"])
-        words = (f"-c listen_addresses='' -c unix_socket_directories={self.data} -c fsync=off -c idle_in_transaction_session_timeout="
-                 f"{MOST_IDLE}")
-        self.ran([f"{self.binaries}/pg_ctl", "-D", f"{self.data}/data", "-w", "-l", f"{self.data}/log", "-o", words, "start"])
+        options = (f"-c listen_addresses='' -c unix_socket_directories={self.data} -c fsync=off -c idle_in_transaction_session_timeout="
+                   f"{MOST_IDLE}")
+        self.ran([f"{self.binaries}/pg_ctl", "-D", f"{self.data}/data", "-w", "-l", f"{self.data}/log", "-o", options, "start"])
         self.addCleanup(self.ran, [f"{self.binaries}/pg_ctl", "-D", f"{self.data}/data", "-m", "immediate", "stop"])
         self.database = f"postgresql:host={self.data} user=resetd dbname=postgres"
         for statement in [*statements(), f"INSERT INTO items SELECT generate_series(1, {ITEMS})"]:
             self.query(statement)
 
-    def ran(self, words: list[str]) -> None:
-        done = subprocess.run([*self.user, *words], stdin=subprocess.DEVNULL, stdout=subprocess.DEVNULL, stderr=subprocess.PIPE,
+    def ran(self, command: list[str]) -> None:
+        done = subprocess.run([*self.user, *command], stdin=subprocess.DEVNULL, stdout=subprocess.DEVNULL, stderr=subprocess.PIPE,
                               encoding="utf-8", cwd="/tmp", check=False, timeout=300)
         if done.returncode:
-            raise AssertionError(f"{words}: {done.stderr}")
+            raise AssertionError(f"{command}: {done.stderr}")
 
     def query(self, statement: str) -> str:
         done = subprocess.run(["psql", "-X", "-q", "-A", "-t", "-h", self.data, "-U", "resetd", "-d", "postgres", "-c", statement],

@@ -158,7 +158,7 @@ class Away(Case):
         self.assertIn("nodes", self.proxy.ask(op="show"))
 
 
-class Impatient(Case):
+class ShortTimeout(Case):
     nodes = 2
     options = ("--patience", "0.5")
 

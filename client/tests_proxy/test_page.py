@@ -43,12 +43,13 @@ class Shown(Case):
         self.page: subprocess.Popen[bytes] | None = None
         self.address = self.show("127.0.0.1:0", "--audit", self.proxy.audit)
 
-    def show(self, listen: str, *words: str) -> str:
+    def show(self, listen: str, *arguments: str) -> str:
         """Starts the program in place of the last one, and returns where the page is."""
         self.end()
         with open(self.errors, "wb") as errors:
-            self.page = subprocess.Popen([PYTHON, f"{CLIENT}/resetd-page", "--address", f"unix:{self.proxy.path}", "--listen", listen, *words],
-                                         stdin=subprocess.DEVNULL, stderr=errors)
+            self.page = subprocess.Popen(
+                [PYTHON, f"{CLIENT}/resetd-page", "--address", f"unix:{self.proxy.path}", "--listen", listen, *arguments],
+                stdin=subprocess.DEVNULL, stderr=errors)
         self.addCleanup(self.end)
         return until("a page", lambda: next((line.partition(AT)[2] for line in self.said() if AT in line), ""))
 
@@ -143,11 +144,11 @@ class PageProgram(Shown):
         self.assertEqual((ran.returncode, "already in use" in ran.stderr), (1, True))
 
     def test_wrong_addresses(self) -> None:
-        for words, message in ((("--address", self.server.address), "not an address of the proxy"),
-                               (("--address", "unix:/nowhere", "--listen", "192.0.2.1:80"), "HOST:PORT of the loopback"),
-                               (("--address", "unix:/nowhere", "--listen", "systemd"), "has not passed exactly one socket")):
-            with self.subTest(words):
-                ran = self.second(*words)
+        for arguments, message in ((("--address", self.server.address), "not an address of the proxy"),
+                                   (("--address", "unix:/nowhere", "--listen", "192.0.2.1:80"), "HOST:PORT of the loopback"),
+                                   (("--address", "unix:/nowhere", "--listen", "systemd"), "has not passed exactly one socket")):
+            with self.subTest(arguments):
+                ran = self.second(*arguments)
                 self.assertEqual((ran.returncode, message in ran.stderr), (1, True), ran.stderr)
 
     def test_without_aiohttp(self) -> None:
@@ -158,8 +159,8 @@ class PageProgram(Shown):
             ran = self.second("--help")
         self.assertEqual((ran.returncode, ran.stderr), (1, "resetd-page: the Debian package python3-aiohttp is not installed\n"))
 
-    def second(self, *words: str) -> subprocess.CompletedProcess[str]:
-        return subprocess.run([PYTHON, f"{CLIENT}/resetd-page", *words], capture_output=True, text=True, timeout=DEADLINE, check=False)
+    def second(self, *arguments: str) -> subprocess.CompletedProcess[str]:
+        return subprocess.run([PYTHON, f"{CLIENT}/resetd-page", *arguments], capture_output=True, text=True, timeout=DEADLINE, check=False)
 
 
 @unittest.skipUnless(PYTHON_OF_BROWSER and shutil.which("chromium") and shutil.which("chromedriver"),

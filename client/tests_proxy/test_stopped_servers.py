@@ -59,9 +59,9 @@ class Stopped(unittest.TestCase):
         self.addCleanup(server.close)
         return server
 
-    def connect(self, *words: str) -> Client:
+    def connect(self, *arguments: str) -> Client:
         """Returns a connection whose first order has been answered, so that the proxy knows the number of its own last order."""
-        proxy = Proxy(self.folder, self.server.address, *words)
+        proxy = Proxy(self.folder, self.server.address, *arguments)
         self.addCleanup(proxy.kill)
         client = proxy.connect()
         self.addCleanup(client.close)

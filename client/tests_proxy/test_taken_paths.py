@@ -21,14 +21,14 @@ class Paths(unittest.TestCase):
         with open(self.policy, "w", encoding="ascii"):
             pass
 
-    def started(self, *words: str) -> subprocess.CompletedProcess[str]:
+    def started(self, *arguments: str) -> subprocess.CompletedProcess[str]:
         """A proxy that ends by itself."""
-        command = [RESETD_PROXY, "serve", "--server", "127.0.0.1:1", "--policy", self.policy, *words]
+        command = [RESETD_PROXY, "serve", "--server", "127.0.0.1:1", "--policy", self.policy, *arguments]
         return subprocess.run(command, capture_output=True, text=True, check=False, timeout=DEADLINE)
 
-    def ended(self, *words: str) -> tuple[int, str]:
+    def ended(self, *arguments: str) -> tuple[int, str]:
         """The status of a proxy that ends by itself, and the last line that it wrote."""
-        ran = self.started(*words)
+        ran = self.started(*arguments)
         return ran.returncode, ran.stderr.splitlines()[-1]
 
     def listening(self) -> socket.socket:
@@ -45,9 +45,9 @@ class Paths(unittest.TestCase):
         proxy = Proxy(self.folder, "127.0.0.1:1", "--policy", self.policy, "--certificates", certificates)
         self.addCleanup(proxy.kill)
         unix(certificates).close()  # once it listens there
-        for path, words in ((proxy.path, ["--listen", f"alice={proxy.path}"]), (certificates, ["--certificates", certificates])):
-            with self.subTest(words[0]):
-                self.assertEqual(self.ended(*words), (1, f"resetd-proxy: another process listens at {path}"))
+        for path, arguments in ((proxy.path, ["--listen", f"alice={proxy.path}"]), (certificates, ["--certificates", certificates])):
+            with self.subTest(arguments[0]):
+                self.assertEqual(self.ended(*arguments), (1, f"resetd-proxy: another process listens at {path}"))
         with proxy.connect() as client:
             self.assertEqual(client.ask(op="show"), {"fault": "NotAllowed"})
 

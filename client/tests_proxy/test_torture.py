@@ -39,10 +39,10 @@ class Leaving(Fake):
         self.steps = nodes
 
     def _serve_lines(self, connection: socket.socket, lines: IO[bytes]) -> None:
-        life = self.choice.randrange(1, 400)
+        left = self.choice.randrange(1, 400)
         for line in lines:
-            life -= 1
-            if life == 0:
+            left -= 1
+            if left == 0:
                 self.leave(connection, line)
                 return
             connection.sendall(self.respond(line).encode() + b"\n")

@@ -13,8 +13,8 @@ from case import DENIED, USER, Case, Client, policy, write_policy
 class Watching(Case):
     nodes = 8
 
-    def started(self, *words: str, **how: Any) -> Any:
-        return super().started("--signals", self.server.signals, *words, **how)
+    def started(self, *arguments: str, **how: Any) -> Any:
+        return super().started("--signals", self.server.signals, *arguments, **how)
 
     def watcher(self) -> tuple[Client, dict[str, Any]]:
         client = self.client()
@@ -38,7 +38,7 @@ class Watching(Case):
         self.proxy.ask(op="drop", client=1, number=1, a=1, b=2)
         self.view_where(client, lambda view: len(view["links"]) == 7)
 
-    def test_it_is_told_after_the_server_was_away(self) -> None:
+    def test_it_gets_views_after_the_server_was_away(self) -> None:
         client, _ = self.watcher()
         self.server.kill()
         self.server.start()
@@ -76,7 +76,7 @@ class Watching(Case):
                 answers.append(answer)
         self.assertEqual((answers[0]["kind"], answers[1]), ("started", {"fault": "BadJson"}))
 
-    def test_lines_behind_a_watch_wait_for_its_view(self) -> None:
+    def test_lines_after_a_watch_wait_for_its_view(self) -> None:
         """A view is the answer to a `watch`, and answers come in turn: over a new connection, and at a second `watch`."""
         for _ in range(10):
             client = self.client()
