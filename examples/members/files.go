@@ -60,8 +60,8 @@ func store(path string, value any) { keep(path, must(json.Marshal(value))) }
 
 var lock *os.File // open until the process ends
 
-// enter takes the words NODE ADDRESS FOLDER, makes the folder the working directory, and holds it, so that no other process is this
-// member. Before its first view the member talks in no run.
+// enter takes the arguments NODE ADDRESS FOLDER, makes the folder the working directory, and holds it, so that no other process
+// is this member. Before its first view the member talks in no run.
 func enter() (node Field, address string) {
 	if len(os.Args) != 4 {
 		log.Fatalf("usage: %s NODE unix:PATH|tls:HOST:PORT|HOST:PORT FOLDER", filepath.Base(os.Args[0]))

@@ -380,7 +380,7 @@ static void load(struct member *member)
     free(start.bytes);
 }
 
-int main(int count, char **words)
+int main(int count, char **arguments)
 {
     static struct member member;
     static struct proxy proxy;
@@ -389,17 +389,17 @@ int main(int count, char **words)
         fprintf(stderr, "usage: member NODE unix:PATH|HOST:PORT FOLDER\n");
         return 2;
     }
-    member.node = (uint8_t)atoi(words[1]);
-    mkdir(words[3], 0777);
-    expect(chdir(words[3]) == 0, words[3]);
-    lock_folder(words[3]);
+    member.node = (uint8_t)atoi(arguments[1]);
+    mkdir(arguments[3], 0777);
+    expect(chdir(arguments[3]) == 0, arguments[3]);
+    lock_folder(arguments[3]);
     load(&member);
     unlink("run"); /* before the first view nothing is known */
     for (;;) {
-        bool is_unix = strncmp(words[2], "unix:", 5) == 0;
+        bool is_unix = strncmp(arguments[2], "unix:", 5) == 0;
 
         proxy.length = 0;
-        proxy.socket = is_unix ? connect_unix(words[2] + 5) : connect_tcp(words[2]);
+        proxy.socket = is_unix ? connect_unix(arguments[2] + 5) : connect_tcp(arguments[2]);
         if (proxy.socket >= 0) {
             follow(&member, &proxy);
             close(proxy.socket);

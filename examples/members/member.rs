@@ -214,8 +214,8 @@ impl Member {
 }
 
 fn main() -> Result<()> {
-    let words: Vec<String> = env::args().collect();
-    let [_, node, address, folder] = &words[..] else {
+    let arguments: Vec<String> = env::args().collect();
+    let [_, node, address, folder] = &arguments[..] else {
         eprintln!("usage: member NODE unix:PATH|HOST:PORT FOLDER");
         process::exit(2);
     };
