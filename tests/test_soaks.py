@@ -16,23 +16,23 @@ class OfALostEpoch(unittest.TestCase):
 
     def setUp(self) -> None:
         self.now = 0.0
-        self.patience = ProgressTimeout(SECONDS, lambda: self.now)
-        self.patience.note([100, 100])
-        self.patience.begin()
+        self.timeout = ProgressTimeout(SECONDS, lambda: self.now)
+        self.timeout.note([100, 100])
+        self.timeout.begin()
 
     def passes(self, epochs: range, seconds: float) -> bool:
         """Whether the wait is still on once both nodes have had these epochs, each after this many seconds."""
         for epoch in epochs:
             self.now += seconds
-            self.patience.note([epoch, epoch + 1])
-            if self.patience.is_over:
+            self.timeout.note([epoch, epoch + 1])
+            if self.timeout.is_over:
                 return False
         return True
 
     def test_a_hundred_resets_take_longer_than_one_wait(self) -> None:
         self.assertTrue(self.passes(range(1, 101), 2.5))
         self.now += SECONDS - 1
-        self.assertFalse(self.patience.is_over)
+        self.assertFalse(self.timeout.is_over)
 
     def test_each_takes_no_longer_than_one_wait(self) -> None:
         self.assertFalse(self.passes(range(1, 3), SECONDS + 1))

@@ -91,8 +91,8 @@ class Watching(Case):
 
     def setUp(self) -> None:
         super().setUp()
-        words = Arguments(program=PROGRAM, seconds=SECONDS, without=set())
-        self.trial = Trial(words, self.folder, 3)
+        arguments = Arguments(program=PROGRAM, seconds=SECONDS, without=set())
+        self.trial = Trial(arguments, self.folder, 3)
         self.addCleanup(self.trial.end)
         self.rule = Rule(self.path("member"))
         os.mkdir(self.rule.folder)

@@ -96,14 +96,14 @@ class Table:
         """Returns the functions with this name. They have to be in these crates or in those below them."""
         if not set(crates) <= set(self.repository.crates):
             return []
-        words = re.findall(r"\w\w+", name)
+        name_parts = re.findall(r"\w\w+", name)
         last = max(map(self.repository.crates.index, crates))
         below = self.repository.crates[: last + 1]
-        if not all(any(word in self.names[crate] for crate in below) for word in words):
+        if not all(any(word in self.names[crate] for crate in below) for word in name_parts):
             where = f"not in {', '.join(crates)} or below"
             self.wrong.append(f"{TABLE}: a row names `{name}`, which is {where}: {cell[:80]}")
         found = [function for crate in self.repository.crates if crate in crates
-                 for function in self.of_crate[crate] if self.is_named(function, words)]
+                 for function in self.of_crate[crate] if self.is_named(function, name_parts)]
         self.named |= {(function.crate, function.path) for function in found}
         return found
 
@@ -124,12 +124,12 @@ class Table:
         fields = {field for text in written for field in re.findall(r"^\s+pub (\w+) :", text, re.M)}
         return fields | {name for _, name in reached}
 
-    def is_named(self, function: Function, words: list[str]) -> bool:
-        if function.name != words[-1] and function.owner.split(" ")[0] != words[-1]:
+    def is_named(self, function: Function, name_parts: list[str]) -> bool:
+        if function.name != name_parts[-1] and function.owner.split(" ")[0] != name_parts[-1]:
             return False
         parts = re.findall(r"\w+", function.path)
-        is_method = function.name == words[-1] and set(words) <= set(parts)
-        return is_method or function.owner.split(" ")[0] == words[-1]
+        is_method = function.name == name_parts[-1] and set(name_parts) <= set(parts)
+        return is_method or function.owner.split(" ")[0] == name_parts[-1]
 
     def names_function(self, function: Function) -> bool:
         return (function.crate, function.path) in self.named
