@@ -76,7 +76,11 @@ class Nightly(Case):
     programs = ("RESETD", "RESETD_PROXY")
 
     def nightly(self, *arguments: str) -> subprocess.CompletedProcess[str]:
-        return subprocess.run([tool("nightly"), "--program", PROGRAM, "--proxy", os.environ["RESETD_PROXY"], "--library", self.folder, "--results", self.path("results"), *arguments],
+        """Runs it over programs that are not those of bin/."""
+        os.symlink(PROGRAM, self.path("resetd"))
+        os.symlink(os.environ["RESETD_PROXY"], self.path("resetd-proxy"))
+        programs = ["--program", self.path("resetd"), "--proxy", self.path("resetd-proxy"), "--library", self.folder]
+        return subprocess.run([tool("nightly"), *programs, "--results", self.path("results"), *arguments],
                               env={**os.environ, "TMPDIR": self.folder, "PATH": self.path("bin")}, stdin=subprocess.DEVNULL,
                               capture_output=True, text=True, check=False)
 
