@@ -49,8 +49,9 @@ def run(edits: list[Edit], depends: Depends, jobs: int) -> int:
 
 
 def runs_together(edit: Edit, depends: Depends) -> bool:
-    """Whether the build that the edit's test shares with others has its crate: that of the program has no crate of `resetd-proxy`."""
-    return edit.tests in TOGETHER and (edit.tests != "tests" or edit.crate in libraries("resetd", depends) | libraries("resetd_member", depends))
+    """Whether a build that the edit's test shares with others has its crate."""
+    built = set[str]().union(*(libraries(program, depends) for program in ("resetd", "resetd_proxy", "resetd_member")))
+    return edit.tests in TOGETHER and (edit.tests != "tests" or edit.crate in built)
 
 
 def build_together(scratch: str, tests: str, edits: list[Edit]) -> tuple[list[Edit], list[Edit]]:
