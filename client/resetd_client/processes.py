@@ -16,7 +16,7 @@ from dataclasses import dataclass
 
 LISTENS = "0A"  # the state in /proc/net/tcp
 MOST_CHARACTERS = 400  # characters of a command
-LOOK_SECONDS = 0.5  # how long a thread has to be in one call, or in none, to count
+SAMPLE_SECONDS = 0.5  # how long a thread has to be in one call, or in none, to count
 NETWORK = 0x40000000  # CLONE_NEWNET, for setns(2)
 
 
@@ -168,7 +168,7 @@ class Condition(enum.Enum):
     SPINNING = "spinning"
 
 
-def condition_of(process: int, seconds: float = LOOK_SECONDS) -> Condition | None:
+def condition_of(process: int, seconds: float = SAMPLE_SECONDS) -> Condition | None:
     """Returns whether a process is stopped by a signal, or one of its threads has for this many seconds been in one
     uninterruptible call, such as a sync, or has never slept. None if none of these is so, or it can't be seen."""
     first = threads_of(process)

@@ -14,7 +14,7 @@ from .orders import Orders
 from .port import Port, patiently
 from .view import Node, View
 
-LOOK_SECONDS = 0.05
+POLL_SECONDS = 0.05
 
 
 def renew(port: Port, orders: Orders, seconds: float) -> str:
@@ -31,7 +31,7 @@ def renew(port: Port, orders: Orders, seconds: float) -> str:
             due = [node for node in group if node.node in lagging]
             if due and all(node.mode == "ready" for node in group):
                 reset(orders, due[0].node, view.accepted, seconds)
-        time.sleep(LOOK_SECONDS)
+        time.sleep(POLL_SECONDS)
         view = patiently(port.show, seconds)
     return f"each of the {len(groups(first))} groups was reset, and all {len(first.nodes)} nodes have a new epoch"
 

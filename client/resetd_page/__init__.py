@@ -8,4 +8,4 @@ import os
 PAGE = os.path.join(os.path.dirname(os.path.abspath(__file__)), "page.html")
 CONTENT_POLICY = "default-src 'none'; script-src 'unsafe-inline'; style-src 'unsafe-inline'; connect-src 'self'"
 EACH_SECONDS = 0.05  # the shortest time between two updates of a page
-LOOK_SECONDS = 2.0  # the longest time
+POLL_SECONDS = 2.0  # the longest time

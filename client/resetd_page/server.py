@@ -12,7 +12,7 @@ from typing import Any
 
 from aiohttp import web
 
-from . import CONTENT_POLICY, EACH_SECONDS, LOOK_SECONDS, PAGE
+from . import CONTENT_POLICY, EACH_SECONDS, POLL_SECONDS, PAGE
 from .state import State
 
 FIRST_DESCRIPTOR = 3  # of those that systemd passes
@@ -71,7 +71,7 @@ class Server:
                 changed.clear()
                 await response.write(b"data: " + json.dumps(self._state.members()).encode() + b"\n\n")
                 await asyncio.sleep(EACH_SECONDS)
-                await wait_for(changed, LOOK_SECONDS)
+                await wait_for(changed, POLL_SECONDS)
         except ConnectionError:
             pass  # the browser has left
         finally:

@@ -21,12 +21,12 @@ from ..limits import CLIENTS
 from ..orders import CountLost, CountNotFound
 from ..store_file import NoStore, Restless
 from ..topology import BadTopology
-from . import audit, bench, changes, checks, completion, looks, ranges, report, restored, stores
+from . import audit, bench, changes, checks, completion, ranges, report, restored, stores, views
 from .base import AWAY, COUNT, REFUSED, WRONG_ARGUMENTS, Control, complain
 
 LEFT, INTERRUPTED = 141, 130  # as a shell reports an end by SIGPIPE and SIGINT
 
-COMMANDS = (*looks.COMMANDS, *changes.COMMANDS, *restored.COMMANDS, *checks.COMMANDS, *audit.COMMANDS, *bench.COMMANDS,
+COMMANDS = (*views.COMMANDS, *changes.COMMANDS, *restored.COMMANDS, *checks.COMMANDS, *audit.COMMANDS, *bench.COMMANDS,
             *stores.COMMANDS, *report.COMMANDS, *completion.COMMANDS)
 
 
@@ -52,7 +52,7 @@ def parser() -> argparse.ArgumentParser:
     for command in COMMANDS:
         each = commands.add_parser(command.name, help=command.about, description=f"{command.about}.",
                                    epilog="resetctl --help describes the exit statuses and the common options.")
-        each.set_defaults(call=command.call, is_look=command.is_look)
+        each.set_defaults(call=command.call, is_read_only=command.is_read_only)
         command.add_arguments(each)
     return top
 

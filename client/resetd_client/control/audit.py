@@ -128,4 +128,4 @@ def add_log_arguments(parser: argparse.ArgumentParser) -> None:
     parser.add_argument("--json", action="store_true", help="print each entry as a line of JSON, as in the file")
 
 
-COMMANDS = (Command("log", "prints who ordered what and when, from the proxy's audit file", log, add_log_arguments, is_look=True),)
+COMMANDS = (Command("log", "prints who ordered what and when, from the proxy's audit file", log, add_log_arguments, is_read_only=True),)

@@ -21,7 +21,7 @@ from ..view import View
 
 DONE, REFUSED, WRONG_ARGUMENTS, AWAY, COUNT = 0, 1, 2, 3, 4
 TIMEOUT, SECONDS = 30.0, 20.0
-LOOK_SECONDS = 2.0  # how long a read-only command waits, in all and for one answer
+READ_SECONDS = 2.0  # how long a read-only command waits, in all and for one answer
 SILENCE_SECONDS = 1.0  # after this many seconds without an answer, a message names the pending request
 Arguments = argparse.Namespace
 T = TypeVar("T")
@@ -42,13 +42,13 @@ def no_arguments(_: argparse.ArgumentParser) -> None:
 
 @dataclass(frozen=True)
 class Command:
-    """A row of the table of commands. `is_look`: the command only reads, so it waits at most 2 s."""
+    """A row of the table of commands. `is_read_only`: the command only reads, so it waits at most 2 s."""
 
     name: str
     about: str
     call: Callable[[Control], int]
     add_arguments: Callable[[argparse.ArgumentParser], None] = no_arguments
-    is_look: bool = False
+    is_read_only: bool = False
 
 
 class Control:
@@ -56,8 +56,8 @@ class Control:
 
     def __init__(self, arguments: Arguments) -> None:
         self.arguments = arguments
-        self.timeout: float = arguments.patience if arguments.patience is not None else LOOK_SECONDS if arguments.is_look else TIMEOUT
-        self.seconds: float = arguments.seconds if arguments.seconds is not None else LOOK_SECONDS if arguments.is_look else SECONDS
+        self.timeout: float = arguments.patience if arguments.patience is not None else READ_SECONDS if arguments.is_read_only else TIMEOUT
+        self.seconds: float = arguments.seconds if arguments.seconds is not None else READ_SECONDS if arguments.is_read_only else SECONDS
         self.port = Port(arguments.address, self.seconds, Credentials.found().over(
             certificate=arguments.certificate, key=arguments.key, authority=arguments.authority))
         self.folder = os.path.join(arguments.state, arguments.address.replace(":", "_").replace("/", "_"))

@@ -136,9 +136,9 @@ COMMANDS = (
     Command("close", "shuts the server down", close),
     Command("count", "recovers the number of this client's last order, if that number was lost", count, add_count_arguments),
     Command("diff", "prints the orders that would make the network match a topology file; exits with 1 if any are needed",
-            diff, add_diff_arguments, is_look=True),
+            diff, add_diff_arguments, is_read_only=True),
     Command("check-topology", "checks a topology file like `resetd init`, but makes no store; exits with 2 if the file is invalid",
-            check_topology, add_topology_arguments, is_look=True),
+            check_topology, add_topology_arguments, is_read_only=True),
     Command("apply", "sends the orders that make the network match a topology file; each is carried out once",
             apply, add_topology_arguments),
 )

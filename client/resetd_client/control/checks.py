@@ -83,7 +83,7 @@ def add_metrics_arguments(parser: argparse.ArgumentParser) -> None:
 
 COMMANDS = (
     Command("health", "checks the server; the exit status is 0 if all is well, 1 for a warning, 2 if critical, 3 if unknown",
-            health, add_health_arguments, is_look=True),
+            health, add_health_arguments, is_read_only=True),
     Command("metrics", "writes metrics for node_exporter's textfile collector", write_metrics, add_metrics_arguments,
-            is_look=True),
+            is_read_only=True),
 )

@@ -139,4 +139,4 @@ def add_completion_arguments(parser: argparse.ArgumentParser) -> None:
 
 
 COMMANDS = (Command("completion", "prints a script with which a shell completes the commands of resetctl",
-                    completion, add_completion_arguments, is_look=True),)
+                    completion, add_completion_arguments, is_read_only=True),)

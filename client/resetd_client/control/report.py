@@ -157,4 +157,4 @@ def add_arguments(parser: argparse.ArgumentParser) -> None:
 COMMANDS = (Command("report", "writes a file for diagnosing a fault, with the output of why, show and steps, the state that "
                     "health keeps, a copy of the store, the units' journal, the versions, the server's limits, the file system, "
                     "and the kernel's messages about the device", report, add_arguments,
-                    is_look=True),)
+                    is_read_only=True),)

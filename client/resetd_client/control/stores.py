@@ -168,7 +168,7 @@ def add_backup_arguments(parser: argparse.ArgumentParser) -> None:
 
 COMMANDS = (
     Command("why", "checks the store's file and the server's address, and prints what would make a start fail; "
-            "exits with 1 if it finds a problem", why, add_why_arguments, is_look=True),
+            "exits with 1 if it finds a problem", why, add_why_arguments, is_read_only=True),
     Command("steps", "prints the steps of a store, each with the batch in which it was settled", steps,
             add_steps_arguments),
     Command("backup", "copies a store, even while a server uses it", backup, add_backup_arguments),

@@ -9,7 +9,7 @@ use Rattle.coord_admin.specs.Stream.{is_closed, AllGet, BreaksOff, Closes, Gets,
 use Rattle.coord_admin.specs.Requests.{asked_by}
 use Rattle.coord_admin.specs.Together.{AwaitReplies, is_order}
 use Rattle.coord_admin.proofs.Waiting.{await-on}
-use Rattle.coord_admin.proofs.Stream.{InTurn, all-append, all-one, breaks-behind, closes-returned, lines_on-some, text-behind, returned-on}
+use Rattle.coord_admin.proofs.Stream.{InTurn, all-append, all-one, breaks-following, closes-returned, lines_on-some, text-following, returned-on}
 
 module _ {D P : Type 0} (answers : D → Request → Answer → D → Type 0) (posts : D → Request → P → D → Type 0) where
   await-none : (d : D) (posted : List P) → posted ≡ [] → AwaitReplies posts d [] posted d
@@ -57,13 +57,13 @@ module _ {D P : Type 0} (answers : D → Request → Answer → D → Type 0) (p
 
   -- those that waited do not all have their replies
   pub goes-broken : (d e h : D) (lines left : List Line) (returned : List Answer) (posted : List P) (text : List ℕ) → (g : GoesOn answers posts d lines returned posted e) → BreaksOff answers g.2 (g.1 ++ left) text h → BreaksOff answers d (lines ++ left) (reply_lines returned ++ text) h
-  goes-broken d e h lines left returned posted text g k = breaks-behind answers d g.2 h (lines ++ left) (g.1 ++ left) g.0 returned text g.4 (ap (λ l. l ++ left) g.3 ∙ append_assoc g.0 g.1 left) k
+  goes-broken d e h lines left returned posted text g k = breaks-following answers d g.2 h (lines ++ left) (g.1 ++ left) g.0 returned text g.4 (ap (λ l. l ++ left) g.3 ∙ append_assoc g.0 g.1 left) k
 
   -- those that waited have their replies, and the next line has closed the desk
-  pub goes-closed : (d e f h : D) (all lines : List Line) (line : Line) (behind : List ℕ) (returned more : List Answer) (posted : List P) → (g : GoesOn answers posts d lines returned posted e) → all ≡ lines ++ line ∷ lines_on (Some []) behind → AllGet answers g.2 g.1 more f → Gets answers f line Closed h
+  pub goes-closed : (d e f h : D) (all lines : List Line) (line : Line) (following : List ℕ) (returned more : List Answer) (posted : List P) → (g : GoesOn answers posts d lines returned posted e) → all ≡ lines ++ line ∷ lines_on (Some []) following → AllGet answers g.2 g.1 more f → Gets answers f line Closed h
       → Closes answers d all (reply_lines returned ++ (reply_lines more ++ reply_line Closed)) h
-  goes-closed d e f h all lines line behind returned more posted g same k gets =
-      let other = lines_on-some (Some []) behind in (
+  goes-closed d e f h all lines line following returned more posted g same k gets =
+      let other = lines_on-some (Some []) following in (
         returned ++ more,
         line,
         other.0,
@@ -71,7 +71,7 @@ module _ {D P : Type 0} (answers : D → Request → Answer → D → Type 0) (p
         f,
         (lines, same ∙ ap (λ l. lines ++ line ∷ l) other.2, goes-all d e f lines returned more posted g k),
         gets,
-        text-behind answers returned more (reply_line Closed) (reply_lines more ++ reply_line Closed) refl,
+        text-following answers returned more (reply_line Closed) (reply_lines more ++ reply_line Closed) refl,
       )
 
 module _ {D P : Type 0} (answers : D → Request → Answer → D → Type 0) (posts : D → Request → P → D → Type 0) {C : Type 0} (exchanged : C → List ℕ → List ℕ → C → Type 0) (turn : InTurn exchanged) where
@@ -83,12 +83,12 @@ module _ {D P : Type 0} (answers : D → Request → Answer → D → Type 0) (p
     rw same (goes-broken answers posts d e h lines left returned posted w.0 g w.2),
   )
 
-  pub piece-closed : (d e h : D) (a b c : C) (all lines : List Line) (line : Line) (behind : List ℕ) (returned : List Answer) (posted : List P) → (g : GoesOn answers posts d lines returned posted e) → exchanged a [] (reply_lines returned) b → all ≡ lines ++ line ∷ lines_on (Some []) behind
+  pub piece-closed : (d e h : D) (a b c : C) (all lines : List Line) (line : Line) (following : List ℕ) (returned : List Answer) (posted : List P) → (g : GoesOn answers posts d lines returned posted e) → exchanged a [] (reply_lines returned) b → all ≡ lines ++ line ∷ lines_on (Some []) following
       → (more : List Answer) × (f : D) × AllGet answers g.2 g.1 more f × Gets answers f line Closed h × exchanged b [] (reply_lines more ++ reply_line Closed) c → (text : List ℕ) × exchanged a [] text c × Closes answers d all text h
-  piece-closed d e h a b c all lines line behind returned posted g written same w = (
+  piece-closed d e h a b c all lines line following returned posted g written same w = (
     reply_lines returned ++ (reply_lines w.0 ++ reply_line Closed),
     returned-on exchanged turn a b c [] (reply_lines returned) (reply_lines w.0 ++ reply_line Closed) written w.4,
-    goes-closed answers posts d e w.1 h all lines line behind returned w.0 posted g same w.2 w.3,
+    goes-closed answers posts d e w.1 h all lines line following returned w.0 posted g same w.2 w.3,
   )
 
   -- the reply to a line after those that have theirs was not written whole

@@ -11,7 +11,7 @@ use Rattle.coord_admin.specs.declared.session.Ended.{Ended}
 use Rattle.coord_admin.specs.Stream.{AllGet, BreaksOff, Closes, GoesOn, Served}
 use Rattle.coord_admin.specs.Together.{AwaitReplies}
 use Rattle.coord_admin.proofs.Pieces.{goes-all, goes-broken, goes-on}
-use Rattle.coord_admin.proofs.Stream.{InTurn, breaks-behind, closes-behind, heard-on, no-more, still, returned-all, returned-on}
+use Rattle.coord_admin.proofs.Stream.{InTurn, breaks-following, closes-following, heard-on, no-more, still, returned-all, returned-on}
 
 module _ {D P : Type 0} (answers : D → Request → Answer → D → Type 0) (posts : D → Request → P → D → Type 0) {C : Type 0} (exchanged : C → List ℕ → List ℕ → C → Type 0) where
   -- the complete lines of the input have replies, or were posted and await them
@@ -101,7 +101,7 @@ module _ {D P : Type 0} (answers : D → Request → Answer → D → Type 0) (p
         let n = now g.2 g.1 g.5 in (
           reply_lines s.1 ++ n.0,
           returned-on exchanged turn a c f (seen ++ bytes_read) (reply_lines s.1) n.0 (heard-on exchanged turn a b c seen bytes_read (reply_lines s.1) s.3 heard) n.1,
-          closes-behind answers d g.2 h (lines_of (seen ++ bytes_read)) (g.1 ++ lines_on line bytes_read) g.0 s.1 n.0 g.4 (lines-with-all d e a b seen bytes_read line posted s) n.2,
+          closes-following answers d g.2 h (lines_of (seen ++ bytes_read)) (g.1 ++ lines_on line bytes_read) g.0 s.1 n.0 g.4 (lines-with-all d e a b seen bytes_read line posted s) n.2,
         )
 
     -- the reply to one of the lines that were read was not written whole
@@ -112,5 +112,5 @@ module _ {D P : Type 0} (answers : D → Request → Answer → D → Type 0) (p
         let n = now g.2 g.1 g.5 in (
           reply_lines s.1 ++ n.0,
           returned-on exchanged turn a c f (seen ++ bytes_read) (reply_lines s.1) n.0 (heard-on exchanged turn a b c seen bytes_read (reply_lines s.1) s.3 heard) n.1,
-          breaks-behind answers d g.2 h (lines_of (seen ++ bytes_read)) (g.1 ++ lines_on line bytes_read) g.0 s.1 n.0 g.4 (lines-with-all d e a b seen bytes_read line posted s) n.2,
+          breaks-following answers d g.2 h (lines_of (seen ++ bytes_read)) (g.1 ++ lines_on line bytes_read) g.0 s.1 n.0 g.4 (lines-with-all d e a b seen bytes_read line posted s) n.2,
         )

@@ -5,7 +5,7 @@ use Rattle.std.proofs.Math.Seq.{take-suc}
 use Rattle.std.proofs.lemmas.Grind.{common_steps}
 use Rattle.std.proofs.lemmas.List.{take-append-drop}
 use Rattle.std.proofs.lemmas.List.Splits.{length-slice_split}
-use Rattle.coord_lines.specs.Lines.{Line, IsWithin, is_line_feed, line_of, lines_of, extended, going_on, lines_on, before_line_feed, behind_line_feed}
+use Rattle.coord_lines.specs.Lines.{Line, IsWithin, is_line_feed, line_of, lines_of, extended, going_on, lines_on, before_line_feed, after_line_feed}
 use Rattle.coord_lines.specs.Written.{IsFirstPart}
 use Rattle.coord_lines.proofs.LinesOn.{lines_on-ended, extended-nothing}
 use Rattle.coord_types.specs.declared.refusals.Refusal.{Refusal}
@@ -167,21 +167,21 @@ module _ {D : Type 0} (answers : D → Request → Answer → D → Type 0) wher
   all-append (x ∷ xs) ys [] yas d f e h k = absurd h
   all-append (x ∷ xs) ys (a ∷ xas) yas d f e h k = (h.0, h.1, h.2, all-append xs ys xas yas h.0 f e h.3 k)
 
-  pub reaches-behind : (d f e : D) (lines later done left : List Line) (returned more : List Answer) → AllGet answers d done returned f → lines ≡ done ++ later → Reaches answers f later more left e → Reaches answers d lines (returned ++ more) left e
-  reaches-behind d f e lines later done left returned more h same r =
+  pub reaches-following : (d f e : D) (lines later done left : List Line) (returned more : List Answer) → AllGet answers d done returned f → lines ≡ done ++ later → Reaches answers f later more left e → Reaches answers d lines (returned ++ more) left e
+  reaches-following d f e lines later done left returned more h same r =
       (done ++ r.0, same ∙ ap (λ l. done ++ l) r.1 ∙ sym (append_assoc done r.0 left), all-append done r.0 returned more d f e h r.2)
 
-  pub text-behind : (returned more : List Answer) (rest text : List ℕ) → text ≡ reply_lines more ++ rest → reply_lines returned ++ text ≡ reply_lines (returned ++ more) ++ rest
-  text-behind returned more rest text e =
+  pub text-following : (returned more : List Answer) (rest text : List ℕ) → text ≡ reply_lines more ++ rest → reply_lines returned ++ text ≡ reply_lines (returned ++ more) ++ rest
+  text-following returned more rest text e =
       ap (λ l. reply_lines returned ++ l) e ∙ sym (append_assoc (reply_lines returned) (reply_lines more) rest) ∙ ap (λ l. l ++ rest) (sym (reply_lines-append returned more))
 
-  pub closes-behind : (d f e : D) (lines later done : List Line) (returned : List Answer) (text : List ℕ) → AllGet answers d done returned f → lines ≡ done ++ later → Closes answers f later text e → Closes answers d lines (reply_lines returned ++ text) e
-  closes-behind d f e lines later done returned text h same c =
-      (returned ++ c.0, c.1, c.2, c.3, c.4, reaches-behind d f c.4 lines later done _ returned c.0 h same c.5, c.6, text-behind returned c.0 _ text c.7)
+  pub closes-following : (d f e : D) (lines later done : List Line) (returned : List Answer) (text : List ℕ) → AllGet answers d done returned f → lines ≡ done ++ later → Closes answers f later text e → Closes answers d lines (reply_lines returned ++ text) e
+  closes-following d f e lines later done returned text h same c =
+      (returned ++ c.0, c.1, c.2, c.3, c.4, reaches-following d f c.4 lines later done _ returned c.0 h same c.5, c.6, text-following returned c.0 _ text c.7)
 
-  pub breaks-behind : (d f e : D) (lines later done : List Line) (returned : List Answer) (text : List ℕ) → AllGet answers d done returned f → lines ≡ done ++ later → BreaksOff answers f later text e → BreaksOff answers d lines (reply_lines returned ++ text) e
-  breaks-behind d f e lines later done returned text h same c =
-      (returned ++ c.0, c.1, c.2, c.3, c.4, c.5, c.6, c.7, c.8, reaches-behind d f c.4 lines later done _ returned c.0 h same c.9, c.10, c.11, c.12, c.13, text-behind returned c.0 _ text c.14)
+  pub breaks-following : (d f e : D) (lines later done : List Line) (returned : List Answer) (text : List ℕ) → AllGet answers d done returned f → lines ≡ done ++ later → BreaksOff answers f later text e → BreaksOff answers d lines (reply_lines returned ++ text) e
+  breaks-following d f e lines later done returned text h same c =
+      (returned ++ c.0, c.1, c.2, c.3, c.4, c.5, c.6, c.7, c.8, reaches-following d f c.4 lines later done _ returned c.0 h same c.9, c.10, c.11, c.12, c.13, text-following returned c.0 _ text c.14)
 
   -- ---- orders that were posted together
 
@@ -208,13 +208,13 @@ module _ {D : Type 0} (answers : D → Request → Answer → D → Type 0) wher
       by later (inl first) = breaks-first d h.0 e line (next ∷ lines) left a returned part (inr posted) h.1 h.3 first
       by later (inr on) =
           rw (sym (ap (λ l. l ++ on.0) (append-nil (reply_line a)) ∙ sym on.1))
-          (breaks-behind d h.0 e (line ∷ next ∷ lines ++ left) (next ∷ lines ++ left) (line ∷ []) (a ∷ []) on.0 (h.0, h.1, h.2, refl) refl (later on.0 on.2))
+          (breaks-following d h.0 e (line ∷ next ∷ lines ++ left) (next ∷ lines ++ left) (line ∷ []) (a ∷ []) on.0 (h.0, h.1, h.2, refl) refl (later on.0 on.2))
 
   -- ---- one more line
 
   -- a line that ended, and those after it
-  pub line_ended : (line : Line) (piece more behind : List ℕ) (whole : Line) → Some behind ≡ behind_line_feed piece → whole ≡ extended line (before_line_feed piece) → lines_on line (piece ++ more) ≡ whole ∷ lines_on (Some []) (behind ++ more)
-  line_ended line piece more behind whole e f = lines_on-ended line piece more behind (sym e) ∙ ap (λ l. l ∷ lines_on (Some []) (behind ++ more)) (sym f)
+  pub line_ended : (line : Line) (piece more following : List ℕ) (whole : Line) → Some following ≡ after_line_feed piece → whole ≡ extended line (before_line_feed piece) → lines_on line (piece ++ more) ≡ whole ∷ lines_on (Some []) (following ++ more)
+  line_ended line piece more following whole e f = lines_on-ended line piece more following (sym e) ∙ ap (λ l. l ∷ lines_on (Some []) (following ++ more)) (sym f)
 
   pub all-one : (d f e : D) (done : List Line) (returned : List Answer) (line : Line) (a : Answer) → AllGet answers d done returned f → Gets answers f line a e → is_closed a ≡ false → AllGet answers d (done ++ line ∷ []) (returned ++ a ∷ []) e
   all-one d f e done returned line a h gets goes_on = all-append done (line ∷ []) returned (a ∷ []) d f e h (e, gets, goes_on, refl)

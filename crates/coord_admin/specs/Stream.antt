@@ -110,8 +110,8 @@ module _ {D : Type 0} (answers : D → Request → Answer → D → Type 0) wher
   -- together, the orders after it were carried out too, and their replies were dropped.
   abbrev pub BreaksOff : D → List Line → List ℕ → D → Type 0
   BreaksOff d lines text e =
-      (returned : List Answer) × (line : Line) × (behind : List Line) × (left : List Line) × (f : D) × (g : D) × (a : Answer) × (unreturned : List Answer) × (part : List ℕ)
-      × Reaches d lines returned (line ∷ behind ++ left) f × GetsAtLast f line a g × AllGet g behind unreturned e × ((behind ≡ []) ⊎ ArePosted (line ∷ behind))
+      (returned : List Answer) × (line : Line) × (following : List Line) × (left : List Line) × (f : D) × (g : D) × (a : Answer) × (unreturned : List Answer) × (part : List ℕ)
+      × Reaches d lines returned (line ∷ following ++ left) f × GetsAtLast f line a g × AllGet g following unreturned e × ((following ≡ []) ⊎ ArePosted (line ∷ following))
       × IsFirstPart part (reply_line a) × (text ≡ reply_lines returned ++ part)
 
   -- The bytes written for the input that was read, and the state of the desk afterwards.

@@ -178,13 +178,13 @@ fn take<C: Duplex, D: Desk>(
     ensures empty { OnErr result (queue.new.posted.items ≡ []) }
 {
     let mut rest = piece;
-    while let Some(behind) = line.take(rest) {
+    while let Some(following) = line.take(rest) {
         let closed = end_line(alloc, queue, line.get(), connection, desk)?;
         if closed {
             return Ok(true);
         }
         line.clear();
-        rest = behind;
+        rest = following;
     }
     Ok(false)
 }

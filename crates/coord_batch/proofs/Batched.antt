@@ -13,7 +13,7 @@ use Rattle.coord_types.specs.declared.steps.Step.{Step}
 use Rattle.coord_types.specs.declared.steps.Step.TheVariants.{Order, Take, Clear}
 use Rattle.coord_types.specs.StepRanges.{CommandInRange}
 use Rattle.coord_batch.specs.Batches.{IsBatch, StepFits}
-use Rattle.coord_batch.specs.Format.{FitBehind}
+use Rattle.coord_batch.specs.Format.{FitAfter}
 use Rattle.coord_batch.specs.Steps.{command, command_case, data_packet, receipt_packet, order, step, step_case, how_many_steps, steps, batch}
 use Rattle.coord_types.specs.declared.messages.Msg.TheVariants as msg
 
@@ -150,13 +150,13 @@ step_fits version (Clear r) range = ((2, Clear r), ((omega arith, refl), (r, rec
 
 -- ---- which batches
 
-each_in_range : (version : ℕ) (front taken : List Step) → FitBehind (λ _. step version) front taken → AllByRecursion (StepFits version) taken
-unfolding FitBehind
+each_in_range : (version : ℕ) (front taken : List Step) → FitAfter (λ _. step version) front taken → AllByRecursion (StepFits version) taken
+unfolding FitAfter
 each_in_range version front [] fits = tt
 each_in_range version front (s ∷ ss) fits = (step_in_range version s fits.0, each_in_range version (front ++ s ∷ []) ss fits.1)
 
-each_fits : (version : ℕ) (front taken : List Step) → AllByRecursion (StepFits version) taken → FitBehind (λ _. step version) front taken
-unfolding FitBehind
+each_fits : (version : ℕ) (front taken : List Step) → AllByRecursion (StepFits version) taken → FitAfter (λ _. step version) front taken
+unfolding FitAfter
 each_fits version front [] range = tt
 each_fits version front (s ∷ ss) range = (step_fits version s range.0, each_fits version (front ++ s ∷ []) ss range.1)
 

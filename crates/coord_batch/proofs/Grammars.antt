@@ -9,7 +9,7 @@ use Rattle.std.proofs.lemmas.List.Concat.{flat_map-cons}
 use Rattle.std.proofs.lemmas.Nat.{be_bytes_2, be_bytes_8, from_be_bytes-to_be_bytes_2, from_be_bytes-to_be_bytes_8}
 use Rattle.coord_batch.specs.declared.fault.Flaw.{Flaw}
 use Rattle.coord_batch.specs.declared.fault.Flaw.TheVariants.{Short, BadByte, Extra}
-use Rattle.coord_batch.specs.Format.{Format, ◌>>=◌, byte, u16, u64, nothing, number_at, first_byte, such_that, followed, made, cases, counted, items_at, FitBehind, whole, ended}
+use Rattle.coord_batch.specs.Format.{Format, ◌>>=◌, byte, u16, u64, nothing, number_at, first_byte, such_that, followed, made, cases, counted, items_at, FitAfter, whole, ended}
 
 abbrev pub IsBytes : List ℕ → Type 0
 IsBytes bytes = (i : ℕ) → get_or bytes i 0 < 256
@@ -52,7 +52,7 @@ ok_is x y e = cc
 -- ---- truncated texts
 
 -- a text of two parts is cut in the first one, or after it
-cut_in_two : (a c front rest : List ℕ) (b : ℕ) → a ++ c ≡ front ++ b ∷ rest → ((more : List ℕ) × (a ≡ front ++ b ∷ more)) ⊎ ((behind : List ℕ) × (front ≡ a ++ behind) × (c ≡ behind ++ b ∷ rest))
+cut_in_two : (a c front rest : List ℕ) (b : ℕ) → a ++ c ≡ front ++ b ∷ rest → ((more : List ℕ) × (a ≡ front ++ b ∷ more)) ⊎ ((following : List ℕ) × (front ≡ a ++ following) × (c ≡ following ++ b ∷ rest))
 cut_in_two [] c front rest b is = inr (front, refl, is)
 cut_in_two (x ∷ a) c [] rest b is = let first : x ≡ b = cc in inl (a, ap (λ y. y ∷ a) first)
 cut_in_two (x ∷ a) c (y ∷ front) rest b is =
@@ -215,43 +215,43 @@ module _ {A B : Type 0} (make : A → B) (parts : B → A) (f : Format A) (gramm
 -- ---- cases
 
 pub cases_grammar : {A : Type 0} (n : ℕ) (which : A → ℕ) (case : ℕ → Format A) → ((t : ℕ) → IsGrammar (case t)) → ((t : ℕ) (x : A) → t < n → (case t).Fits x → which x ≡ t) → IsGrammar (cases n which case)
-cases_grammar n which case each told =
+cases_grammar n which case each each_fits =
     made_grammar (λ p. p.1) (λ x. (which x, x)) (followed (such_that (λ t. ltb t n) byte) case)
     (followed_grammar (such_that (λ t. ltb t n) byte) case (such_grammar (λ t. ltb t n) byte byte_grammar) each)
-    (λ p fits. ap (λ t. (t, p.1)) (told p.0 p.1 (grind (arith, fits.0.1)) fits.1))
+    (λ p fits. ap (λ t. (t, p.1)) (each_fits p.0 p.1 (grind (arith, fits.0.1)) fits.1))
 
 -- ---- as many items as are counted
 
 module _ {A : Type 0} (item : List A → Format A) (text : A → List ℕ) where
   record Items (front : List A) (n : ℕ) (bytes : List ℕ) (all : List A) (rest : List ℕ) : Type 0 where
-    pub behind : List A
-    pub together : all ≡ front ++ behind
-    pub number : length behind ≡ n
-    pub parts : bytes ≡ flat_map text behind ++ rest
+    pub following : List A
+    pub together : all ≡ front ++ following
+    pub number : length following ≡ n
+    pub parts : bytes ≡ flat_map text following ++ rest
     pub left : IsBytes rest
-    pub fits : FitBehind item front behind
+    pub fits : FitAfter item front following
 
   module _ (each : (front : List A) → IsGrammar (item front)) (same : (front : List A) → (item front).text ≡ text) where
     items_take : (n : ℕ) (front : List A) (bytes : List ℕ) (all : List A) (rest : List ℕ) → IsBytes bytes → items_at item n front bytes ≡ Ok (all, rest) → Items front n bytes all rest
-    unfolding items_at FitBehind
+    unfolding items_at FitAfter
     items_take zero front bytes all rest fits e =
-        subst (λ (y : List A × List ℕ). Items front 0 bytes y.0 y.1) (ok_is (front, bytes) (all, rest) e) (record { behind = []; together = sym (append-nil front); number = refl; parts = refl; left = fits; fits = tt })
+        subst (λ (y : List A × List ℕ). Items front 0 bytes y.0 y.1) (ok_is (front, bytes) (all, rest) e) (record { following = []; together = sym (append-nil front); number = refl; parts = refl; left = fits; fits = tt })
     items_take (suc n) front bytes all rest fits e =
         let a = bind_ok ((item front).read bytes) (λ x. items_at item n (front ++ x.0 ∷ []) x.1) (all, rest) e in
         let t = (each front).takes bytes a.0.0 a.0.1 fits a.1 in
         let r = items_take n (front ++ a.0.0 ∷ []) a.0.1 all rest t.left a.2 in
         let first : bytes ≡ text a.0.0 ++ a.0.1 = t.parts ∙ ap (λ (g : A → List ℕ). g a.0.0 ++ a.0.1) (same front) in
         record {
-          behind = a.0.0 ∷ r.behind;
-          together = r.together ∙ append_assoc front (a.0.0 ∷ []) r.behind;
+          following = a.0.0 ∷ r.following;
+          together = r.together ∙ append_assoc front (a.0.0 ∷ []) r.following;
           number = ap suc r.number;
-          parts = first ∙ ap (λ (l : List ℕ). text a.0.0 ++ l) r.parts ∙ sym (append_assoc (text a.0.0) (flat_map text r.behind) rest) ∙ ap (λ (l : List ℕ). l ++ rest) (sym (flat_map-cons text a.0.0 r.behind));
+          parts = first ∙ ap (λ (l : List ℕ). text a.0.0 ++ l) r.parts ∙ sym (append_assoc (text a.0.0) (flat_map text r.following) rest) ∙ ap (λ (l : List ℕ). l ++ rest) (sym (flat_map-cons text a.0.0 r.following));
           left = r.left;
           fits = (t.fits, r.fits);
         }
 
-    items_again : (xs front : List A) (rest : List ℕ) → FitBehind item front xs → items_at item (length xs) front (flat_map text xs ++ rest) ≡ Ok (front ++ xs, rest)
-    unfolding items_at FitBehind
+    items_again : (xs front : List A) (rest : List ℕ) → FitAfter item front xs → items_at item (length xs) front (flat_map text xs ++ rest) ≡ Ok (front ++ xs, rest)
+    unfolding items_at FitAfter
     items_again [] front rest fits = ap (λ (l : List A). Ok (l, rest)) (sym (append-nil front))
     items_again (x ∷ xs) front rest fits =
         let regrouped : flat_map text (x ∷ xs) ++ rest ≡ (item front).text x ++ (flat_map text xs ++ rest) =
@@ -259,8 +259,8 @@ module _ {A : Type 0} (item : List A → Format A) (text : A → List ℕ) where
         let one : (item front).read (flat_map text (x ∷ xs) ++ rest) ≡ Ok (x, flat_map text xs ++ rest) = ap (item front).read regrouped ∙ (each front).again x (flat_map text xs ++ rest) fits.0 in
         ap (λ r. r >>= λ y. items_at item (length xs) (front ++ y.0 ∷ []) y.1) one ∙ items_again xs (front ++ x ∷ []) rest fits.1 ∙ ap (λ (l : List A). Ok (l, rest)) (append_assoc front (x ∷ []) xs)
 
-    items_cut : (xs front : List A) (bytes rest : List ℕ) (b : ℕ) → FitBehind item front xs → flat_map text xs ≡ bytes ++ b ∷ rest → items_at item (length xs) front bytes ≡ Err Short
-    unfolding items_at FitBehind
+    items_cut : (xs front : List A) (bytes rest : List ℕ) (b : ℕ) → FitAfter item front xs → flat_map text xs ≡ bytes ++ b ∷ rest → items_at item (length xs) front bytes ≡ Err Short
+    unfolding items_at FitAfter
     items_cut [] front bytes rest b fits is = absurd (omega (arith, front_shorter [] bytes rest b is))
     items_cut (x ∷ xs) front bytes rest b fits is =
         let parts : text x ++ flat_map text xs ≡ bytes ++ b ∷ rest = sym (flat_map-cons text x xs) ∙ is in
@@ -278,13 +278,13 @@ module _ {A : Type 0} (count : Format ℕ) (item : List A → Format A) (number 
       let a = bind_ok (count.read bytes) (λ n. items_at item n.0 [] n.1) (xs, rest) e in
       let t = number.takes bytes a.0.0 a.0.1 fits a.1 in
       let r = items_take item (item []).text each same a.0.0 [] a.0.1 xs rest t.left a.2 in
-      let behind : r.behind ≡ xs = sym r.together in
-      let is : a.0.0 ≡ length xs = sym r.number ∙ ap length behind in
+      let following : r.following ≡ xs = sym r.together in
+      let is : a.0.0 ≡ length xs = sym r.number ∙ ap length following in
       record {
-        parts = t.parts ∙ ap (λ (l : List ℕ). count.text a.0.0 ++ l) r.parts ∙ sym (append_assoc (count.text a.0.0) (flat_map (item []).text r.behind) rest)
-            ∙ ap (λ (ys : List A). (count.text a.0.0 ++ flat_map (item []).text ys) ++ rest) behind ∙ ap (λ n. (count.text n ++ flat_map (item []).text xs) ++ rest) is;
+        parts = t.parts ∙ ap (λ (l : List ℕ). count.text a.0.0 ++ l) r.parts ∙ sym (append_assoc (count.text a.0.0) (flat_map (item []).text r.following) rest)
+            ∙ ap (λ (ys : List A). (count.text a.0.0 ++ flat_map (item []).text ys) ++ rest) following ∙ ap (λ n. (count.text n ++ flat_map (item []).text xs) ++ rest) is;
         left = r.left;
-        fits = (subst count.Fits is t.fits, subst (FitBehind item []) behind r.fits);
+        fits = (subst count.Fits is t.fits, subst (FitAfter item []) following r.fits);
       }
 
   counted_again : (xs : List A) (rest : List ℕ) → (counted count item).Fits xs → (counted count item).read ((counted count item).text xs ++ rest) ≡ Ok (xs, rest)

@@ -4,7 +4,7 @@ use Rattle.std.proofs.lemmas.Bool.Decides.{nat_tests}
 use Rattle.coord_batch.specs.declared.fault.FaultKind.TheVariants.{Short, Extra}
 use Rattle.coord_batch.specs.Facade.{bad_version, batch, decoded, fault_at, is_version, or_fault, pair, step}
 use Rattle.coord_batch.specs.Format.{Format, ◌>>=◌, ended, whole}
-use Rattle.coord_batch.specs.Laws.{BatchesArePrefixFree, BytesBehindBatchesAreExtra, CutBatchesAreShort, StepsArePrefixFree}
+use Rattle.coord_batch.specs.Laws.{BatchesArePrefixFree, BytesAfterBatchesAreExtra, CutBatchesAreShort, StepsArePrefixFree}
 use Rattle.coord_batch.proofs.Batched.{batch_fits, step_fits}
 use Rattle.coord_batch.proofs.Grammars.{IsGrammar, prefix_free}
 use Rattle.coord_batch.proofs.StepGrammars.{batch_grammar, step_grammar}
@@ -25,8 +25,8 @@ module _ {A : Type 0} (f : ℕ → Format A) (grammar : (v : ℕ) → IsGrammar 
   more_extra x rest b fits =
       let bytes = (f version).text x ++ b ∷ rest in
       let some : eqb (length (b ∷ rest)) 0 ≡ false = grind (arith, nat_tests) in
-      let behind : length bytes - length (b ∷ rest) ≡ length ((f version).text x) = omega (arith, length-append ((f version).text x) (b ∷ rest)) in
-      decodes bytes ∙ ap (λ r. or_fault (length bytes) (r >>= ended)) ((grammar version).again x (b ∷ rest) fits) ∙ rw (some, behind) refl
+      let following : length bytes - length (b ∷ rest) ≡ length ((f version).text x) = omega (arith, length-append ((f version).text x) (b ∷ rest)) in
+      decodes bytes ∙ ap (λ r. or_fault (length bytes) (r >>= ended)) ((grammar version).again x (b ∷ rest) fits) ∙ rw (some, following) refl
 
 -- ---- the laws of steps and batches
 
@@ -39,5 +39,5 @@ batches_prefix_free version m n ss ts rest more first second same = prefix_free 
 pub cut_batches_short : CutBatchesAreShort
 cut_batches_short version first steps front rest b known range is = cut_short batch batch_grammar version known (pair first steps) front rest b (batch_fits version first steps range) is
 
-pub more_batches_extra : BytesBehindBatchesAreExtra
+pub more_batches_extra : BytesAfterBatchesAreExtra
 more_batches_extra version first steps rest b known range = more_extra batch batch_grammar version known (pair first steps) rest b (batch_fits version first steps range)

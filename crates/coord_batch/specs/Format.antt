@@ -82,9 +82,9 @@ unfoldable pub items_at : {A : Type 0} → (List A → Format A) → ℕ → Lis
 items_at item zero front bytes = Ok (front, bytes)
 items_at item (suc n) front bytes = (item front).read bytes >>= λ x. items_at item n (front ++ x.0 ∷ []) x.1
 
-unfoldable pub FitBehind : {A : Type 0} → (List A → Format A) → List A → List A → Type 0
-FitBehind item front [] = Unit {0}
-FitBehind item front (x ∷ xs) = (item front).Fits x × FitBehind item (front ++ x ∷ []) xs
+unfoldable pub FitAfter : {A : Type 0} → (List A → Format A) → List A → List A → Type 0
+FitAfter item front [] = Unit {0}
+FitAfter item front (x ∷ xs) = (item front).Fits x × FitAfter item (front ++ x ∷ []) xs
 
 -- The number of items, and then the items. Whether an item is valid may depend on the items before it, but its encoding
 -- does not.
@@ -92,7 +92,7 @@ abbrev pub counted : {A : Type 0} → Format ℕ → (List A → Format A) → F
 counted count item = record {
   text = λ xs. count.text (length xs) ++ flat_map (item []).text xs;
   read = λ bytes. count.read bytes >>= λ n. items_at item n.0 [] n.1;
-  Fits = λ xs. count.Fits (length xs) × FitBehind item [] xs;
+  Fits = λ xs. count.Fits (length xs) × FitAfter item [] xs;
 }
 
 -- the value that was read, if no bytes remain

@@ -19,6 +19,6 @@ abbrev pub CutBatchesAreShort : Type 0
 CutBatchesAreShort = (version first : ℕ) (steps : List Step) (front rest : List ℕ) (b : ℕ) → is_version version ≡ true → IsBatch version first steps → (batch version).text (pair first steps) ≡ front ++ b ∷ rest → decoded batch version front ≡ Err (fault_at Short (length front))
 
 -- a batch's encoding followed by at least one byte is refused as Extra, at the length of the encoding
-abbrev pub BytesBehindBatchesAreExtra : Type 0
-BytesBehindBatchesAreExtra = (version first : ℕ) (steps : List Step) (rest : List ℕ) (b : ℕ) → is_version version ≡ true → IsBatch version first steps →
+abbrev pub BytesAfterBatchesAreExtra : Type 0
+BytesAfterBatchesAreExtra = (version first : ℕ) (steps : List Step) (rest : List ℕ) (b : ℕ) → is_version version ≡ true → IsBatch version first steps →
     decoded batch version ((batch version).text (pair first steps) ++ b ∷ rest) ≡ Err (fault_at Extra (length ((batch version).text (pair first steps))))

@@ -1,7 +1,7 @@
 //! Laws of the encodings. Each is the contract of an empty function.
 
 ghost use Rattle.coord_batch.specs.WorkedBytes.{WorkedBytes};
-ghost use Rattle.coord_batch.specs.Laws.{BatchesArePrefixFree, BytesBehindBatchesAreExtra, CutBatchesAreShort, StepsArePrefixFree};
+ghost use Rattle.coord_batch.specs.Laws.{BatchesArePrefixFree, BytesAfterBatchesAreExtra, CutBatchesAreShort, StepsArePrefixFree};
 
 /// No encoding of a step is a prefix of the encoding of another step.
 #[tactic(auto, using(crate::proofs::SpellingLaws::steps_prefix_free))]
@@ -24,8 +24,8 @@ pub fn cut_batches_are_short()
 /// An encoding of a batch followed by more bytes is refused as `Extra`, at the first of these
 /// bytes.
 #[tactic(auto, using(crate::proofs::SpellingLaws::more_batches_extra))]
-pub fn bytes_behind_batches_are_extra()
-    ensures { BytesBehindBatchesAreExtra }
+pub fn bytes_after_batches_are_extra()
+    ensures { BytesAfterBatchesAreExtra }
 {}
 
 /// Worked examples: the encodings of a packet and of a batch with one order, and the faults of

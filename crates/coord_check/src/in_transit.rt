@@ -1,7 +1,7 @@
 //! Counts the messages in transit on a lane.
 
 ghost use Rattle.std.specs.Prelude.{◌≡◌};
-ghost use Rattle.coord_world.specs.protocol.Links.{readies_behind, strays};
+ghost use Rattle.coord_world.specs.protocol.Links.{readies_after, strays};
 ghost use Rattle.coord_check.specs.LinkEnds.{count, is_of_kind};
 
 use coord_types::Msg;
@@ -46,7 +46,7 @@ pub(crate) fn strays_of(messages: &[Msg], carried: u64) -> usize
 
 /// Returns the number of Readies after the first Abort.
 pub(crate) fn late_readies(messages: &[Msg]) -> usize
-    ensures { result ≡ readies_behind messages.now }
+    ensures { result ≡ readies_after messages.now }
 {
     for (i, msg) in messages.iter().enumerate() {
         if is_of_kind(*msg, Msg::Abort(0)) {

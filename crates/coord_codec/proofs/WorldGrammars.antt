@@ -27,7 +27,7 @@ use Rattle.coord_batch.specs.Decoding.{AnswersDecoded, Unless, decoded, is_versi
 use Rattle.coord_batch.proofs.Decoded.{answers_found, answers_only}
 use Rattle.coord_codec.proofs.WorldRows.{rows_fit, version_fits}
 use Rattle.coord_batch.proofs.SpellingLaws.{cut_short, more_extra}
-use Rattle.coord_codec.specs.Laws.{BytesBehindWorldsAreExtra, CutWorldsAreShort, WorldsArePrefixFree}
+use Rattle.coord_codec.specs.Laws.{BytesAfterWorldsAreExtra, CutWorldsAreShort, WorldsArePrefixFree}
 
 -- ---- how the parts of a world are spelled, whatever else is asked of them
 
@@ -201,5 +201,5 @@ worlds_prefix_free v w rest more first second one same = grind (arith, nat_tests
 pub cut_worlds_short : CutWorldsAreShort
 cut_worlds_short w front rest b range is = cut_short world world_grammar w.version (known w range) (rows_of w) front rest b (world_fits w range) is
 
-pub more_worlds_extra : BytesBehindWorldsAreExtra
+pub more_worlds_extra : BytesAfterWorldsAreExtra
 more_worlds_extra w rest b range = more_extra world world_grammar w.version (known w range) (rows_of w) rest b (world_fits w range)

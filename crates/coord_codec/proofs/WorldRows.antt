@@ -23,7 +23,7 @@ use Rattle.coord_world.specs.declared.rows.parts.ClientRow.{ClientRow}
 use Rattle.coord_world.proofs.Facade.{all_weaker, both, farthest_le}
 use Rattle.coord_batch.specs.Decoding.{is_version}
 use Rattle.coord_batch.specs.Fields.{distance, message, unless}
-use Rattle.coord_batch.specs.Format.{FitBehind, Format}
+use Rattle.coord_batch.specs.Format.{FitAfter, Format}
 use Rattle.coord_codec.specs.Worlds.{client_row, clients, ends, kind, lane, last_by, last_ends, link_row, links, mask, mode, most_distance, node_row, nodes, parent, queue, same_group, world}
 use Rattle.coord_batch.proofs.Batched.{command_fits, command_in_range, at_most_fits, at_most_in_range, client_fits, client_in_range, from_one_to_fits, from_one_to_in_range, group_fits, group_in_range, how_many_fits, how_many_in_range, message_fits, message_in_range, node_fits, node_in_range}
 use Rattle.coord_codec.proofs.RowsRead.{RiseFrom, above_zero, few_keys, last_push, rise_of_sorted, sorted_of_rise}
@@ -80,13 +80,13 @@ module _ {Row : Type 0} (key : Row → ℕ) (row : List Row → Format Row) (IsR
   abbrev IsAbove : List Row → Row → Type 0
   IsAbove front r = is_lt (nat_cmp (last_by key 0 front) (key r)) ≡ true
 
-  all_in : ((front : List Row) (r : Row) → (row front).Fits r → IsRow r × IsAbove front r) → (front rs : List Row) → FitBehind row front rs → AllByRecursion IsRow rs × RiseFrom key nat_cmp_total (last_by key 0 front) rs
-  unfolding FitBehind
+  all_in : ((front : List Row) (r : Row) → (row front).Fits r → IsRow r × IsAbove front r) → (front rs : List Row) → FitAfter row front rs → AllByRecursion IsRow rs × RiseFrom key nat_cmp_total (last_by key 0 front) rs
+  unfolding FitAfter
   all_in one_in front [] fits = (tt, tt)
   all_in one_in front (r ∷ rs) fits = grind (arith, nat_tests, one_in front r fits.0, all_in one_in (front ++ r ∷ []) rs fits.1, last_push)
 
-  all_fit : ((front : List Row) (r : Row) → IsRow r → IsAbove front r → (row front).Fits r) → (front rs : List Row) → AllByRecursion IsRow rs → RiseFrom key nat_cmp_total (last_by key 0 front) rs → FitBehind row front rs
-  unfolding FitBehind
+  all_fit : ((front : List Row) (r : Row) → IsRow r → IsAbove front r → (row front).Fits r) → (front rs : List Row) → AllByRecursion IsRow rs → RiseFrom key nat_cmp_total (last_by key 0 front) rs → FitAfter row front rs
+  unfolding FitAfter
   all_fit one_fits front [] all rise = tt
   all_fit one_fits front (r ∷ rs) all rise = (
     one_fits front r all.0 rise.0,
@@ -172,8 +172,8 @@ listed_node count (r ∷ rs) u g all is = elim (eqb u r.id) as (λ t. eqb u r.id
 ] refl
 
 module _ (version count : ℕ) (small : count < 2 ^ 64) where
-  messages_in : (front ms : List Msg) → FitBehind (λ _. message version count) front ms → CarryWithin (farthest version count) ms
-  unfolding FitBehind
+  messages_in : (front ms : List Msg) → FitAfter (λ _. message version count) front ms → CarryWithin (farthest version count) ms
+  unfolding FitAfter
   messages_in front [] fits = tt
   messages_in front (m ∷ ms) fits = (distance_in version count (carried m) (message_in_range version count m small fits.0), messages_in (front ++ m ∷ []) ms fits.1)
 
@@ -181,8 +181,8 @@ module _ (version count : ℕ) (small : count < 2 ^ 64) where
   unfolding queue
   queue_in ms fits = (how_many_in_range PLACES (length ms) fits.0, messages_in [] ms fits.1)
 
-  each_message : (front ms : List Msg) → CarryWithin (farthest version count) ms → FitBehind (λ _. message version count) front ms
-  unfolding FitBehind
+  each_message : (front ms : List Msg) → CarryWithin (farthest version count) ms → FitAfter (λ _. message version count) front ms
+  unfolding FitAfter
   each_message front [] carry = tt
   each_message front (m ∷ ms) carry = (message_fits version count m (distance_fits version count (carried m) small carry.0), each_message (front ++ m ∷ []) ms carry.1)
 
@@ -264,8 +264,8 @@ module _ (version count : ℕ) (listed : List NodeRow) (small : count < 2 ^ 64) 
     pub rise : RiseFrom link_key pair_cmp_total (last_ends front) rs
     pub degrees : (u : ℕ) → degree u (front ++ rs) ≤ 16
 
-  links_in : (front rs : List LinkRow) → ((u : ℕ) → degree u front ≤ 16) → FitBehind (link_row version count listed) front rs → LinkedRows front rs
-  unfolding FitBehind
+  links_in : (front rs : List LinkRow) → ((u : ℕ) → degree u front ≤ 16) → FitAfter (link_row version count listed) front rs → LinkedRows front rs
+  unfolding FitAfter
   links_in front [] few fits = record { ranges = tt; carried = tt; rise = tt; degrees = λ u. rw (append-nil front) (few u) }
   links_in front (r ∷ rs) few fits =
       let row = link_row_in front r fits.0 in
@@ -282,8 +282,8 @@ module _ (version count : ℕ) (listed : List NodeRow) (small : count < 2 ^ 64) 
     room_before : (front rs : List LinkRow) (r : LinkRow) (u : ℕ) → is_end u r ≡ true → degree u (front ++ r ∷ rs) ≤ 16 → degree u front < 16
     room_before front rs r u is few = grind (arith, nat_tests, is, degree-append u front (r ∷ rs), few)
 
-    links_fit : (front rs : List LinkRow) → LinkedRows front rs → FitBehind (link_row version count listed) front rs
-    unfolding FitBehind
+    links_fit : (front rs : List LinkRow) → LinkedRows front rs → FitAfter (link_row version count listed) front rs
+    unfolding FitAfter
     links_fit front [] rows = tt
     links_fit front (r ∷ rs) rows = (
       link_row_fits all front r (record {

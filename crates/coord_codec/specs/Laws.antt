@@ -15,6 +15,6 @@ abbrev pub CutWorldsAreShort : Type 0
 CutWorldsAreShort = (w : World) (front rest : List ℕ) (b : ℕ) → InRange w → (world w.version).text (rows_of w) ≡ front ++ b ∷ rest → decoded world w.version front ≡ Err (fault_at Short (length front))
 
 -- an encoding followed by at least one byte is refused as Extra, at the length of the encoding
-abbrev pub BytesBehindWorldsAreExtra : Type 0
-BytesBehindWorldsAreExtra = (w : World) (rest : List ℕ) (b : ℕ) → InRange w →
+abbrev pub BytesAfterWorldsAreExtra : Type 0
+BytesAfterWorldsAreExtra = (w : World) (rest : List ℕ) (b : ℕ) → InRange w →
     decoded world w.version ((world w.version).text (rows_of w) ++ b ∷ rest) ≡ Err (fault_at Extra (length ((world w.version).text (rows_of w))))

@@ -1,9 +1,9 @@
 //! Laws of the encodings: functions without a body whose contracts state the laws.
 
-ghost use Rattle.coord_codec.specs.Laws.{BytesBehindWorldsAreExtra, CutWorldsAreShort, WorldsArePrefixFree};
+ghost use Rattle.coord_codec.specs.Laws.{BytesAfterWorldsAreExtra, CutWorldsAreShort, WorldsArePrefixFree};
 
 pub use coord_batch::laws::{
-    batches_are_prefix_free, bytes_behind_batches_are_extra, cut_batches_are_short,
+    batches_are_prefix_free, bytes_after_batches_are_extra, cut_batches_are_short,
     steps_are_prefix_free, worked_bytes,
 };
 
@@ -22,6 +22,6 @@ pub fn cut_worlds_are_short()
 /// An encoding of a world followed by more bytes is refused as `Extra`, at the first of these
 /// bytes.
 #[tactic(auto, using(crate::proofs::WorldGrammars::more_worlds_extra))]
-pub fn bytes_behind_worlds_are_extra()
-    ensures { BytesBehindWorldsAreExtra }
+pub fn bytes_after_worlds_are_extra()
+    ensures { BytesAfterWorldsAreExtra }
 {}

@@ -108,10 +108,10 @@ fn read_ends(
     if !front.first_rises(a) {
         return Err(ReadError::bad_byte(left));
     }
-    let left_behind_first = input.left();
+    let left_after_first = input.left();
     let b = input.node()?;
     if !front.second_rises(a, b) {
-        return Err(ReadError::bad_byte(left_behind_first));
+        return Err(ReadError::bad_byte(left_after_first));
     }
     if !can_link(nodes, front, a, b) {
         return Err(ReadError::bad_byte(left));

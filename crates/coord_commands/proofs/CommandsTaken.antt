@@ -30,9 +30,9 @@ takes_serve : (name file address : Text) → AreTakenAs (name ∷ codes "serve" 
 unfolding clap_on_literals
 takes_serve name file address = (refl, refl)
 
-takes_behind_dashes : (name file : Text) → (takes resetd (name ∷ codes "check" ∷ codes "--" ∷ file ∷ []) ≡ true) × (task_of (name ∷ codes "check" ∷ codes "--" ∷ file ∷ []) ≡ None)
+takes_after_dashes : (name file : Text) → (takes resetd (name ∷ codes "check" ∷ codes "--" ∷ file ∷ []) ≡ true) × (task_of (name ∷ codes "check" ∷ codes "--" ∷ file ∷ []) ≡ None)
 unfolding clap_on_literals
-takes_behind_dashes name file = (refl, refl)
+takes_after_dashes name file = (refl, refl)
 
 pub commands_are_taken : CommandsAreTaken
-commands_are_taken = record { drill = takes_drill; init = takes_init; check = takes_check; show = takes_show; migrate = takes_migrate; serve = takes_serve; behind_dashes = takes_behind_dashes }
+commands_are_taken = record { drill = takes_drill; init = takes_init; check = takes_check; show = takes_show; migrate = takes_migrate; serve = takes_serve; after_dashes = takes_after_dashes }

@@ -15,13 +15,13 @@ module _ (commands : List Command) (i : ℕ) (x : Command) (steps : List Step) (
   next_number = omega (arith, ap length submitted ∙ length-numbered 1 (take i commands))
 
   -- all steps but those that are submitted
-  behind : (rest : List Command) → numbered 1 (take i commands ++ x ∷ rest) ≡ steps ++ Order founder (length steps + 1) x ∷ numbered (length steps + 1 + 1) rest
-  behind rest =
+  following : (rest : List Command) → numbered 1 (take i commands ++ x ∷ rest) ≡ steps ++ Order founder (length steps + 1) x ∷ numbered (length steps + 1 + 1) rest
+  following rest =
       numbered-append 1 (take i commands) (x ∷ rest) ∙ ap (λ l. l ++ numbered (1 + length (take i commands)) (x ∷ rest)) (sym submitted) ∙ ap (λ n. steps ++ numbered n (x ∷ rest)) next_number
 
   -- with one more
   pub submitted_push : steps ++ Order founder (length steps + 1) x ∷ [] ≡ numbered 1 (take (i + 1) commands)
-  submitted_push = sym (ap (numbered 1) (take-push commands i x below is) ∙ behind [])
+  submitted_push = sym (ap (numbered 1) (take-push commands i x below is) ∙ following [])
 
   -- if the next one is refused
   pub refused_next : (reason : Refusal) → AllFresh (no_world 2) (no_world 2) steps → accepts (fold (no_world 2) steps) (no_world 2) (Order founder (length steps + 1) x) ≡ Err reason → IsRefusedBy (numbered 1 commands) reason
@@ -30,7 +30,7 @@ module _ (commands : List Command) (i : ℕ) (x : Command) (steps : List Step) (
         front = steps;
         refused = Order founder (length steps + 1) x;
         rest = numbered (length steps + 1 + 1) (drop (i + 1) commands);
-        split = ap (numbered 1) (split_at commands i x below is) ∙ behind (drop (i + 1) commands);
+        split = ap (numbered 1) (split_at commands i x below is) ∙ following (drop (i + 1) commands);
         fresh = fresh;
         why = why;
       }

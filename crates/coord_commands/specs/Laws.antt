@@ -18,4 +18,4 @@ pub record CommandsAreTaken : Type 0 where
   pub migrate : (name file : Text) → AreTakenAs (name ∷ codes "migrate" ∷ (47 ∷ file) ∷ []) (asked.migrate (47 ∷ file))
   pub serve : (name file address : Text) → AreTakenAs (name ∷ codes "serve" ∷ (47 ∷ file) ∷ (49 ∷ address) ∷ []) (asked.serve (47 ∷ file) (49 ∷ address))
   -- `clap` accepts `--` before a file, but then the arguments make no request
-  pub behind_dashes : (name file : Text) → (takes resetd (name ∷ codes "check" ∷ codes "--" ∷ file ∷ []) ≡ true) × (task_of (name ∷ codes "check" ∷ codes "--" ∷ file ∷ []) ≡ None)
+  pub after_dashes : (name file : Text) → (takes resetd (name ∷ codes "check" ∷ codes "--" ∷ file ∷ []) ≡ true) × (task_of (name ∷ codes "check" ∷ codes "--" ∷ file ∷ []) ≡ None)

@@ -31,13 +31,13 @@ module _ (to from : List ℕ) (start stop : ℕ) (size : length to ≡ length fr
           ∙ get_left (take (stop - start) (drop start from)) _ n (omega (arith, part_size, from_start, before))
           ∙ get_take (drop start from) (stop - start) n (omega (arith, from_start, before))
           ∙ get_drop from start n i (omega (arith, from_start))
-      at_place (inr from_start) (inr behind) =
+      at_place (inr from_start) (inr following) =
           let n = i - stop in
-          get_right (take start to) _ i (stop - start + n) (omega (arith, front_size, order, behind))
+          get_right (take start to) _ i (stop - start + n) (omega (arith, front_size, order, following))
           ∙ get_right (take (stop - start) (drop start from)) _ (stop - start + n) n (omega (arith, part_size))
           ∙ get_drop (drop start to) (stop - start) n (stop - start + n) (omega arith)
-          ∙ get_drop to start (stop - start + n) i (omega (arith, order, behind))
-          ∙ elsewhere (inr behind)
+          ∙ get_drop to start (stop - start + n) i (omega (arith, order, following))
+          ∙ elsewhere (inr following)
 
 -- a place outside the part that lies before the end lies outside the range
 pub apart : (at len size start stop i : ℕ) → start ≡ min size at → stop ≡ start + min len (size - start) → i < size → (i < start) ⊎ (stop ≤ i) → (nat_le at i && nat_lt i (at + len)) ≡ false
@@ -53,6 +53,6 @@ grown disk read tail image is = record {
   where
     here : (i : ℕ) → is_within disk.written i ≡ false → (i < length disk.synced) ⊎ (length disk.synced ≤ i) → slice_get read i ≡ slice_get (disk.synced ++ tail) i
     here i out (inl lt) = image.kept i lt out ∙ sym (get_left disk.synced tail i lt)
-    here i out (inr behind) =
+    here i out (inr following) =
         let n = i - length disk.synced in
-        sym (get_right disk.synced tail i n (omega (arith, behind)) ∙ ap (λ (l : List ℕ). slice_get l n) is ∙ get_drop read (length disk.synced) n i (omega (arith, behind)))
+        sym (get_right disk.synced tail i n (omega (arith, following)) ∙ ap (λ (l : List ℕ). slice_get l n) is ∙ get_drop read (length disk.synced) n i (omega (arith, following)))

@@ -57,8 +57,8 @@ in_place old grown now (b ∷ bs) at k size some k_is now_is size_is grown_is =
     let zeros : List ℕ = replicate (size - length old) 0 in
     let padded : grown ≡ old ++ zeros = grown_is ∙ ap (λ (l : List ℕ). l ++ zeros) (take_all size old (omega (arith, size_is))) in
     let front = take_padded old at (size - length old) (at - length old) (omega (arith, size_is)) refl in
-    let behind = drop_padded old (at + length (b ∷ bs)) (size - length old) (omega (arith, size_is)) in
-    rw (drop-drop k at grown, padded, now_is, k_is, front, behind, append_assoc)
+    let following = drop_padded old (at + length (b ∷ bs)) (size - length old) (omega (arith, size_is)) in
+    rw (drop-drop k at grown, padded, now_is, k_is, front, following, append_assoc)
 
 pub no_shorter : (old bytes : List ℕ) (at : ℕ) → length old ≤ length (overwritten old at bytes)
 no_shorter old [] at = omega arith
@@ -68,13 +68,13 @@ pub elsewhere : (old bytes : List ℕ) (at i : ℕ) → i < length old → (i < 
 elsewhere old [] at i lt out = refl
 elsewhere old (b ∷ bytes) at i lt (inl before) =
     get_left (take at old) _ i (omega (arith, before, lt, length-take at old)) ∙ get_take old at i before
-elsewhere old (b ∷ bytes) at i lt (inr behind) =
+elsewhere old (b ∷ bytes) at i lt (inr following) =
     let tail = drop (at + length (b ∷ bytes)) old in
     let n = i - (at + length (b ∷ bytes)) in
-    get_right (take at old) (replicate (at - length old) 0 ++ (b ∷ bytes ++ tail)) i (length (b ∷ bytes) + n) (omega (arith, behind, lt, length-take at old))
-    ∙ get_right (replicate (at - length old) 0) (b ∷ bytes ++ tail) (length (b ∷ bytes) + n) (length (b ∷ bytes) + n) (omega (arith, behind, lt, length-replicate {A = ℕ} (at - length old) 0))
+    get_right (take at old) (replicate (at - length old) 0 ++ (b ∷ bytes ++ tail)) i (length (b ∷ bytes) + n) (omega (arith, following, lt, length-take at old))
+    ∙ get_right (replicate (at - length old) 0) (b ∷ bytes ++ tail) (length (b ∷ bytes) + n) (length (b ∷ bytes) + n) (omega (arith, following, lt, length-replicate {A = ℕ} (at - length old) 0))
     ∙ get_right (b ∷ bytes) tail (length (b ∷ bytes) + n) n refl
-    ∙ get_drop old (at + length (b ∷ bytes)) n i (omega (arith, behind))
+    ∙ get_drop old (at + length (b ∷ bytes)) n i (omega (arith, following))
 
 either_false : (a b : Bool) → a || b ≡ false → (a ≡ false) × (b ≡ false)
 either_false a b e = grind (arith, nat_tests, e)

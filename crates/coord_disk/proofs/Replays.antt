@@ -96,4 +96,4 @@ adds_time old new now adds = record {
 
     since : (t : ℕ) (image : List ℕ) (left : LeftSince new t image) → (left.0 < length new.entries) ⊎ (length new.entries ≤ left.0) → LeftSince old t image ⊎ IsImage (present_after new) image
     since t image left (inl before) = let le : left.0 ≤ length old.entries = omega (arith, before, size) in inl (left.0, left.1, le, rw (sym (front left.0 le)) left.3)
-    since t image left (inr behind) = inr (rw (sym (take_all left.0 new.entries behind)) left.3)
+    since t image left (inr following) = inr (rw (sym (take_all left.0 new.entries following)) left.3)

@@ -22,11 +22,11 @@ same_some : (x y : ℕ) → Some x ≡ Some y → x ≡ y
 same_some x y e = cc
 
 -- bytes that agree with a front begin with it
-pub begins : (front behind c : List ℕ) → ((i : ℕ) → i < length front → slice_get c i ≡ slice_get (front ++ behind) i) → (rest : List ℕ) × (c ≡ front ++ rest)
-begins [] behind c agree = (c, refl)
-begins (f ∷ front) behind [] agree = absurd (cc (agree 0 (omega arith)))
-begins (f ∷ front) behind (x ∷ c) agree =
-    let rest = begins front behind c (λ i lt. agree (suc i) (omega (arith, lt))) in
+pub begins : (front following c : List ℕ) → ((i : ℕ) → i < length front → slice_get c i ≡ slice_get (front ++ following) i) → (rest : List ℕ) × (c ≡ front ++ rest)
+begins [] following c agree = (c, refl)
+begins (f ∷ front) following [] agree = absurd (cc (agree 0 (omega arith)))
+begins (f ∷ front) following (x ∷ c) agree =
+    let rest = begins front following c (λ i lt. agree (suc i) (omega (arith, lt))) in
     (rest.0, ap (λ (k : ℕ). k ∷ c) (same_some x f (agree 0 (omega arith))) ∙ ap (λ (l : List ℕ). f ∷ l) rest.1)
 
 -- bytes that agree with others but in a hole begin so, whatever they have in the hole
@@ -55,25 +55,25 @@ single (x ∷ []) one = (x, refl)
 single (x ∷ (y ∷ l)) one = absurd (omega (arith, one))
 
 -- One byte is written over another: whatever a crash leaves at its place, the bytes before and after it stay.
-pub torn_byte : (front behind : List ℕ) (old new at : ℕ) → at ≡ length front → (c : List ℕ) → Torn (front ++ old ∷ behind) at (new ∷ []) c → (x : ℕ) × (rest : List ℕ) × (c ≡ front ++ x ∷ (behind ++ rest))
-torn_byte front behind old new at is c image =
-    let long : length (front ++ old ∷ behind) ≡ length front + 1 + length behind = omega (arith, length-append front (old ∷ behind)) in
-    let found = begins_but_hole front (old ∷ []) behind [] c
-    (λ i lt out. image.kept i (omega (arith, lt, long)) (let other : i ≢ at = elsewhere i out in grind (arith, nat_tests)) ∙ ap (λ (l : List ℕ). slice_get (front ++ old ∷ l) i) (sym (append-nil behind)))
+pub torn_byte : (front following : List ℕ) (old new at : ℕ) → at ≡ length front → (c : List ℕ) → Torn (front ++ old ∷ following) at (new ∷ []) c → (x : ℕ) × (rest : List ℕ) × (c ≡ front ++ x ∷ (following ++ rest))
+torn_byte front following old new at is c image =
+    let long : length (front ++ old ∷ following) ≡ length front + 1 + length following = omega (arith, length-append front (old ∷ following)) in
+    let found = begins_but_hole front (old ∷ []) following [] c
+    (λ i lt out. image.kept i (omega (arith, lt, long)) (let other : i ≢ at = elsewhere i out in grind (arith, nat_tests)) ∙ ap (λ (l : List ℕ). slice_get (front ++ old ∷ l) i) (sym (append-nil following)))
     (omega (arith, long, image.no_shorter)) in
     let one = single found.0 found.2 in
-    (one.0, found.1, found.3 ∙ ap (λ (l : List ℕ). front ++ (l ++ (behind ++ found.1))) one.1)
+    (one.0, found.1, found.3 ∙ ap (λ (l : List ℕ). front ++ (l ++ (following ++ found.1))) one.1)
   where
     elsewhere : (i : ℕ) → (i < length front) ⊎ (length front + 1 ≤ i) → i ≢ at
     elsewhere i (inl lt) = omega (arith, lt, is)
     elsewhere i (inr le) = omega (arith, le, is)
 
 -- written over the bytes after a front
-pub overwritten_behind : (front behind new : List ℕ) (at : ℕ) → at ≡ length front → 0 < length new → overwritten (front ++ behind) at new ≡ front ++ (new ++ drop (length new) behind)
-overwritten_behind front behind [] at is some = absurd (omega (arith, some))
-overwritten_behind front behind (b ∷ bs) at is some =
-    let none : at - length (front ++ behind) ≡ 0 = omega (arith, is, length-append front behind) in
-    rw (take_at front behind at (sym is), none, is, drop-append-add front behind (length (b ∷ bs)))
+pub overwritten_after : (front following new : List ℕ) (at : ℕ) → at ≡ length front → 0 < length new → overwritten (front ++ following) at new ≡ front ++ (new ++ drop (length new) following)
+overwritten_after front following [] at is some = absurd (omega (arith, some))
+overwritten_after front following (b ∷ bs) at is some =
+    let none : at - length (front ++ following) ≡ 0 = omega (arith, is, length-append front following) in
+    rw (take_at front following at (sym is), none, is, drop-append-add front following (length (b ∷ bs)))
 
 -- the bytes before a place, padded with zeros
 abbrev pub padded : ℕ → List ℕ → List ℕ
@@ -83,12 +83,12 @@ pub length_padded : (n : ℕ) (bytes : List ℕ) → length (padded n bytes) ≡
 length_padded n bytes = omega (arith, length-append (take n bytes) (replicate (n - length bytes) 0), length-take n bytes, length-replicate {A = ℕ} (n - length bytes) 0)
 
 -- written after a front, at a place of the rest
-pub overwritten_inside : (front behind new : List ℕ) (at n : ℕ) → at ≡ length front + n → 0 < length new → overwritten (front ++ behind) at new ≡ front ++ (padded n behind ++ (new ++ drop (n + length new) behind))
-overwritten_inside front behind [] at n is some = absurd (omega (arith, some))
-overwritten_inside front behind (b ∷ bs) at n is some =
-    let gap : at - length (front ++ behind) ≡ n - length behind = omega (arith, is, length-append front behind) in
+pub overwritten_inside : (front following new : List ℕ) (at n : ℕ) → at ≡ length front + n → 0 < length new → overwritten (front ++ following) at new ≡ front ++ (padded n following ++ (new ++ drop (n + length new) following))
+overwritten_inside front following [] at n is some = absurd (omega (arith, some))
+overwritten_inside front following (b ∷ bs) at n is some =
+    let gap : at - length (front ++ following) ≡ n - length following = omega (arith, is, length-append front following) in
     let tail : at + length (b ∷ bs) ≡ length front + (n + length (b ∷ bs)) = omega (arith, is) in
-    rw (gap, tail, is, take-append-add front behind n, drop-append-add front behind (n + length (b ∷ bs)), append_assoc, append_assoc)
+    rw (gap, tail, is, take-append-add front following n, drop-append-add front following (n + length (b ∷ bs)), append_assoc, append_assoc)
 
 -- if everything is synced, a crash leaves it
 pub whole_image : (bytes : List ℕ) (p : Present) → p ≡ whole bytes → (c : List ℕ) → IsImage p c → c ≡ bytes

@@ -42,13 +42,13 @@ LineResponds s n (Some line) given reported t = UnlessSkipped (is_skipped line) 
 
 -- A text consists of the output of one line, and then the output of a drill in the state after that
 -- line.
-pub record PrintsOn (Line : List Answer → List ℕ → DrillState → Type 0) (Behind : DrillState → List ℕ → Type 0) (text : List ℕ) : Type 0 where
+pub record PrintsOn (Line : List Answer → List ℕ → DrillState → Type 0) (Then : DrillState → List ℕ → Type 0) (text : List ℕ) : Type 0 where
   pub given : List Answer
   pub reported : List ℕ
   pub after : DrillState
   pub rest : List ℕ
   pub line : Line given reported after
-  pub behind : Behind after rest
+  pub following : Then after rest
   pub whole : text ≡ reported ++ rest
 
 -- A drill in this state may print this text for these lines. The first line has this number.

@@ -21,7 +21,7 @@ pub use Rattle.coord_drill.specs.Printed.{bad_line, count_line, fault_line, idle
 pub use Rattle.coord_drill.specs.Answered.{IsAnswered, Responds, asked_lines, flight_lines, kept_line}
 pub use Rattle.coord_drill.specs.Drilled.{LineResponds, Prints, UnlessSkipped, asked_by, is_skipped}
 pub use Rattle.coord_drill.specs.Reported.{flight_answered, reported_by}
-pub use Rattle.coord_drill.specs.Holding.{AreGranted, FlownTo, IsEmptyLog, IsHeld, IsReadyDrill, IsReadyWith, Lands, Settles, Reports, behind, claims_of, collected_lines, drill_of, flown_answers, flown_lines, front_of, landed_answers, left, left_by, released_lines, state_of, waiting}
+pub use Rattle.coord_drill.specs.Holding.{AreGranted, FlownTo, IsEmptyLog, IsHeld, IsReadyDrill, IsReadyWith, Lands, Settles, Reports, after_step, claims_of, collected_lines, drill_of, flown_answers, flown_lines, front_of, landed_answers, left, left_by, released_lines, state_of, waiting}
 pub use Rattle.coord_drill.specs.Course.{BrokeOff, Course, CutShort, DrillEnded, DrillFails, Drills, FirstCutShort, GivesEmpty, Goes, IsLeftBy, IsSettled, LineCutShort, LineGoes, Moves, NotMade, Place, RaisesEmpty, RunsOn, RunsTo, StopsDrill, StopsWork, asked_in, start, reported_in}
 pub use Rattle.coord_drill.specs.Moments.{Begins, Carries, CarriesIf, Cuts, CutsIf, Flies, GivesRaised, GivesUpInCrash, GoesBy, Hands, IsBegun, IsMade, LacksMemory, Leads, LeadsBy, LeadsPart, Led, LineIsPromised, RaisesPart, RaisesTo, Stands}
 pub use Rattle.coord_drill.specs.Lines.{Breaks, CarriesLine, CarriesOut, CutsLine, EndsEarly, EndsWith, LinesBreakOff, StandsAt, TakesPiece}

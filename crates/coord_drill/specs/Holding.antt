@@ -89,15 +89,15 @@ released_lines version n [] = []
 released_lines version n (r ∷ rs) = if r.step == n then output_line version r.output ++ released_lines version n rs else []
 
 -- the releases after the releases of this step
-abbrev pub behind : ℕ → List Release → List Release
-behind n [] = []
-behind n (r ∷ rs) = if r.step == n then behind n rs else r ∷ rs
+abbrev pub after_step : ℕ → List Release → List Release
+after_step n [] = []
+after_step n (r ∷ rs) = if r.step == n then after_step n rs else r ∷ rs
 
 -- the lines of the first claims, up to the first claim with an unsettled step: for each claim its reply,
 -- then the releases of its step
 abbrev pub collected_lines : ℕ → ℕ → List Claim → List Release → List ℕ
 collected_lines version count [] rs = []
-collected_lines version count (c ∷ cs) rs = if nat_le c.step count then reply_line (reply_of c) ++ (released_lines version c.step rs ++ collected_lines version count cs (behind c.step rs)) else []
+collected_lines version count (c ∷ cs) rs = if nat_le c.step count then reply_line (reply_of c) ++ (released_lines version c.step rs ++ collected_lines version count cs (after_step c.step rs)) else []
 
 -- the claims that remain, from the first claim with an unsettled step on
 abbrev pub waiting : ℕ → List Claim → List Claim

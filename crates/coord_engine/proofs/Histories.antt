@@ -32,20 +32,20 @@ some_there : (views : List Known) (j : ℕ) (v : Known) → get_elem? views j �
 some_there [] j v e = absurd (some-ne-none v (sym e))
 some_there (x ∷ xs) j v e = λ none. omega arith
 
--- where each other pass fits, and so does this one's new view
-set_fits : (history : List Step) (views : List Known) (pass : ℕ) (w : Known) → ((j : ℕ) (u : Known) → j ≢ pass → get_elem? views j ≡ some u → Fits history j u) → Fits history pass w
-    → (j : ℕ) (u : Known) → get_elem? (set views pass w) j ≡ some u → Fits history j u
-set_fits history views pass w others mine j u e =
+-- where each other token fits, and so does this one's new view
+set_fits : (history : List Step) (views : List Known) (token : ℕ) (w : Known) → ((j : ℕ) (u : Known) → j ≢ token → get_elem? views j ≡ some u → Fits history j u) → Fits history token w
+    → (j : ℕ) (u : Known) → get_elem? (set views token w) j ≡ some u → Fits history j u
+set_fits history views token w others mine j u e =
     ⊎_elim
-    (λ (same : (j ≡ pass) × (w ≡ u)). subst (λ v. Fits history j v) same.1 (subst (λ k. Fits history k w) (sym same.0) mine))
-    (λ (other : (j ≢ pass) × (get_elem? views j ≡ some u)). others j u other.0 other.1)
-    (at_set views pass j w u e)
+    (λ (same : (j ≡ token) × (w ≡ u)). subst (λ v. Fits history j v) same.1 (subst (λ k. Fits history k w) (sym same.0) mine))
+    (λ (other : (j ≢ token) × (get_elem? views j ≡ some u)). others j u other.0 other.1)
+    (at_set views token j w u e)
 
 -- ---- steps
 
-pub writes : (slots pass : ℕ) (me : Me (Unit {0}) Known) (steps : List Step) → pass ≡ 0 → StartsWith steps me.0.read → Allows (λ table. KnowOneHistory table.views) slots pass me 0 (λ n. n) (λ found after. after ≡ (knows steps me.0.returned, me.1))
-writes slots pass me steps first on table one homes at small =
-    let mine = one.1 pass me.0 at in
+pub writes : (slots token : ℕ) (me : Me (Unit {0}) Known) (steps : List Step) → token ≡ 0 → StartsWith steps me.0.read → Allows (λ table. KnowOneHistory table.views) slots token me 0 (λ n. n) (λ found after. after ≡ (knows steps me.0.returned, me.1))
+writes slots token me steps first on table one homes at small =
+    let mine = one.1 token me.0 at in
     let more : StartsWith steps one.0 = subst (StartsWith steps) (mine.whole first) on in
     let w = knows steps me.0.returned in (
       w,
@@ -53,7 +53,7 @@ writes slots pass me steps first on table one homes at small =
       tt,
       (
         steps,
-        set_fits steps table.views pass w
+        set_fits steps table.views token w
             (λ j u other e.
             let fits = one.1 j u e in
             record { read = first_of_first u.read one.0 steps fits.read more; returned = first_of_first u.returned one.0 steps fits.returned more; whole = λ is_first. absurd (other (is_first ∙ sym first)) })
@@ -62,40 +62,40 @@ writes slots pass me steps first on table one homes at small =
       refl,
     )
 
-pub compares : (slots pass : ℕ) (me : Me (Unit {0}) Known) → pass ≡ 0 → Allows (λ table. KnowOneHistory table.views) slots pass me 0 (λ n. n) (λ found after. (after ≡ me) × StartsWith me.0.read me.0.returned)
-compares slots pass me first table one homes at small =
-    let mine = one.1 pass me.0 at in
-    (me.0, keeps, tt, subst KnowOneHistory (sym (set_again table.views pass me.0 at)) one, (refl, subst (λ read. StartsWith read me.0.returned) (sym (mine.whole first)) mine.returned))
+pub compares : (slots token : ℕ) (me : Me (Unit {0}) Known) → token ≡ 0 → Allows (λ table. KnowOneHistory table.views) slots token me 0 (λ n. n) (λ found after. (after ≡ me) × StartsWith me.0.read me.0.returned)
+compares slots token me first table one homes at small =
+    let mine = one.1 token me.0 at in
+    (me.0, keeps, tt, subst KnowOneHistory (sym (set_again table.views token me.0 at)) one, (refl, subst (λ read. StartsWith read me.0.returned) (sym (mine.whole first)) mine.returned))
 
-pub splits : (pass : ℕ) (v : Known) → Splits {S = Unit {0}} (λ table. KnowOneHistory table.views) pass v v (knows v.read [])
-splits pass v table one at =
-    rw (set_again table.views pass v at) (
+pub splits : (token : ℕ) (v : Known) → Splits {S = Unit {0}} (λ table. KnowOneHistory table.views) token v v (knows v.read [])
+splits token v table one at =
+    rw (set_again table.views token v at) (
       one.0,
       λ j u e. ⊎_elim
           (λ old. one.1 j u old)
-          (λ (new : (knows v.read [] ≡ u) × (j ≡ length table.views)). subst (Fits one.0 j) new.0 (record { read = (one.1 pass v at).read; returned = none_of one.0; whole = λ is_first. absurd (some_there table.views pass v at (sym new.1 ∙ is_first)) }))
+          (λ (new : (knows v.read [] ≡ u) × (j ≡ length table.views)). subst (Fits one.0 j) new.0 (record { read = (one.1 token v at).read; returned = none_of one.0; whole = λ is_first. absurd (some_there table.views token v at (sym new.1 ∙ is_first)) }))
           (at_end table.views (knows v.read []) u j e),
     )
 
-pub reads : (slots pass : ℕ) (me : Me (Unit {0}) Known) → Allows (λ table. KnowOneHistory table.views) slots pass me 0 (λ n. n) (λ found after. StartsWith after.0.read me.0.read × StartsWith after.0.read me.0.returned × (after.1 ≡ me.1))
-reads slots pass me table one homes at small =
-    let mine = one.1 pass me.0 at in
+pub reads : (slots token : ℕ) (me : Me (Unit {0}) Known) → Allows (λ table. KnowOneHistory table.views) slots token me 0 (λ n. n) (λ found after. StartsWith after.0.read me.0.read × StartsWith after.0.read me.0.returned × (after.1 ≡ me.1))
+reads slots token me table one homes at small =
+    let mine = one.1 token me.0 at in
     let w = knows one.0 me.0.returned in (
       w,
       keeps,
       tt,
-      (one.0, set_fits one.0 table.views pass w (λ j u _ e. one.1 j u e) (record { read = all_of one.0; returned = mine.returned; whole = λ _. refl })),
+      (one.0, set_fits one.0 table.views token w (λ j u _ e. one.1 j u e) (record { read = all_of one.0; returned = mine.returned; whole = λ _. refl })),
       (mine.read, mine.returned, refl),
     )
 
-pub joins : (pass : ℕ) (v : Known) (other : ℕ) (w : Known) (read : List Step) → w.read ≡ read → Joins {S = Unit {0}} (λ table. KnowOneHistory table.views) pass v other w (knows v.read w.read) (knows read [])
-joins pass v other w read named table one at apart there =
-    let mine = one.1 pass v at in
+pub joins : (token : ℕ) (v : Known) (other : ℕ) (w : Known) (read : List Step) → w.read ≡ read → Joins {S = Unit {0}} (λ table. KnowOneHistory table.views) token v other w (knows v.read w.read) (knows read [])
+joins token v other w read named table one at apart there =
+    let mine = one.1 token v at in
     let returned = knows v.read w.read in
-    let theirs : Fits one.0 other w = ⊎_elim (λ (same : (other ≡ pass) × (returned ≡ w)). absurd (apart same.0)) (λ (is : (other ≢ pass) × (get_elem? table.views other ≡ some w)). one.1 other w is.1) (at_set table.views pass other returned w there) in
-    let both : Fits one.0 pass returned = record { read = mine.read; returned = theirs.read; whole = mine.whole } in (
+    let theirs : Fits one.0 other w = ⊎_elim (λ (same : (other ≡ token) × (returned ≡ w)). absurd (apart same.0)) (λ (is : (other ≢ token) × (get_elem? table.views other ≡ some w)). one.1 other w is.1) (at_set table.views token other returned w there) in
+    let both : Fits one.0 token returned = record { read = mine.read; returned = theirs.read; whole = mine.whole } in (
       one.0,
-      set_fits one.0 (set table.views pass returned) other (knows read [])
-          (λ j u _ e. set_fits one.0 table.views pass returned (λ i x _ is. one.1 i x is) both j u e)
+      set_fits one.0 (set table.views token returned) other (knows read [])
+          (λ j u _ e. set_fits one.0 table.views token returned (λ i x _ is. one.1 i x is) both j u e)
           (record { read = subst (StartsWith one.0) named theirs.read; returned = none_of one.0; whole = λ is_first. sym named ∙ theirs.whole is_first }),
     )

@@ -248,8 +248,8 @@ module _ {D : Type 0} (m : DiskModel D) where
       })
 
   -- a flight that comes back left after the steps that are settled still
-  pub is_behind : (first : Past) (base : World) (l : LedgerState D) (f : FlightState D) (written read : List Step) → l.log.base ≡ base → IsOut l f → FliesFrom m first base read f → StartsWith (settled_steps l.log) written → StartsWith written read → read ≡ settled_steps l.log
-  is_behind first base l f written read same own flies grown begins =
+  pub is_after : (first : Past) (base : World) (l : LedgerState D) (f : FlightState D) (written read : List Step) → l.log.base ≡ base → IsOut l f → FliesFrom m first base read f → StartsWith (settled_steps l.log) written → StartsWith written read → read ≡ settled_steps l.log
+  is_after first base l f written read same own flies grown begins =
       let starts : StartsWith (settled_steps l.log) read = first_of_first read written (settled_steps l.log) begins grown in
       let count : length read ≡ l.log.settled = omega (arith, flies.number, own.first, ap (λ (w : World). w.count) same) in
       sym (by_length (settled_steps l.log) read starts) ∙ ap (λ n. take n (settled_steps l.log)) count ∙ take-take l.log.settled l.log.settled l.log.trail (le_refl l.log.settled)
@@ -266,12 +266,12 @@ module _ {D : Type 0} (m : DiskModel D) where
       → IsOut l f → later ≡ taken_back l (length f.steps) f.mark f.disk → HasEnded first base l later written
   ended first base l later f written read same home flies grown begins own taken =
       let n = length f.steps in
-      let behind = is_behind first base l f written read same own flies grown begins in
+      let following = is_after first base l f written read same own flies grown begins in
       subst (λ x. HasEnded first base l x written) (sym taken) (record {
         trail = back_trail l.log n f.mark;
         base_is = back_base l.log n f.mark;
         home = at_home (log_back l.log n f.mark).doubt None refl;
-        along = subst (λ steps. StaysAlong m first base steps f.disk) (sym (last_back l.log read f.steps f.mark (going_of l.log.doubt l.out n home own.size) behind own.steps)) flies.along;
+        along = subst (λ steps. StaysAlong m first base steps f.disk) (sym (last_back l.log read f.steps f.mark (going_of l.log.doubt l.out n home own.size) following own.steps)) flies.along;
         grown = first_of_first written (settled_steps l.log) (settled_steps (log_back l.log n f.mark)) grown (settled_grow l.log n f.mark);
       })
 

@@ -24,8 +24,8 @@ use Rattle.coord_engine.specs.Facade.{AreOfSettled, Beginning, GivesSignal, HasR
 -- ---- beginnings after earlier steps
 
 -- what begins so after the same steps begins so
-pub behind_both : (earlier xs first : List Step) → StartsWith xs first → StartsWith (earlier ++ xs) (earlier ++ first)
-behind_both earlier xs first is = (is.0, ap (λ l. earlier ++ l) is.1 ∙ sym (append_assoc earlier first is.0))
+pub after_both : (earlier xs first : List Step) → StartsWith xs first → StartsWith (earlier ++ xs) (earlier ++ first)
+after_both earlier xs first is = (is.0, ap (λ l. earlier ++ l) is.1 ∙ sym (append_assoc earlier first is.0))
 
 abbrev rest_of : List Step → List Step
 rest_of [] = []
@@ -36,8 +36,8 @@ of_both [] xs first is = is
 of_both (e ∷ es) xs first is = of_both es xs first (is.0, ap rest_of is.1)
 
 -- what a token read that was taken back are the first of the settled steps
-pub begins_behind : (history : TableId) (earlier xs first : List Step) (written back read : Beginning) → HasReadSettled history earlier xs written → back ≡ written → HasReadSettled history earlier first read → StartsWith back.steps read.steps → StartsWith xs first
-begins_behind history earlier xs first written back read is same of starts =
+pub begins_after : (history : TableId) (earlier xs first : List Step) (written back read : Beginning) → HasReadSettled history earlier xs written → back ≡ written → HasReadSettled history earlier first read → StartsWith back.steps read.steps → StartsWith xs first
+begins_after history earlier xs first written back read is same of starts =
     of_both earlier xs first (subst (λ (b : Beginning). StartsWith b.steps (earlier ++ first)) (same ∙ is) (subst (λ (b : Beginning). StartsWith back.steps b.steps) of starts))
 
 -- ---- what steps give out
@@ -67,8 +67,8 @@ pub gives_on : (w : World) (xs first : List Step) (step node epoch : ℕ) → St
 gives_on w xs first step node epoch on is = subst (λ l. GivesSignal w l step node epoch) (sym on.1) (gives_more w first on.0 step node epoch is)
 
 -- and of earlier steps with them
-pub gives_behind : (w : World) (xs ys : List Step) (step node epoch : ℕ) → GivesSignal (fold w xs) ys step node epoch → GivesSignal w (xs ++ ys) step node epoch
-gives_behind w xs ys step node epoch is = record {
+pub gives_after : (w : World) (xs ys : List Step) (step node epoch : ℕ) → GivesSignal (fold w xs) ys step node epoch → GivesSignal w (xs ++ ys) step node epoch
+gives_after w xs ys step node epoch is = record {
   before = gives w xs ++ is.before;
   after = is.after;
   given =
@@ -78,7 +78,7 @@ gives_behind w xs ys step node epoch is = record {
 
 -- what steps release that come after others
 last_given : (w : World) (xs ys : List Step) → MayAskAll (GivesSignal w (xs ++ ys)) (gives (fold w xs) ys)
-last_given w xs ys = λ before after step node epoch is. gives_behind w xs ys step node epoch (record { before = before; after = after; given = is })
+last_given w xs ys = λ before after step node epoch is. gives_after w xs ys step node epoch (record { before = before; after = after; given = is })
 
 none_given : (may : ℕ → ℕ → ℕ → Type 0) → MayAskAll may []
 none_given may = λ before after step node epoch is. absurd (none before after (release_of step (Signalled node epoch)) is)
@@ -141,15 +141,15 @@ abbrev output_or : Output → List Release → Output
 output_or o [] = o
 output_or o (r ∷ rs) = r.output
 
-abbrev releases_behind : List Release → List Release
-releases_behind [] = []
-releases_behind (r ∷ rs) = rs
+abbrev releases_after : List Release → List Release
+releases_after [] = []
+releases_after (r ∷ rs) = rs
 
 no_signal : (given : List Output) (before after : List Release) (step node epoch : ℕ) → AllByRecursion IsPacket given → map (release_of 0) given ≡ before ++ release_of step (Signalled node epoch) ∷ after → ⊥
 no_signal [] [] after step node epoch all is = cc
 no_signal [] (b ∷ bs) after step node epoch all is = cc
 no_signal (o ∷ os) [] after step node epoch all is = subst IsPacket (ap (output_or o) is) all.0
-no_signal (o ∷ os) (b ∷ bs) after step node epoch all is = no_signal os bs after step node epoch all.1 (ap releases_behind is)
+no_signal (o ∷ os) (b ∷ bs) after step node epoch all is = no_signal os bs after step node epoch all.1 (ap releases_after is)
 
 -- a port may be asked for what flights release
 pub may_hand : (history : TableId) (earlier : List Step) (base : World) (may : Beginning → ℕ → ℕ → ℕ → Type 0) (released : List Release) → MayPrint history earlier base may → MayHand history earlier base may released

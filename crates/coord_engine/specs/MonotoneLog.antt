@@ -21,14 +21,14 @@ knows read returned = record { read = read; returned = returned }
 
 -- The prefixes that a token knows are prefixes of the history. The first token, with number 0, has read the
 -- whole history.
-pub record Fits (history : List Step) (pass : ℕ) (v : Known) : Type 0 where
+pub record Fits (history : List Step) (token : ℕ) (v : Known) : Type 0 where
   pub read : StartsWith history v.read
   pub returned : StartsWith history v.returned
-  pub whole : pass ≡ 0 → v.read ≡ history
+  pub whole : token ≡ 0 → v.read ≡ history
 
 -- All tokens know prefixes of one history.
 abbrev pub KnowOneHistory : List Known → Type 0
-KnowOneHistory views = (history : List Step) × ((pass : ℕ) (v : Known) → get_elem? views pass ≡ some v → Fits history pass v)
+KnowOneHistory views = (history : List Step) × ((token : ℕ) (v : Known) → get_elem? views token ≡ some v → Fits history token v)
 
 -- The token has now read exactly these steps.
 abbrev pub IsWrittenOn : List Step → TableStep (Unit {0}) → Me (Unit {0}) Known → ℕ → Me (Unit {0}) Known → Type 0

@@ -98,7 +98,7 @@ pub record FliesFrom {D : Type 0} (m : DiskModel D) (first : Past) (base : World
 
 -- A flight left when some steps were settled. The token has read the earlier steps of this history and then
 -- these settled steps.
-pub record FliesBehind {D : Type 0} (m : DiskModel D) (history : TableId) (earlier : List Step) (first : Past) (base : World) (read : Beginning) (f : FlightState D) : Type 0 where
+pub record FliesAfter {D : Type 0} (m : DiskModel D) (history : TableId) (earlier : List Step) (first : Past) (base : World) (read : Beginning) (f : FlightState D) : Type 0 where
   pub settled : List Step
   pub read_them : HasReadSettled history earlier settled read
   pub flies : FliesFrom m first base settled f

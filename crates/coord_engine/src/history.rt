@@ -35,7 +35,7 @@ impl TableRule<(), Known, ()> for OneHistory {
 }
 
 /// A token with the steps that it knows.
-type Pass = Seat<(), Known>;
+type Token = Seat<(), Known>;
 
 /// Names a list of steps: steps to be written to a history, or steps that a token has read.
 trait NamedSteps {
@@ -127,7 +127,7 @@ impl Model for MonotoneLog {
 /// The only writer of a history. Contracts see the history's identity and all its steps.
 #[derive(Drop)]
 pub struct LogAuthority {
-    token: Pass,
+    token: Token,
 }
 
 impl Model for LogAuthority {
@@ -145,7 +145,7 @@ impl Model for LogAuthority {
 /// prefix.
 #[derive(Drop)]
 pub struct LogPrefix {
-    token: Pass,
+    token: Token,
 }
 
 impl Model for LogPrefix {

@@ -24,13 +24,13 @@ pub struct OwnFlight<D: Disk, L: Origin> {
 
 impl<D: Disk, L: Origin> Model for OwnFlight<D, L> {
     ghost use Rattle.coord_ledger.specs.ledger.State.{FlightState};
-    ghost use Rattle.coord_engine.specs.Past.{FliesBehind};
+    ghost use Rattle.coord_engine.specs.Past.{FliesAfter};
 
     ghost Value = { FlightState D };
 
     ghost view = { λ f. f.flight };
 
-    ghost invariant = { λ f. FliesBehind D.model L.history L.earlier L.disk L.base f.reader f.flight };
+    ghost invariant = { λ f. FliesAfter D.model L.history L.earlier L.disk L.base f.reader f.flight };
 }
 
 /// Commits a flight. A crash at any moment of the call leaves the world before the flight's steps

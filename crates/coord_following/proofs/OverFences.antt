@@ -9,7 +9,7 @@ use Rattle.coord_world.specs.laws.Trails.{IsSound}
 use Rattle.coord_member.specs.declared.view.Entry.TheVariants.{Node}
 use Rattle.coord_member.specs.NoMix.{IsOneOf}
 use Rattle.coord_member.specs.Rule.{is_alone}
-use Rattle.coord_member.specs.Fence.{Fence, Resource, accepts, behind, behind_all}
+use Rattle.coord_member.specs.Fence.{Fence, Resource, accepts, after_fence, after_fences}
 use Rattle.coord_member.proofs.Fences.{later_is_greater}
 use Rattle.coord_following.specs.Fences.{Fixes, IsOlder, NamesRuns, NewerHasMore, OlderStaysOut, Tags}
 use Rattle.coord_following.specs.Histories.{Turn, Takes, Raises, IsHistory, adds, life_at, turned, world_at}
@@ -99,8 +99,8 @@ module _ (w : World) (turns : List Turn) (tag : Tags) (i j : ℕ) (f g : Fence) 
             | inl more ↦ more
             | inr same ↦ absurd (same_row same)
           ]
-      of false behind =
-          absurd (further (further_at w newer.turn older.turn turns i sound history (grind (arith, nat_tests, behind)) (has_later is.epoch is.there) older.shown.there))
+      of false after_fence =
+          absurd (further (further_at w newer.turn older.turn turns i sound history (grind (arith, nat_tests, after_fence)) (has_later is.epoch is.there) older.shown.there))
 
   newer_counts : IsOlder w turns tag i j f g older newer → f.count < g.count
   newer_counts is = let less = later_has_more is in let first = older.count_is in let second = newer.count_is in omega (arith, less, first, second)
@@ -129,10 +129,10 @@ module _ (w : World) (turns : List Turn) (tag : Tags) (i j : ℕ) (f g : Fence) 
         | inr equal ↦ let lower = equal.1 in let first = epoch_then in omega (arith, lower, epoch, first)
       ]
 
-  stays_out : NamesRuns tag → IsOlder w turns tag i j f g older newer → (r : Resource) (between : List Fence) → accepts r g ≡ true → accepts (behind_all (behind r g) between) f ≡ false
-  stays_out names is r between accepted = of (accepts (behind_all (behind r g) between) f) refl
+  stays_out : NamesRuns tag → IsOlder w turns tag i j f g older newer → (r : Resource) (between : List Fence) → accepts r g ≡ true → accepts (after_fences (after_fence r g) between) f ≡ false
+  stays_out names is r between accepted = of (accepts (after_fences (after_fence r g) between) f) refl
     where
-      of : (b : Bool) → accepts (behind_all (behind r g) between) f ≡ b → b ≡ false
+      of : (b : Bool) → accepts (after_fences (after_fence r g) between) f ≡ b → b ≡ false
       of false e = refl
       of true e =
           absurd (elim (later_is_greater r g f between accepted e) [

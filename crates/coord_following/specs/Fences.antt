@@ -7,7 +7,7 @@ use Rattle.coord_member.specs.declared.view.Entry.TheVariants.{Node}
 use Rattle.coord_member.specs.declared.view.Row.{Row}
 use Rattle.coord_member.specs.Rule.{is_alone}
 use Rattle.coord_member.specs.NoMix.{IsOneOf}
-use Rattle.coord_member.specs.Fence.{Fence, Resource, accepts, behind, behind_all}
+use Rattle.coord_member.specs.Fence.{Fence, Resource, accepts, after_fence, after_fences}
 use Rattle.coord_look.specs.Shown.{IsShownTo}
 use Rattle.coord_following.specs.Histories.{IsHistory, Turn, life_at, world_at}
 
@@ -48,4 +48,4 @@ abbrev pub OlderStaysOut : Type 0
 OlderStaysOut =
     (w : World) (turns : List Turn) (tag : Tags) (i j : ℕ) (f g : Fence) (older : Fixes w turns tag i f) (newer : Fixes w turns tag j g) →
     IsSound w → IsHistory w turns → NamesRuns tag → IsOlder w turns tag i j f g older newer →
-    (r : Resource) (between : List Fence) → accepts r g ≡ true → accepts (behind_all (behind r g) between) f ≡ false
+    (r : Resource) (between : List Fence) → accepts r g ≡ true → accepts (after_fences (after_fence r g) between) f ≡ false

@@ -4,7 +4,7 @@ use Rattle.std.specs.Int.{w32, w64, to_be_bytes}
 use Rattle.std.proofs.lemmas.List.{append-nil}
 use Rattle.std.proofs.lemmas.Bool.Decides.{nat_tests}
 use Rattle.coord_disk.specs.Model.Present.{Torn, overwritten}
-use Rattle.coord_disk.proofs.TornWrites.{begins, overwritten_behind, torn_byte}
+use Rattle.coord_disk.proofs.TornWrites.{begins, overwritten_after, torn_byte}
 use Rattle.coord_journal.specs.Facade.{Content, IsEitherText, IsOpened, IsTextAt, TornInTurn, gate_place, half_front, magic, size_of, sized, with_batch}
 use Rattle.coord_journal.specs.declared.layout.TheConstants.{MAX_BODY}
 
@@ -50,23 +50,23 @@ module _ {bytes : List ℕ} {content : Content} {half_size half used : ℕ} (tex
   abbrev before : List ℕ
   before = lead text.selector half_size text.skipped front
 
-  split : bytes ≡ before ++ 0 ∷ text.holds.behind
-  split = text.header.spelled ∙ ap (λ (l : List ℕ). lead text.selector half_size text.skipped l) text.holds.spelled ∙ lead_push text.selector half_size text.skipped front (0 ∷ text.holds.behind)
+  split : bytes ≡ before ++ 0 ∷ text.holds.following
+  split = text.header.spelled ∙ ap (λ (l : List ℕ). lead text.selector half_size text.skipped l) text.holds.spelled ∙ lead_push text.selector half_size text.skipped front (0 ∷ text.holds.following)
 
   -- that gate is at the end of the used bytes
   gate : length before ≡ gate_place half_size half used
   gate = omega (arith, text.holds.used_is, text.skips, length-append (text.selector ∷ magic) (to_be_bytes w64 half_size ++ (text.skipped ++ front)), length-append (to_be_bytes w64 half_size) (text.skipped ++ front), length-append text.skipped front)
 
   -- The same text: by another selector of its half, with other bytes in front of that half, or after its closed gate.
-  pub respelled : (c : List ℕ) (selector : ℕ) (skipped behind : List ℕ) → selector % 2 ≡ half → length skipped ≡ length text.skipped → c ≡ lead selector half_size skipped (half_front content.version content.snapshot text.holds.opened ++ 0 ∷ behind) → IsTextAt c content half_size half used
-  respelled c selector skipped behind selected skips is = record {
+  pub respelled : (c : List ℕ) (selector : ℕ) (skipped following : List ℕ) → selector % 2 ≡ half → length skipped ≡ length text.skipped → c ≡ lead selector half_size skipped (half_front content.version content.snapshot text.holds.opened ++ 0 ∷ following) → IsTextAt c content half_size half used
+  respelled c selector skipped following selected skips is = record {
     selector = selector;
     skipped = skipped;
-    half_bytes = front ++ 0 ∷ behind;
+    half_bytes = front ++ 0 ∷ following;
     header = record { spelled = is; size = text.header.size };
     selected = selected;
     skips = skips ∙ text.skips;
-    holds = record { opened = text.holds.opened; behind = behind; spelled = refl; snapshot = text.holds.snapshot; batches = text.holds.batches; used_is = text.holds.used_is };
+    holds = record { opened = text.holds.opened; following = following; spelled = refl; snapshot = text.holds.snapshot; batches = text.holds.batches; used_is = text.holds.used_is };
     fits = text.fits;
   }
 
@@ -74,12 +74,12 @@ module _ {bytes : List ℕ} {content : Content} {half_size half used : ℕ} (tex
   closed c rest is = respelled c text.selector text.skipped rest text.selected refl (is ∙ sym (lead_push text.selector half_size text.skipped front (0 ∷ rest)))
 
   -- a write after the text leaves it, however the write is torn
-  pub torn_behind : (new : List ℕ) (at : ℕ) → gate_place half_size half used < at → (c : List ℕ) → Torn bytes at new c → IsTextAt c content half_size half used
-  torn_behind new at is c image =
+  pub torn_after : (new : List ℕ) (at : ℕ) → gate_place half_size half used < at → (c : List ℕ) → Torn bytes at new c → IsTextAt c content half_size half used
+  torn_after new at is c image =
       let place : length (before ++ 0 ∷ []) ≤ at = omega (arith, is, gate, length-append before (0 ∷ [])) in
-      let whole : bytes ≡ (before ++ 0 ∷ []) ++ text.holds.behind = split ∙ sym (append_assoc before (0 ∷ []) text.holds.behind) in
-      let long : length (before ++ 0 ∷ []) ≤ length bytes = omega (arith, ap length whole, length-append (before ++ 0 ∷ []) text.holds.behind) in
-      let rest = begins (before ++ 0 ∷ []) text.holds.behind c (λ i lt. image.kept i (omega (arith, lt, long)) (let low : i < at = omega (arith, lt, place) in grind (arith, nat_tests)) ∙ ap (λ (l : List ℕ). slice_get l i) whole) in
+      let whole : bytes ≡ (before ++ 0 ∷ []) ++ text.holds.following = split ∙ sym (append_assoc before (0 ∷ []) text.holds.following) in
+      let long : length (before ++ 0 ∷ []) ≤ length bytes = omega (arith, ap length whole, length-append (before ++ 0 ∷ []) text.holds.following) in
+      let rest = begins (before ++ 0 ∷ []) text.holds.following c (λ i lt. image.kept i (omega (arith, lt, long)) (let low : i < at = omega (arith, lt, place) in grind (arith, nat_tests)) ∙ ap (λ (l : List ℕ). slice_get l i) whole) in
       closed c rest.0 (rest.1 ∙ append_assoc before (0 ∷ []) rest.0)
 
 module _ {bytes : List ℕ} {content : Content} {half_size half used : ℕ} (text : IsTextAt bytes content half_size half used) (batch : List ℕ) (short : length batch ≤ MAX_BODY) (room : used + 5 + length batch ≤ half_size) where
@@ -119,7 +119,7 @@ module _ {bytes : List ℕ} {content : Content} {half_size half used : ℕ} (tex
         skips = text.skips;
         holds = record {
           opened = opened;
-          behind = rest;
+          following = rest;
           spelled = refl;
           snapshot = text.holds.snapshot;
           batches = opened_push content.batches batch text.holds.opened open_gate text.holds.batches is_open short;
@@ -132,7 +132,7 @@ module _ {bytes : List ℕ} {content : Content} {half_size half used : ℕ} (tex
   block = sized batch ++ 0 ∷ []
 
   abbrev rest : List ℕ
-  rest = drop (length block) text.holds.behind
+  rest = drop (length block) text.holds.following
 
   place_is : length lead_of ≡ gate_place half_size half used
   place_is = gate text
@@ -141,17 +141,17 @@ module _ {bytes : List ℕ} {content : Content} {half_size half used : ℕ} (tex
     -- the block is written after the gate
     staged : overwritten bytes at block ≡ lead_of ++ 0 ∷ (block ++ rest)
     staged =
-        ap (λ (l : List ℕ). overwritten l at block) (split text ∙ sym (append_assoc lead_of (0 ∷ []) text.holds.behind))
-        ∙ overwritten_behind (lead_of ++ 0 ∷ []) text.holds.behind block at (omega (arith, at_is, place_is, length-append lead_of (0 ∷ []))) (omega (arith, length-append (sized batch) (0 ∷ [])))
+        ap (λ (l : List ℕ). overwritten l at block) (split text ∙ sym (append_assoc lead_of (0 ∷ []) text.holds.following))
+        ∙ overwritten_after (lead_of ++ 0 ∷ []) text.holds.following block at (omega (arith, at_is, place_is, length-append lead_of (0 ∷ []))) (omega (arith, length-append (sized batch) (0 ∷ [])))
         ∙ append_assoc lead_of (0 ∷ []) (block ++ rest)
 
-    either : (c : List ℕ) (x : ℕ) (behind : List ℕ) → c ≡ lead_of ++ x ∷ (block ++ behind) → IsEitherText content (with_batch content batch) c
-    either c zero behind is = inl (half_size, half, used, closed text c (block ++ behind) is)
-    either c (suc x) behind is = inr (half_size, half, used + 5 + length batch, opens c behind (suc x) (used + 5 + length batch) (omega arith) refl is)
+    either : (c : List ℕ) (x : ℕ) (following : List ℕ) → c ≡ lead_of ++ x ∷ (block ++ following) → IsEitherText content (with_batch content batch) c
+    either c zero following is = inl (half_size, half, used, closed text c (block ++ following) is)
+    either c (suc x) following is = inr (half_size, half, used + 5 + length batch, opens c following (suc x) (used + 5 + length batch) (omega arith) refl is)
 
     -- What a crash leaves of an append. In each outcome of the second write the block stands whole, whatever the gate is.
     pub append_torn : (c : List ℕ) → TornInTurn bytes at block place (1 ∷ []) c → IsEitherText content (with_batch content batch) c
-    append_torn c (inl one) = inl (half_size, half, used, torn_behind text block at (omega (arith, at_is)) c one)
+    append_torn c (inl one) = inl (half_size, half, used, torn_after text block at (omega (arith, at_is)) c one)
     append_torn c (inr other) =
         let found = torn_byte lead_of (block ++ rest) 0 1 place (gate_is ∙ sym place_is) c (subst (λ (l : List ℕ). Torn l place (1 ∷ []) c) staged other) in
         either c found.0 (rest ++ found.1) (found.2 ∙ ap (λ (l : List ℕ). lead_of ++ found.0 ∷ l) (append_assoc block rest found.1))
@@ -160,4 +160,4 @@ module _ {bytes : List ℕ} {content : Content} {half_size half used : ℕ} (tex
     pub appended : (c : List ℕ) (total : ℕ) → total ≡ used + 5 + length batch → c ≡ overwritten (overwritten bytes at block) place (1 ∷ []) → IsTextAt c (with_batch content batch) half_size half total
     appended c total total_is is =
         opens c rest 1 total (omega arith) total_is
-        (is ∙ ap (λ (l : List ℕ). overwritten l place (1 ∷ [])) staged ∙ overwritten_behind lead_of (0 ∷ (block ++ rest)) (1 ∷ []) place (omega (arith, gate_is, place_is)) (omega arith))
+        (is ∙ ap (λ (l : List ℕ). overwritten l place (1 ∷ [])) staged ∙ overwritten_after lead_of (0 ∷ (block ++ rest)) (1 ∷ []) place (omega (arith, gate_is, place_is)) (omega arith))

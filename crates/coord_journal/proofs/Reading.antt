@@ -14,30 +14,30 @@ empty (x ∷ l) none = absurd (omega (arith, none))
 
 module _ (limit : ℕ) (small : limit < 2 ^ 32) where
   -- the size at the beginning
-  pub size_read : (first : ℕ) (body behind l : List ℕ) → BeginsWithBody limit first body behind l → from_be_bytes w32 (take 4 (drop 1 l)) ≡ length body
-  size_read first body behind l h1 = grind (arith, nat_tests, h1)
+  pub size_read : (first : ℕ) (body following l : List ℕ) → BeginsWithBody limit first body following l → from_be_bytes w32 (take 4 (drop 1 l)) ≡ length body
+  size_read first body following l h1 = grind (arith, nat_tests, h1)
 
-  after_read : (first : ℕ) (body behind l : List ℕ) → BeginsWithBody limit first body behind l → drop 5 l ≡ body ++ behind
-  after_read first body behind l h1 = grind (arith, nat_tests, h1)
+  after_read : (first : ℕ) (body following l : List ℕ) → BeginsWithBody limit first body following l → drop 5 l ≡ body ++ following
+  after_read first body following l h1 = grind (arith, nat_tests, h1)
 
   -- the body and the bytes after it are the same, however they are read
-  same_size : (first first' : ℕ) (body body' behind behind' l : List ℕ) → BeginsWithBody limit first body behind l → BeginsWithBody limit first' body' behind' l → length body ≡ length body'
-  same_size first first' body body' behind behind' l one other = sym (size_read first body behind l one) ∙ size_read first' body' behind' l other
+  same_size : (first first' : ℕ) (body body' following after' l : List ℕ) → BeginsWithBody limit first body following l → BeginsWithBody limit first' body' after' l → length body ≡ length body'
+  same_size first first' body body' following after' l one other = sym (size_read first body following l one) ∙ size_read first' body' after' l other
 
-  same_after : (first first' : ℕ) (body body' behind behind' l : List ℕ) → BeginsWithBody limit first body behind l → BeginsWithBody limit first' body' behind' l → body ++ behind ≡ body' ++ behind'
-  same_after first first' body body' behind behind' l one other = sym (after_read first body behind l one) ∙ after_read first' body' behind' l other
+  same_after : (first first' : ℕ) (body body' following after' l : List ℕ) → BeginsWithBody limit first body following l → BeginsWithBody limit first' body' after' l → body ++ following ≡ body' ++ after'
+  same_after first first' body body' following after' l one other = sym (after_read first body following l one) ∙ after_read first' body' after' l other
 
-  pub same_body : (first first' : ℕ) (body body' behind behind' l : List ℕ) → BeginsWithBody limit first body behind l → BeginsWithBody limit first' body' behind' l → body ≡ body'
-  same_body first first' body body' behind behind' l one other =
-      sym (take_at body behind (length body) refl)
-      ∙ ap (λ (k : List ℕ). take (length body) k) (same_after first first' body body' behind behind' l one other)
-      ∙ take_at body' behind' (length body) (sym (same_size first first' body body' behind behind' l one other))
+  pub same_body : (first first' : ℕ) (body body' following after' l : List ℕ) → BeginsWithBody limit first body following l → BeginsWithBody limit first' body' after' l → body ≡ body'
+  same_body first first' body body' following after' l one other =
+      sym (take_at body following (length body) refl)
+      ∙ ap (λ (k : List ℕ). take (length body) k) (same_after first first' body body' following after' l one other)
+      ∙ take_at body' after' (length body) (sym (same_size first first' body body' following after' l one other))
 
-  pub same_behind : (first first' : ℕ) (body body' behind behind' l : List ℕ) → BeginsWithBody limit first body behind l → BeginsWithBody limit first' body' behind' l → behind ≡ behind'
-  same_behind first first' body body' behind behind' l one other =
-      sym (drop_at body behind (length body) refl)
-      ∙ ap (λ (k : List ℕ). drop (length body) k) (same_after first first' body body' behind behind' l one other)
-      ∙ drop_at body' behind' (length body) (sym (same_size first first' body body' behind behind' l one other))
+  pub same_following : (first first' : ℕ) (body body' following after' l : List ℕ) → BeginsWithBody limit first body following l → BeginsWithBody limit first' body' after' l → following ≡ after'
+  same_following first first' body body' following after' l one other =
+      sym (drop_at body following (length body) refl)
+      ∙ ap (λ (k : List ℕ). drop (length body) k) (same_after first first' body body' following after' l one other)
+      ∙ drop_at body' after' (length body) (sym (same_size first first' body body' following after' l one other))
 
 pub small_body : MAX_BODY < 2 ^ 32
 small_body = omega arith
@@ -45,10 +45,10 @@ small_body = omega arith
 pub record First (batch : List ℕ) (batches : List (List ℕ)) (size : ℕ) (l : List ℕ) : Type 0 where
   pub gate : ℕ
   pub is_open : gate ≢ 0
-  pub behind : List ℕ
-  pub begins : BeginsWithBody MAX_BODY gate batch behind l
+  pub following : List ℕ
+  pub begins : BeginsWithBody MAX_BODY gate batch following l
   pub more : ℕ
-  pub reads : ReadsAs batches more behind
+  pub reads : ReadsAs batches more following
   pub size_is : size ≡ 5 + length batch + more
 
 -- what reads as some batches begins with the first of them
@@ -59,7 +59,7 @@ first b bs size l reads =
     record {
       gate = o.0;
       is_open = o.2;
-      behind = o.1 ++ 0 ∷ reads.1;
+      following = o.1 ++ 0 ∷ reads.1;
       begins = (o.3.0, all);
       more = length o.1;
       reads = (o.1, reads.1, refl, o.4, refl);
@@ -67,7 +67,7 @@ first b bs size l reads =
     }
 
 -- with no batch it begins with a closed gate
-pub closed : (size : ℕ) (l : List ℕ) → ReadsAs [] size l → (behind : List ℕ) × (l ≡ 0 ∷ behind) × (size ≡ 0)
+pub closed : (size : ℕ) (l : List ℕ) → ReadsAs [] size l → (following : List ℕ) × (l ≡ 0 ∷ following) × (size ≡ 0)
 closed size l reads = (reads.1, reads.2 ∙ ap (λ (k : List ℕ). k ++ 0 ∷ reads.1) reads.3, omega (arith, reads.4, ap length reads.3))
 
 -- nothing is read from an empty text
@@ -103,17 +103,17 @@ reads_same (b ∷ bs) [] m n l one other =
 reads_same (b ∷ bs) (c ∷ cs) m n l one other =
     let f = first b bs m l one in
     let g = first c cs n l other in
-    let body = same_body MAX_BODY small_body f.gate g.gate b c f.behind g.behind l f.begins g.begins in
-    let behind = same_behind MAX_BODY small_body f.gate g.gate b c f.behind g.behind l f.begins g.begins in
-    let rest = reads_same bs cs f.more g.more f.behind f.reads (rw behind g.reads) in
+    let body = same_body MAX_BODY small_body f.gate g.gate b c f.following g.following l f.begins g.begins in
+    let following = same_following MAX_BODY small_body f.gate g.gate b c f.following g.following l f.begins g.begins in
+    let rest = reads_same bs cs f.more g.more f.following f.reads (rw following g.reads) in
     (ap (λ (k : List ℕ). k ∷ bs) body ∙ ap (λ (k : List (List ℕ)). c ∷ k) rest.0, omega (arith, f.size_is, g.size_is, ap length body, rest.1))
 
 -- one batch more in front of the rest
-pub opened_more : (batches : List (Bor (List ℕ))) (v : Bor (List ℕ)) (opened batch behind rest text : List ℕ) (gate : ℕ) → text ≡ opened ++ rest → IsOpened (bodies batches) opened → gate ≢ 0 → v.now ≡ batch → BeginsWithBody MAX_BODY gate batch behind rest
-    → (front : List ℕ) × (text ≡ front ++ behind) × IsOpened (bodies (batches ++ v ∷ [])) front
-opened_more batches v opened batch behind rest text gate split so_far is_open same begins = (
+pub opened_more : (batches : List (Bor (List ℕ))) (v : Bor (List ℕ)) (opened batch following rest text : List ℕ) (gate : ℕ) → text ≡ opened ++ rest → IsOpened (bodies batches) opened → gate ≢ 0 → v.now ≡ batch → BeginsWithBody MAX_BODY gate batch following rest
+    → (front : List ℕ) × (text ≡ front ++ following) × IsOpened (bodies (batches ++ v ∷ [])) front
+opened_more batches v opened batch following rest text gate split so_far is_open same begins = (
   opened ++ gate ∷ (sized batch ++ []),
-  split ∙ ap (λ (k : List ℕ). opened ++ k) (begins.1 ∙ ap (λ (k : List ℕ). gate ∷ (k ++ behind)) (sym (append-nil (sized batch)))) ∙ sym (append_assoc opened (gate ∷ (sized batch ++ [])) behind),
+  split ∙ ap (λ (k : List ℕ). opened ++ k) (begins.1 ∙ ap (λ (k : List ℕ). gate ∷ (k ++ following)) (sym (append-nil (sized batch)))) ∙ sym (append_assoc opened (gate ∷ (sized batch ++ [])) following),
   rw (bodies_push batches v) (rw same (opened_push (bodies batches) batch opened gate so_far is_open begins.0)),
 )
   where

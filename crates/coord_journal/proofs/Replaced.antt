@@ -4,19 +4,19 @@ use Rattle.std.specs.Int.{w64, to_be_bytes}
 use Rattle.std.proofs.lemmas.List.{append-nil}
 use Rattle.std.proofs.lemmas.Bool.Decides.{nat_tests}
 use Rattle.coord_disk.specs.Model.Present.{Torn, is_within, overwritten, range_of}
-use Rattle.coord_disk.proofs.TornWrites.{begins_but_hole, length_padded, overwritten_behind, overwritten_inside, overwritten_torn, padded, torn_byte}
+use Rattle.coord_disk.proofs.TornWrites.{begins_but_hole, length_padded, overwritten_after, overwritten_inside, overwritten_torn, padded, torn_byte}
 use Rattle.coord_journal.specs.Facade.{Content, IsEitherText, IsTextAt, TornInTurn, half_front, half_start, magic, sized, without_batch}
 use Rattle.coord_journal.specs.declared.layout.TheConstants.{MAX_SNAPSHOT}
-use Rattle.coord_journal.proofs.Appended.{lead, lead_push, length_sized, respelled, torn_behind}
+use Rattle.coord_journal.proofs.Appended.{lead, lead_push, length_sized, respelled, torn_after}
 
 -- a text is the same after any selector that names its half
 reselected : {s : ℕ} {tail : List ℕ} {content : Content} {half_size half used : ℕ} → IsTextAt (s ∷ tail) content half_size half used → (x : ℕ) (more : List ℕ) → x % 2 ≡ half → IsTextAt (x ∷ (tail ++ more)) content half_size half used
 reselected {tail = tail} {content = content} {half_size = half_size} text x more named =
     let front : List ℕ = half_front content.version content.snapshot text.holds.opened in
-    respelled text (x ∷ (tail ++ more)) x text.skipped (text.holds.behind ++ more) named refl
+    respelled text (x ∷ (tail ++ more)) x text.skipped (text.holds.following ++ more) named refl
     (ap (λ (l : List ℕ). x ∷ (drop 1 l ++ more)) text.header.spelled
     ∙ sym (lead_push x half_size text.skipped text.half_bytes more)
-    ∙ ap (λ (l : List ℕ). lead x half_size text.skipped l) (ap (λ (l : List ℕ). l ++ more) text.holds.spelled ∙ append_assoc front (0 ∷ text.holds.behind) more))
+    ∙ ap (λ (l : List ℕ). lead x half_size text.skipped l) (ap (λ (l : List ℕ). l ++ more) text.holds.spelled ∙ append_assoc front (0 ∷ text.holds.following) more))
 
 -- there are two halves
 one_of_two : (p h : ℕ) → p < 2 → h < 2 → (p ≡ h) ⊎ (p ≡ 1 - h)
@@ -29,11 +29,11 @@ module _ {bytes : List ℕ} {content : Content} {half_size half used : ℕ} (tex
   abbrev front : List ℕ
   front = half_front content.version content.snapshot text.holds.opened
 
-  abbrev behind_header : List ℕ
-  behind_header = text.skipped ++ text.half_bytes
+  abbrev after_header : List ℕ
+  after_header = text.skipped ++ text.half_bytes
 
-  split : bytes ≡ head ++ behind_header
-  split = text.header.spelled ∙ sym (append_assoc (text.selector ∷ magic) (to_be_bytes w64 half_size) behind_header)
+  split : bytes ≡ head ++ after_header
+  split = text.header.spelled ∙ sym (append_assoc (text.selector ∷ magic) (to_be_bytes w64 half_size) after_header)
 
   length_head : length head ≡ 17
   length_head = length-append (text.selector ∷ magic) (to_be_bytes w64 half_size)
@@ -50,11 +50,11 @@ module _ {bytes : List ℕ} {content : Content} {half_size half used : ℕ} (tex
   -- a write before the selected half leaves the text, however it is torn
   torn_before : (new c : List ℕ) → length new ≤ length text.skipped → Torn bytes 17 new c → IsTextAt c content half_size half used
   torn_before new c few image =
-      let behind : List ℕ = text.holds.behind in
-      let whole : bytes ≡ head ++ (text.skipped ++ ((front ++ 0 ∷ []) ++ behind)) = split ∙ ap (λ (l : List ℕ). head ++ (text.skipped ++ l)) (text.holds.spelled ∙ sym (append_assoc front (0 ∷ []) behind)) in
-      let long : length bytes ≡ 17 + length text.skipped + length (front ++ 0 ∷ []) + length behind =
-      omega (arith, ap length whole, length_head, length-append head (text.skipped ++ ((front ++ 0 ∷ []) ++ behind)), length-append text.skipped ((front ++ 0 ∷ []) ++ behind), length-append (front ++ 0 ∷ []) behind) in
-      let found = begins_but_hole head text.skipped (front ++ 0 ∷ []) behind c
+      let following : List ℕ = text.holds.following in
+      let whole : bytes ≡ head ++ (text.skipped ++ ((front ++ 0 ∷ []) ++ following)) = split ∙ ap (λ (l : List ℕ). head ++ (text.skipped ++ l)) (text.holds.spelled ∙ sym (append_assoc front (0 ∷ []) following)) in
+      let long : length bytes ≡ 17 + length text.skipped + length (front ++ 0 ∷ []) + length following =
+      omega (arith, ap length whole, length_head, length-append head (text.skipped ++ ((front ++ 0 ∷ []) ++ following)), length-append text.skipped ((front ++ 0 ∷ []) ++ following), length-append (front ++ 0 ∷ []) following) in
+      let found = begins_but_hole head text.skipped (front ++ 0 ∷ []) following c
       (λ i lt out. image.kept i (omega (arith, lt, long, length_head)) (outside i out) ∙ ap (λ (l : List ℕ). slice_get l i) whole)
       (omega (arith, long, length_head, image.no_shorter)) in
       respelled text c text.selector found.0 found.1 text.selected found.2
@@ -75,7 +75,7 @@ module _ {bytes : List ℕ} {content : Content} {half_size half used : ℕ} (tex
         by_half zero is =
             let place : at ≡ 17 + half_size = at_is ∙ ap (λ (h : ℕ). 17 + half_start (1 - h) half_size) is ∙ omega arith in
             let none : half_start half half_size ≡ 0 = ap (λ (h : ℕ). half_start h half_size) is ∙ omega arith in
-            torn_behind text block at (omega (arith, place, none, text.fits)) c torn
+            torn_after text block at (omega (arith, place, none, text.fits)) c torn
         by_half (suc zero) is =
             let place : at ≡ 17 = at_is ∙ ap (λ (h : ℕ). 17 + half_start (1 - h) half_size) is ∙ omega arith in
             let all : length text.skipped ≡ half_size = text.skips ∙ ap (λ (h : ℕ). half_start h half_size) is ∙ omega arith in
@@ -85,31 +85,31 @@ module _ {bytes : List ℕ} {content : Content} {half_size half used : ℕ} (tex
     abbrev staged : List ℕ
     staged = overwritten bytes at block
 
-    abbrev behind : List ℕ
-    behind = drop (start + length block) behind_header
+    abbrev following : List ℕ
+    following = drop (start + length block) after_header
 
     -- all of it but the selector, once the half is written
     abbrev tail : List ℕ
-    tail = magic ++ (to_be_bytes w64 half_size ++ (padded start behind_header ++ (block ++ behind)))
+    tail = magic ++ (to_be_bytes w64 half_size ++ (padded start after_header ++ (block ++ following)))
 
     staged_is : staged ≡ text.selector ∷ tail
     staged_is =
         ap (λ (l : List ℕ). overwritten l at block) split
-        ∙ overwritten_inside head behind_header block at start (omega (arith, at_is, length_head)) (omega (arith, length_block))
-        ∙ append_assoc (text.selector ∷ magic) (to_be_bytes w64 half_size) (padded start behind_header ++ (block ++ behind))
+        ∙ overwritten_inside head after_header block at start (omega (arith, at_is, length_head)) (omega (arith, length_block))
+        ∙ append_assoc (text.selector ∷ magic) (to_be_bytes w64 half_size) (padded start after_header ++ (block ++ following))
 
     new_text : (x : ℕ) (more : List ℕ) → x % 2 ≡ 1 - half → IsTextAt (x ∷ (tail ++ more)) (without_batch version snapshot) half_size (1 - half) (6 + length snapshot)
     new_text x more named = record {
       selector = x;
-      skipped = padded start behind_header;
-      half_bytes = block ++ (behind ++ more);
+      skipped = padded start after_header;
+      half_bytes = block ++ (following ++ more);
       header = record { spelled = simp append_assoc; size = text.header.size };
       selected = named;
-      skips = length_padded start behind_header;
+      skips = length_padded start after_header;
       holds = record {
         opened = [];
-        behind = behind ++ more;
-        spelled = append_assoc (half_front version snapshot []) (0 ∷ []) (behind ++ more);
+        following = following ++ more;
+        spelled = append_assoc (half_front version snapshot []) (0 ∷ []) (following ++ more);
         snapshot = short;
         batches = refl;
         used_is = omega (arith, length-append (sized snapshot) [], length_sized snapshot);
@@ -143,7 +143,7 @@ module _ {bytes : List ℕ} {content : Content} {half_size half used : ℕ} (tex
         let same : c ≡ y ∷ (tail ++ []) =
         is
         ∙ ap (λ (l : List ℕ). overwritten l 0 (y ∷ [])) staged_is
-        ∙ overwritten_behind [] (text.selector ∷ tail) (y ∷ []) 0 refl (omega arith)
+        ∙ overwritten_after [] (text.selector ∷ tail) (y ∷ []) 0 refl (omega arith)
         ∙ ap (λ (l : List ℕ). y ∷ l) (sym (append-nil tail)) in
         rw total_is
         (rw other_is

@@ -34,13 +34,13 @@ same_rest : (bytes : List ℕ) (s t m n : ℕ) (rest other : List ℕ) → HasHe
 same_rest bytes s t m n rest other here there = sym (rest_read bytes s m rest here.spelled) ∙ rest_read bytes t n other there.spelled
 
 module _ (bytes : List ℕ) (content : Content) (half_size half used : ℕ) (text : IsTextAt bytes content half_size half used) where
-  abbrev pub behind_header : List ℕ
-  behind_header = text.skipped ++ text.half_bytes
+  abbrev pub after_header : List ℕ
+  after_header = text.skipped ++ text.half_bytes
 
-  pub text_header : HasHeader bytes text.selector half_size behind_header
+  pub text_header : HasHeader bytes text.selector half_size after_header
   text_header = text.header
 
-  pub text_half : IsHalf (drop (half_start half half_size) behind_header) content used
+  pub text_half : IsHalf (drop (half_start half half_size) after_header) content used
   text_half = rw (drop_at text.skipped text.half_bytes (half_start half half_size) text.skips) text.holds
 
   -- whatever header was read, it is that of the text
@@ -48,27 +48,27 @@ module _ (bytes : List ℕ) (content : Content) (half_size half used : ℕ) (tex
   half_in selector size other rest named header = grind (arith, same_rest, text_header, same_selector, same_half_size, text_half)
 
   pub fits_in : (selector size : ℕ) (rest : List ℕ) → HasHeader bytes selector size rest → used ≤ size
-  fits_in selector size rest header = omega (arith, text.fits, same_half_size bytes text.selector selector half_size size behind_header rest text_header header)
+  fits_in selector size rest header = omega (arith, text.fits, same_half_size bytes text.selector selector half_size size after_header rest text_header header)
 
 -- bytes are the text of one content at most
 pub text_same : (bytes : List ℕ) (c d : Content) → IsText c bytes → IsText d bytes → c ≡ d
 text_same bytes c d one other =
     let t = other.3 in
-    half_same (drop (half_start other.1 other.0) (behind_header bytes d other.0 other.1 other.2 t)) c d one.2 other.2
-    (half_in bytes c one.0 one.1 one.2 one.3 t.selector other.0 other.1 (behind_header bytes d other.0 other.1 other.2 t) t.selected (text_header bytes d other.0 other.1 other.2 t))
+    half_same (drop (half_start other.1 other.0) (after_header bytes d other.0 other.1 other.2 t)) c d one.2 other.2
+    (half_in bytes c one.0 one.1 one.2 one.3 t.selector other.0 other.1 (after_header bytes d other.0 other.1 other.2 t) t.selected (text_header bytes d other.0 other.1 other.2 t))
     (text_half bytes d other.0 other.1 other.2 t)
 
 -- bytes are the text of a content in one half at most, of which so much is used
 pub text_place : (bytes : List ℕ) (c d : Content) (m n h k u v : ℕ) → IsTextAt bytes c m h u → IsTextAt bytes d n k v → (m ≡ n) × (h ≡ k) × (u ≡ v)
 text_place bytes c d m n h k u v one other =
-    let front = behind_header bytes c m h u one in
-    let behind = behind_header bytes d n k v other in
+    let front = after_header bytes c m h u one in
+    let following = after_header bytes d n k v other in
     let here = text_header bytes c m h u one in
     let there = text_header bytes d n k v other in
     let content : c ≡ d = text_same bytes c d (m, h, u, one) (n, k, v, other) in (
-      same_half_size bytes one.selector other.selector m n front behind here there,
-      sym one.selected ∙ ap (λ (s : ℕ). s % 2) (same_selector bytes one.selector other.selector m n front behind here there) ∙ other.selected,
-      half_used (drop (half_start h m) front) c u (text_half bytes c m h u one) ∙ ap used_by content ∙ sym (half_used (drop (half_start k n) behind) d v (text_half bytes d n k v other)),
+      same_half_size bytes one.selector other.selector m n front following here there,
+      sym one.selected ∙ ap (λ (s : ℕ). s % 2) (same_selector bytes one.selector other.selector m n front following here there) ∙ other.selected,
+      half_used (drop (half_start h m) front) c u (text_half bytes c m h u one) ∙ ap used_by content ∙ sym (half_used (drop (half_start k n) following) d v (text_half bytes d n k v other)),
     )
 
 module _ (bytes : List ℕ) (selector half_size half : ℕ) (rest : List ℕ) (header : HasHeader bytes selector half_size rest) (named : selector % 2 ≡ half) (start : ℕ) (starts : start ≡ half_start half half_size) where
@@ -123,7 +123,7 @@ formatted_text half_size version snapshot bytes size short is =
         header = record { spelled = is; size = size };
         selected = refl;
         skips = omega arith;
-        holds = record { opened = []; behind = []; spelled = refl; snapshot = short; batches = refl; used_is = refl };
+        holds = record { opened = []; following = []; spelled = refl; snapshot = short; batches = refl; used_is = refl };
         fits = omega (arith, size.smallest, short, length-append (sized snapshot) [], length_sized snapshot);
       },
     )

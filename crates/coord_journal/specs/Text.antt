@@ -13,9 +13,9 @@ pub record Content : Type 0 where
 abbrev pub sized : List ℕ → List ℕ
 sized bytes = to_be_bytes w32 (length bytes) ++ bytes
 
--- the bytes are the byte `first`, then a sized body of at most `limit` bytes, and then the bytes `behind`
+-- the bytes are the byte `first`, then a sized body of at most `limit` bytes, and then the bytes `following`
 abbrev pub BeginsWithBody : ℕ → ℕ → List ℕ → List ℕ → List ℕ → Type 0
-BeginsWithBody limit first body behind bytes = (length body ≤ limit) × (bytes ≡ first ∷ (sized body ++ behind))
+BeginsWithBody limit first body following bytes = (length body ≤ limit) × (bytes ≡ first ∷ (sized body ++ following))
 
 -- the bytes are batches, each after an open gate (any byte but 0)
 abbrev pub IsOpened : List (List ℕ) → List ℕ → Type 0
@@ -25,7 +25,7 @@ IsOpened (batch ∷ batches) bytes = (gate : ℕ) × (rest : List ℕ) × (gate 
 -- the bytes begin with these batches, each after an open gate and `size` bytes in all; then comes a closed
 -- gate
 abbrev pub ReadsAs : List (List ℕ) → ℕ → List ℕ → Type 0
-ReadsAs batches size bytes = (opened : List ℕ) × (behind : List ℕ) × (bytes ≡ opened ++ 0 ∷ behind) × IsOpened batches opened × (length opened ≡ size)
+ReadsAs batches size bytes = (opened : List ℕ) × (following : List ℕ) × (bytes ≡ opened ++ 0 ∷ following) × IsOpened batches opened × (length opened ≡ size)
 
 -- the bytes of a half before its first closed gate
 abbrev pub half_front : ℕ → List ℕ → List ℕ → List ℕ
@@ -35,8 +35,8 @@ half_front version snapshot opened = version ∷ (sized snapshot ++ opened)
 -- bytes after the gate are not read.
 pub record IsHalf (bytes : List ℕ) (content : Content) (used : ℕ) : Type 0 where
   pub opened : List ℕ
-  pub behind : List ℕ
-  pub spelled : bytes ≡ half_front content.version content.snapshot opened ++ 0 ∷ behind
+  pub following : List ℕ
+  pub spelled : bytes ≡ half_front content.version content.snapshot opened ++ 0 ∷ following
   pub snapshot : length content.snapshot ≤ MAX_SNAPSHOT
   pub batches : IsOpened content.batches opened
   pub used_is : length (half_front content.version content.snapshot opened) + 1 ≡ used

@@ -46,8 +46,8 @@ fn read_text(alloc: Global, bytes: &[u8]) -> Result<(Place, Contents<'_>), Journ
     if header.rest.len() < start {
         return Err(JournalFault::BadRecord);
     }
-    let behind = &header.rest[start..];
-    let (contents, used) = match read_half(alloc, &behind[..size.min(behind.len())]) {
+    let following = &header.rest[start..];
+    let (contents, used) = match read_half(alloc, &following[..size.min(following.len())]) {
         Ok(read) => read,
         Err(fault) => return Err(fault),
     };

@@ -16,8 +16,8 @@ fn split_body(rest: &[u8], limit: usize) -> Option<(&[u8], &[u8])>
     requires { 0 < length rest.now }
     ensures some { IfSome result (λ parts.
         BeginsWithBody limit (get_or rest.now 0 0) parts.0.now parts.1.now rest.now) }
-    ensures none { result ≡ None → (first : ℕ) (body behind : List ℕ) →
-        BeginsWithBody limit first body behind rest.now → ⊥ }
+    ensures none { result ≡ None → (first : ℕ) (body following : List ℕ) →
+        BeginsWithBody limit first body following rest.now → ⊥ }
 {
     if rest.len() < 5 {
         return None;
@@ -44,11 +44,11 @@ fn read_batches(alloc: Global, text: &[u8]) -> Result<(Vec<&[u8]>, usize), Journ
         if rest[0] == 0 {
             return Ok((batches, text.len() - rest.len()));
         }
-        let Some((batch, behind)) = split_body(rest, MAX_BODY) else {
+        let Some((batch, following)) = split_body(rest, MAX_BODY) else {
             return Err(JournalFault::BadRecord);
         };
         batches.push(batch)?;
-        rest = behind;
+        rest = following;
     }
     Err(JournalFault::BadRecord)
 }

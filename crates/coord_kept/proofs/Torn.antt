@@ -44,9 +44,9 @@ in_front : (c : ℕ) (text : List ℕ) → is_in_line c ≡ true → is_one_line
 in_front c [] e one = absurd (cc)
 in_front c (d ∷ text) e one = grind (arith, e, one)
 
-behind : (xs text : List ℕ) → list_all is_in_line xs ≡ true → is_one_line text ≡ true → is_one_line (xs ++ text) ≡ true
-behind [] text e one = one
-behind (x ∷ xs) text e one = let parts = both (is_in_line x) (list_all is_in_line xs) e in in_front x (xs ++ text) parts.0 (behind xs text parts.1 one)
+following : (xs text : List ℕ) → list_all is_in_line xs ≡ true → is_one_line text ≡ true → is_one_line (xs ++ text) ≡ true
+following [] text e one = one
+following (x ∷ xs) text e one = let parts = both (is_in_line x) (list_all is_in_line xs) e in in_front x (xs ++ text) parts.0 (following xs text parts.1 one)
 
 joined : (xs ys : List ℕ) → list_all is_in_line xs ≡ true → list_all is_in_line ys ≡ true → list_all is_in_line (xs ++ ys) ≡ true
 joined [] ys e f = f
@@ -92,22 +92,22 @@ count_in_line (Some count) is = joined (codes ", \"count\": ") (decimal count) r
 
 start_is_one_line : StartIsOneLine
 start_is_one_line node begun party count small epoch lines number =
-    let last = behind (count_text count) (codes "}}\n") (count_in_line count number) refl in
-    let parties = behind (party_text party) (count_text count ++ codes "}}\n") (party_in_line party lines) last in
-    let named = behind (codes ", \"party\": ") (party_text party ++ (count_text count ++ codes "}}\n")) refl parties in
-    let begins = behind (begun_text begun) (codes ", \"party\": " ++ (party_text party ++ (count_text count ++ codes "}}\n"))) (begun_in_line begun epoch) named in
-    let opened = behind (codes "\": {\"begun\": ") (begun_text begun ++ (codes ", \"party\": " ++ (party_text party ++ (count_text count ++ codes "}}\n")))) refl begins in
-    let nodes = behind (decimal node) (codes "\": {\"begun\": " ++ (begun_text begun ++ (codes ", \"party\": " ++ (party_text party ++ (count_text count ++ codes "}}\n"))))) (digits node small) opened in
-    behind (codes "{\"") (decimal node ++ (codes "\": {\"begun\": " ++ (begun_text begun ++ (codes ", \"party\": " ++ (party_text party ++ (count_text count ++ codes "}}\n")))))) refl nodes
+    let last = following (count_text count) (codes "}}\n") (count_in_line count number) refl in
+    let parties = following (party_text party) (count_text count ++ codes "}}\n") (party_in_line party lines) last in
+    let named = following (codes ", \"party\": ") (party_text party ++ (count_text count ++ codes "}}\n")) refl parties in
+    let begins = following (begun_text begun) (codes ", \"party\": " ++ (party_text party ++ (count_text count ++ codes "}}\n"))) (begun_in_line begun epoch) named in
+    let opened = following (codes "\": {\"begun\": ") (begun_text begun ++ (codes ", \"party\": " ++ (party_text party ++ (count_text count ++ codes "}}\n")))) refl begins in
+    let nodes = following (decimal node) (codes "\": {\"begun\": " ++ (begun_text begun ++ (codes ", \"party\": " ++ (party_text party ++ (count_text count ++ codes "}}\n"))))) (digits node small) opened in
+    following (codes "{\"") (decimal node ++ (codes "\": {\"begun\": " ++ (begun_text begun ++ (codes ", \"party\": " ++ (party_text party ++ (count_text count ++ codes "}}\n")))))) refl nodes
 
 loaded_is_one_line : LoadedIsOneLine
 loaded_is_one_line node epoch boot small less plain =
-    behind (codes "{\"") (decimal node ++ (codes "\": {\"begun\": null, \"party\": null, \"loaded\": " ++ (decimal epoch ++ (codes ", \"foreseen\": [], \"boot\": \"" ++ (boot ++ codes "\"}}\n"))))) refl
-    (behind (decimal node) (codes "\": {\"begun\": null, \"party\": null, \"loaded\": " ++ (decimal epoch ++ (codes ", \"foreseen\": [], \"boot\": \"" ++ (boot ++ codes "\"}}\n")))) (digits node small)
-    (behind (codes "\": {\"begun\": null, \"party\": null, \"loaded\": ") (decimal epoch ++ (codes ", \"foreseen\": [], \"boot\": \"" ++ (boot ++ codes "\"}}\n"))) refl
-    (behind (decimal epoch) (codes ", \"foreseen\": [], \"boot\": \"" ++ (boot ++ codes "\"}}\n")) (digits epoch less)
-    (behind (codes ", \"foreseen\": [], \"boot\": \"") (boot ++ codes "\"}}\n") refl
-    (behind boot (codes "\"}}\n") plain refl)))))
+    following (codes "{\"") (decimal node ++ (codes "\": {\"begun\": null, \"party\": null, \"loaded\": " ++ (decimal epoch ++ (codes ", \"foreseen\": [], \"boot\": \"" ++ (boot ++ codes "\"}}\n"))))) refl
+    (following (decimal node) (codes "\": {\"begun\": null, \"party\": null, \"loaded\": " ++ (decimal epoch ++ (codes ", \"foreseen\": [], \"boot\": \"" ++ (boot ++ codes "\"}}\n")))) (digits node small)
+    (following (codes "\": {\"begun\": null, \"party\": null, \"loaded\": ") (decimal epoch ++ (codes ", \"foreseen\": [], \"boot\": \"" ++ (boot ++ codes "\"}}\n"))) refl
+    (following (decimal epoch) (codes ", \"foreseen\": [], \"boot\": \"" ++ (boot ++ codes "\"}}\n")) (digits epoch less)
+    (following (codes ", \"foreseen\": [], \"boot\": \"") (boot ++ codes "\"}}\n") refl
+    (following boot (codes "\"}}\n") plain refl)))))
 
 pub written_is_one_line : WrittenIsOneLine
 written_is_one_line = (start_is_one_line, loaded_is_one_line)

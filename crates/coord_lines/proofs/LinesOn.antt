@@ -7,7 +7,7 @@ use Rattle.std.proofs.lemmas.List.Elements.{All-head, All-tail}
 use Rattle.std.proofs.lemmas.List.Splits.{slice_split_at, length-slice_split}
 use Rattle.std.proofs.lemmas.List.Sums.{split_at_first, fails_before_first, passes_at_first}
 use Rattle.coord_types.specs.declared.limits.TheConstants.{MAX_LINE_BYTES}
-use Rattle.coord_lines.specs.Lines.{Line, IsWithin, is_line_feed, line_of, lines_of, extended, going_on, lines_on, before_line_feed, behind_line_feed}
+use Rattle.coord_lines.specs.Lines.{Line, IsWithin, is_line_feed, line_of, lines_of, extended, going_on, lines_on, before_line_feed, after_line_feed}
 
 -- ---- a line in two steps
 
@@ -42,8 +42,8 @@ pub lines_on-empty : (text : List ℕ) → lines_on (Some []) text ≡ lines_of 
 lines_on-empty text = going_on_first (slice_split is_line_feed text) (omega (arith, length-slice_split is_line_feed text))
 
 -- a line feed ends the line
-pub lines_on-feed : (line : Line) (before behind : List ℕ) (byte : ℕ) → All (λ b. is_line_feed b ≡ false) before → is_line_feed byte ≡ true → lines_on line (before ++ byte ∷ behind) ≡ extended line before ∷ lines_on (Some []) behind
-lines_on-feed line before behind byte none feed = ap (going_on line) (slice_split_at is_line_feed before byte behind none feed) ∙ ap (λ ls. extended line before ∷ ls) (sym (lines_on-empty behind))
+pub lines_on-feed : (line : Line) (before following : List ℕ) (byte : ℕ) → All (λ b. is_line_feed b ≡ false) before → is_line_feed byte ≡ true → lines_on line (before ++ byte ∷ following) ≡ extended line before ∷ lines_on (Some []) following
+lines_on-feed line before following byte none feed = ap (going_on line) (slice_split_at is_line_feed before byte following none feed) ∙ ap (λ ls. extended line before ∷ ls) (sym (lines_on-empty following))
 
 going_on-onto_first : (line : Line) (byte : ℕ) (parts : List (List ℕ)) → 0 < length parts → going_on line (onto_first byte parts) ≡ going_on (extended line (byte ∷ [])) parts
 going_on-onto_first line byte [] h = absurd (omega arith)
@@ -87,14 +87,14 @@ before_all text h = grind (arith, common_steps)
 before_first_none : (text : List ℕ) → All (λ b. is_line_feed b ≡ false) (before_line_feed text)
 before_first_none text k d below = let fails = fails_before_first is_line_feed text k d (grind (arith, common_steps)) in grind (arith, common_steps)
 
-found : (text behind : List ℕ) (place : Option ℕ) → position is_line_feed text ≡ place → option_map (λ _. after_first is_line_feed text) place ≡ Some behind → (position_or_len is_line_feed text < length text) × (after_first is_line_feed text ≡ behind)
-found text behind None e f = absurd cc
-found text behind (Some place) e f = let at = at_line_feed text place e in (omega arith, cc)
+found : (text following : List ℕ) (place : Option ℕ) → position is_line_feed text ≡ place → option_map (λ _. after_first is_line_feed text) place ≡ Some following → (position_or_len is_line_feed text < length text) × (after_first is_line_feed text ≡ following)
+found text following None e f = absurd cc
+found text following (Some place) e f = let at = at_line_feed text place e in (omega arith, cc)
 
 -- a piece with a line feed ends the line, and the bytes after that begin the next one
-pub lines_on-ended : (line : Line) (piece more behind : List ℕ) → behind_line_feed piece ≡ Some behind → lines_on line (piece ++ more) ≡ extended line (before_line_feed piece) ∷ lines_on (Some []) (behind ++ more)
-lines_on-ended line piece more behind e =
-    let at = found piece behind _ refl e in
+pub lines_on-ended : (line : Line) (piece more following : List ℕ) → after_line_feed piece ≡ Some following → lines_on line (piece ++ more) ≡ extended line (before_line_feed piece) ∷ lines_on (Some []) (following ++ more)
+lines_on-ended line piece more following e =
+    let at = found piece following _ refl e in
     let before = before_line_feed piece in
     let byte = get_or piece (position_or_len is_line_feed piece) 0 in
     ap (λ p. lines_on line (p ++ more)) (split_at_first is_line_feed piece 0 at.0)
@@ -107,8 +107,8 @@ not_found text None e f = without_line_feed text e
 not_found text (Some place) e f = absurd cc
 
 -- a piece without one goes on the line
-pub lines_on-unended : (line : Line) (piece more : List ℕ) → behind_line_feed piece ≡ None → lines_on line (piece ++ more) ≡ lines_on (extended line (before_line_feed piece)) more
+pub lines_on-unended : (line : Line) (piece more : List ℕ) → after_line_feed piece ≡ None → lines_on line (piece ++ more) ≡ lines_on (extended line (before_line_feed piece)) more
 lines_on-unended line piece more e = grind (arith, not_found, lines_on-bytes, fails_before_first, before_all)
 
-pub behind-shorter : (piece behind : List ℕ) → behind_line_feed piece ≡ Some behind → length behind < length piece
-behind-shorter piece behind e = let at = found piece behind _ refl e in omega (arith, at.0, ap length at.1, length-drop (position_or_len is_line_feed piece + 1) piece)
+pub following-shorter : (piece following : List ℕ) → after_line_feed piece ≡ Some following → length following < length piece
+following-shorter piece following e = let at = found piece following _ refl e in omega (arith, at.0, ap length at.1, length-drop (position_or_len is_line_feed piece + 1) piece)

@@ -40,5 +40,5 @@ abbrev pub before_line_feed : List ℕ → List ℕ
 before_line_feed text = before_first is_line_feed text
 
 -- the part of a text after its first line feed, if there is one
-abbrev pub behind_line_feed : List ℕ → Option (List ℕ)
-behind_line_feed text = option_map (λ place. after_first is_line_feed text) (position is_line_feed text)
+abbrev pub after_line_feed : List ℕ → Option (List ℕ)
+after_line_feed text = option_map (λ place. after_first is_line_feed text) (position is_line_feed text)

@@ -3,7 +3,7 @@
 ghost use Rattle.std.specs.Prelude.{◌≡◌, Some, []};
 ghost use Rattle.std.specs.Option.{option_copied};
 ghost use Rattle.std.specs.List.{position};
-ghost use Rattle.coord_lines.specs.Lines.{is_line_feed, extended, IsWithin, before_line_feed, behind_line_feed};
+ghost use Rattle.coord_lines.specs.Lines.{is_line_feed, extended, IsWithin, before_line_feed, after_line_feed};
 
 use coord_types::MAX_LINE_BYTES;
 use std::marker::Model;
@@ -46,7 +46,7 @@ impl LineBuffer {
     /// line feed. Returns None if the piece has no line feed; the line then continues.
     pub fn take<'a>(&mut self, piece: &'a [u8]) -> Option<&'a [u8]>
         ensures line { self.new ≡ extended self.old (before_line_feed piece.now) }
-        ensures behind { option_copied result ≡ behind_line_feed piece.now }
+        ensures following { option_copied result ≡ after_line_feed piece.now }
     {
         match line_feed_in(piece) {
             Some(end) => {

@@ -4,7 +4,7 @@ use Rattle.std.proofs.lemmas.Bool.Decides.{nat_tests}
 use Rattle.std.proofs.lemmas.List.{take-append-le, drop-append-le, length-append, append-nil}
 use Rattle.coord_types.specs.declared.messages.Msg.{Msg}
 use Rattle.coord_types.specs.declared.messages.Msg.TheVariants as msg
-use Rattle.coord_types.specs.Messages.{begins_with, same_msg, behind_front}
+use Rattle.coord_types.specs.Messages.{begins_with, same_msg, after_front}
 use Rattle.coord_link.specs.LaneMachine.{Lane, new_lane, sent, took, cleared, judged_take, judged_clear}
 use Rattle.coord_link.specs.Moves.{Move, Send, Take, Clear, moved, run, sent_by, taken_by, handed, message_of, InOrder, LaneLaw}
 
@@ -16,11 +16,11 @@ taken_more (suc n) [] rest m goes_on = cc
 taken_more (suc n) (a ∷ all) rest m goes_on = let shorter = taken_more n all rest m goes_on in cc
 
 -- without its front, the part after the first n is the part after the first n + 1
-behind_more : (n : ℕ) (all : List Msg) → behind_front (drop n all) ≡ drop (suc n) all
-behind_more zero [] = refl
-behind_more zero (a ∷ all) = refl
-behind_more (suc n) [] = refl
-behind_more (suc n) (a ∷ all) = behind_more n all
+after_more : (n : ℕ) (all : List Msg) → after_front (drop n all) ≡ drop (suc n) all
+after_more zero [] = refl
+after_more zero (a ∷ all) = refl
+after_more (suc n) [] = refl
+after_more (suc n) (a ∷ all) = after_more n all
 
 -- if a list continues after its first n, it is longer than n
 more_left : (n : ℕ) (all rest : List Msg) (m : Msg) → drop n all ≡ m ∷ rest → n < length all
@@ -36,7 +36,7 @@ same_is msg.Ready msg.Ready e = refl
 same_is a b e = cc
 
 -- a queue that begins with m is m and the rest
-begins : (queue : List Msg) (m : Msg) → begins_with queue m ≡ true → queue ≡ m ∷ behind_front queue
+begins : (queue : List Msg) (m : Msg) → begins_with queue m ≡ true → queue ≡ m ∷ after_front queue
 begins [] m e = cc
 begins (front ∷ rest) m e = let same = same_is front m e in cc
 
@@ -55,15 +55,15 @@ after_send all taken l m history = grind (arith, take-append-le l.got all (m ∷
 after_take : (all taken : List Msg) (l : Lane) (number : ℕ) (m : Msg) → is_ok (judged_take l number m) ≡ true → InOrder all taken l → InOrder all (taken ++ m ∷ []) (took l)
 after_take all taken l number m accepted history =
     let allowed = allows_take l number m accepted in
-    let front : drop l.got all ≡ m ∷ behind_front l.queue = let begun = begins l.queue m allowed.1 in cc in
-    let longer = taken_more l.got all (behind_front l.queue) m front in
-    let left = more_left l.got all (behind_front l.queue) m front in
+    let front : drop l.got all ≡ m ∷ after_front l.queue = let begun = begins l.queue m allowed.1 in cc in
+    let longer = taken_more l.got all (after_front l.queue) m front in
+    let left = more_left l.got all (after_front l.queue) m front in
     grind arith
 
 after_clear : (all taken : List Msg) (l : Lane) (number : ℕ) → is_ok (judged_clear l number) ≡ true → InOrder all taken l → InOrder all taken (cleared l)
 after_clear all taken l number accepted history =
     let allowed = allows_clear l number accepted in
-    let behind = behind_more l.base all in
+    let following = after_more l.base all in
     grind arith
 
 after_move : (all taken : List Msg) (l : Lane) (move : Move) → InOrder all taken l → InOrder (all ++ message_of move) (taken ++ handed l move) (moved l move)

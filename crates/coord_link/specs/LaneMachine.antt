@@ -2,7 +2,7 @@
 use Rattle.std.specs.Prelude.{◌≡◌, ℕ, ◌+◌, ◌==◌, ◌&&◌, ◌||◌, not, nat_le, nat_lt, Bool, true, List, [], ◌∷◌, ◌++◌, Option, Some, None, Result, Ok, Err, if◌then◌else◌}
 use Rattle.std.proofs.Common.{refl}
 use Rattle.std.specs.Coded.{Coded, code_by, coded×, coded_ℕ, coded_list}
-use Rattle.coord_types.specs.Messages.{is_nil, behind_front, begins_with, msg_code}
+use Rattle.coord_types.specs.Messages.{is_nil, after_front, begins_with, msg_code}
 use Rattle.coord_types.specs.declared.messages.Msg.{Msg}
 use Rattle.coord_types.specs.declared.refusals.Refusal.{Refusal}
 use Rattle.coord_types.specs.declared.refusals.Refusal.TheVariants.{Old, Early, Differs}
@@ -28,7 +28,7 @@ took l = record l { got = l.got + 1 }
 
 -- the receipt of the front arrives, and the front leaves the queue
 abbrev pub cleared : Lane → Lane
-cleared l = record l { base = l.base + 1; queue = behind_front l.queue }
+cleared l = record l { base = l.base + 1; queue = after_front l.queue }
 
 -- whether the other end has taken the front
 abbrev pub is_front_taken : Lane → Bool
@@ -36,7 +36,7 @@ is_front_taken l = l.got == l.base + 1
 
 -- the messages in transit: the queue, without its front if the other end has taken the front
 abbrev pub transit : Lane → List Msg
-transit l = if is_front_taken l then behind_front l.queue else l.queue
+transit l = if is_front_taken l then after_front l.queue else l.queue
 
 abbrev pub front_in : ℕ → List Msg → Option (ℕ × Msg)
 front_in base [] = None

@@ -39,9 +39,9 @@ one_before x [] ys none = absurd none
 one_before x (y ∷ xs) ys (inl same) = inl same
 one_before x (y ∷ xs) ys (inr more) = inr (one_before x xs ys more)
 
-pub one_behind : {A : Type 0} (x : A) (xs ys : List A) → IsOneOf x ys → IsOneOf x (xs ++ ys)
-one_behind x [] ys one = one
-one_behind x (y ∷ xs) ys one = inr (one_behind x xs ys one)
+pub one_after : {A : Type 0} (x : A) (xs ys : List A) → IsOneOf x ys → IsOneOf x (xs ++ ys)
+one_after x [] ys one = one
+one_after x (y ∷ xs) ys one = inr (one_after x xs ys one)
 
 pub one_of_both : {A : Type 0} (x : A) (xs ys : List A) → IsOneOf x (xs ++ ys) → IsOneOf x xs ⊎ IsOneOf x ys
 one_of_both x [] ys one = inr one
@@ -65,7 +65,7 @@ flat_one f (x ∷ xs) y one =
 pub one_flat : {A B : Type 0} (f : A → List B) (xs : List A) (x : A) (y : B) → IsOneOf x xs → IsOneOf y (f x) → IsOneOf y (flat_map f xs)
 one_flat f [] x y none among = absurd none
 one_flat f (z ∷ xs) x y (inl same) among = one_before y (f z) (flat_map f xs) (subst (λ v. IsOneOf y (f v)) same among)
-one_flat f (z ∷ xs) x y (inr more) among = one_behind y (f z) (flat_map f xs) (one_flat f xs x y more among)
+one_flat f (z ∷ xs) x y (inr more) among = one_after y (f z) (flat_map f xs) (one_flat f xs x y more among)
 
 pub flat-mapped : {A B C : Type 0} (f : B → List C) (g : A → B) (xs : List A) → flat_map f (map g xs) ≡ flat_map (λ x. f (g x)) xs
 flat-mapped f g [] = refl

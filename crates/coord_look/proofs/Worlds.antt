@@ -26,7 +26,7 @@ use Rattle.coord_member.specs.declared.view.Row.{Row}
 use Rattle.coord_look.specs.Reading.{AreConnected, AreLinked, IsReadOf, IsWay, is_of, is_quiet, is_ready_mode, is_through, link_entries, node_entries, party_in, row_in}
 use Rattle.coord_look.specs.Shown.{AllDistinct, IsPartyOf, IsShownTo, IsThrough, IsWorldLink}
 use Rattle.coord_look.specs.Worlds.{LookIsShown, NoLookIsAbsent}
-use Rattle.coord_look.proofs.Listed.{all_pass, each_passes, flat-mapped, flat_one, is_there, mapped_one, once_both, once_made, one_before, one_behind, one_flat, one_mapped, one_of_both, stands}
+use Rattle.coord_look.proofs.Listed.{all_pass, each_passes, flat-mapped, flat_one, is_there, mapped_one, once_both, once_made, one_before, one_after, one_flat, one_mapped, one_of_both, stands}
 use Rattle.coord_look.proofs.Reached.{found_is, none_is}
 
 -- a node as it is shown, and a link
@@ -221,11 +221,11 @@ module _ (w : World) (range : InRange w) (accepted : ℕ) where
     one_link (Node n e) k l f g = absurd f
     one_link (Link a b incarnation) k l f g = sym f ∙ g
 
-    node_tells : (e : ℕ × NodeState) (n : Entry) → IsOneOf n (of_node e) → IsNode n e.0
-    node_tells e n one = let is = one_alone (contains s e.0) (Node e.0 e.1.epoch) n one in subst (λ m. IsNode m e.0) (sym is.1) refl
+    node_named : (e : ℕ × NodeState) (n : Entry) → IsOneOf n (of_node e) → IsNode n e.0
+    node_named e n one = let is = one_alone (contains s e.0) (Node e.0 e.1.epoch) n one in subst (λ m. IsNode m e.0) (sym is.1) refl
 
-    link_tells : (e : (ℕ × ℕ) × Lanes) (n : Entry) → IsOneOf n (of_link e) → IsLink n e.0
-    link_tells e n one = let is = one_alone (contains s e.0.0) (Link e.0.0 e.0.1 e.1.forth.inc) n one in subst (λ m. IsLink m e.0) (sym is.1) refl
+    link_named : (e : (ℕ × ℕ) × Lanes) (n : Entry) → IsOneOf n (of_link e) → IsLink n e.0
+    link_named e n one = let is = one_alone (contains s e.0.0) (Link e.0.0 e.0.1 e.1.forth.inc) n one in subst (λ m. IsLink m e.0) (sym is.1) refl
 
     nodes_flat : flat_map (node_entries s) nodes ≡ flat_map of_node (entries w.nodes)
     nodes_flat = flat-mapped (node_entries s) node_view (map node_row (entries w.nodes)) ∙ flat-mapped (λ r. node_entries s (node_view r)) node_row (entries w.nodes)
@@ -244,8 +244,8 @@ module _ (w : World) (range : InRange w) (accepted : ℕ) where
 
     once : AllDistinct (party_in s (shown accepted w))
     once = once_both (flat_map (node_entries s) nodes) (flat_map (link_entries s) links)
-        (subst AllDistinct (sym nodes_flat) (once_made nat_cmp_total same_number of_node IsNode one_node node_tells (λ e. once_alone (contains s e.0) (Node e.0 e.1.epoch)) w.nodes))
-        (subst AllDistinct (sym links_flat) (once_made pair_cmp_total same_pair of_link IsLink one_link link_tells (λ e. once_alone (contains s e.0.0) (Link e.0.0 e.0.1 e.1.forth.inc)) w.links)) apart
+        (subst AllDistinct (sym nodes_flat) (once_made nat_cmp_total same_number of_node IsNode one_node node_named (λ e. once_alone (contains s e.0) (Node e.0 e.1.epoch)) w.nodes))
+        (subst AllDistinct (sym links_flat) (once_made pair_cmp_total same_pair of_link IsLink one_link link_named (λ e. once_alone (contains s e.0.0) (Link e.0.0 e.0.1 e.1.forth.inc)) w.links)) apart
 
     every_node : (n : ℕ) → has w.nodes n ≡ true → Connected w i n → IsOneOf (Node n (state w n).epoch) (party_in s (shown accepted w))
     every_node n here path =
@@ -256,7 +256,7 @@ module _ (w : World) (range : InRange w) (accepted : ℕ) where
     every_link a b incarnation path is =
         let link = link_of_lane w.links a b is.lane is.turned is.there in
         let made : link.lanes.forth.inc ≡ incarnation = ap (λ (l : Lane). l.inc) link.forth ∙ is.made in
-        one_behind (Link a b incarnation) (flat_map (node_entries s) nodes) (flat_map (link_entries s) links)
+        one_after (Link a b incarnation) (flat_map (node_entries s) nodes) (flat_map (link_entries s) links)
         (one_flat (link_entries s) links (seen_link ((a, b), link.lanes)) (Link a b incarnation) (link_shown a b link.lanes link.there)
         (subst (λ n. IsOneOf (Link a b n) (link_entries s (seen_link ((a, b), link.lanes)))) made (alone_one (contains s a) (Link a b link.lanes.forth.inc) (is_reached a path))))
 

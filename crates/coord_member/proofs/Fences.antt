@@ -4,7 +4,7 @@ use Rattle.std.specs.List.{AllByRecursion}
 use Rattle.std.specs.Str.{bytes_eq}
 use Rattle.std.proofs.lemmas.Bool.Decides.{nat_tests}
 use Rattle.std.proofs.lemmas.Slice.Eq.{bytes_eq-Decides}
-use Rattle.coord_member.specs.Fence.{Fence, Resource, new_resource, is_own, accepts, held_by, behind, behind_all, IsNoNewer, LaterIsGreater, NoStartReturns, NewestIsAccepted}
+use Rattle.coord_member.specs.Fence.{Fence, Resource, new_resource, is_own, accepts, held_by, after_fence, after_fences, IsNoNewer, LaterIsGreater, NoStartReturns, NewestIsAccepted}
 
 -- ---- tests
 
@@ -62,10 +62,10 @@ why_accepted r f e =
       | inr own ↦ inr (same r.tag f.tag own.0, less r.gate.floor f.count own.1)
     ]
 
-when_accepted : (r : Resource) (f : Fence) → accepts r f ≡ true → behind r f ≡ held_by (is_own r f) r f
+when_accepted : (r : Resource) (f : Fence) → accepts r f ≡ true → after_fence r f ≡ held_by (is_own r f) r f
 when_accepted r f e = ap (λ b. if b then held_by (is_own r f) r f else r) e
 
-when_refused : (r : Resource) (f : Fence) → accepts r f ≡ false → behind r f ≡ r
+when_refused : (r : Resource) (f : Fence) → accepts r f ≡ false → after_fence r f ≡ r
 when_refused r f e = ap (λ b. if b then held_by (is_own r f) r f else r) e
 
 -- ---- rejected fences
@@ -75,10 +75,10 @@ record Knows (g : Fence) (r : Resource) : Type 0 where
   most : g.count ≤ r.gate.count
   last : (r.tag ≡ g.tag) ⊎ (g.count ≤ r.gate.floor)
 
-knows_it : (r : Resource) (g : Fence) → accepts r g ≡ true → Knows g (behind r g)
+knows_it : (r : Resource) (g : Fence) → accepts r g ≡ true → Knows g (after_fence r g)
 knows_it r g e = subst (Knows g) (sym (when_accepted r g e)) (record { most = more_of r.gate.count g.count; last = inl refl })
 
-knows_on : (g : Fence) (r : Resource) (f : Fence) → Knows g r → Knows g (behind r f)
+knows_on : (g : Fence) (r : Resource) (f : Fence) → Knows g r → Knows g (after_fence r f)
 knows_on g r f is = of (accepts r f) refl
   where
     most : g.count ≤ (if nat_lt r.gate.count f.count then f.count else r.gate.count)
@@ -88,13 +88,13 @@ knows_on g r f is = of (accepts r f) refl
     held true e = record { most = most; last = elim is.last [ inl tag ↦ inl (sym (same r.tag f.tag e) ∙ tag) | inr le ↦ inr le ] }
     held false e = record { most = most; last = inr is.most }
 
-    of : (b : Bool) → accepts r f ≡ b → Knows g (behind r f)
+    of : (b : Bool) → accepts r f ≡ b → Knows g (after_fence r f)
     of false e = subst (Knows g) (sym (when_refused r f e)) is
     of true e = subst (Knows g) (sym (when_accepted r f e)) (held (is_own r f) refl)
 
-knows_still : (g : Fence) (r : Resource) (fences : List Fence) → Knows g r → Knows g (behind_all r fences)
+knows_still : (g : Fence) (r : Resource) (fences : List Fence) → Knows g r → Knows g (after_fences r fences)
 knows_still g r [] is = is
-knows_still g r (f ∷ fences) is = knows_still g (behind r f) fences (knows_on g r f is)
+knows_still g r (f ∷ fences) is = knows_still g (after_fence r f) fences (knows_on g r f is)
 
 greater : (g : Fence) (r : Resource) (f : Fence) → Knows g r → accepts r f ≡ true → (f.tag ≡ g.tag) ⊎ (g.count < f.count)
 greater g r f is e =
@@ -104,18 +104,18 @@ greater g r f is e =
     ]
 
 pub later_is_greater : LaterIsGreater
-later_is_greater r g f between e_g e_f = greater g (behind_all (behind r g) between) f (knows_still g (behind r g) between (knows_it r g e_g)) e_f
+later_is_greater r g f between e_g e_f = greater g (after_fences (after_fence r g) between) f (knows_still g (after_fence r g) between (knows_it r g e_g)) e_f
 
 pub no_start_returns : NoStartReturns
-no_start_returns r f g between later other e_f e_g = of (accepts (behind_all (behind (behind_all (behind r f) between) g) later) f) refl
+no_start_returns r f g between later other e_f e_g = of (accepts (after_fences (after_fence (after_fences (after_fence r f) between) g) later) f) refl
   where
     first : (g.tag ≡ f.tag) ⊎ (f.count < g.count)
     first = later_is_greater r f g between e_f e_g
 
-    of : (b : Bool) → accepts (behind_all (behind (behind_all (behind r f) between) g) later) f ≡ b → b ≡ false
+    of : (b : Bool) → accepts (after_fences (after_fence (after_fences (after_fence r f) between) g) later) f ≡ b → b ≡ false
     of false e = refl
     of true e =
-        elim (later_is_greater (behind_all (behind r f) between) g f later e_g e) [
+        elim (later_is_greater (after_fences (after_fence r f) between) g f later e_g e) [
           | inl tag ↦ absurd (other tag)
           | inr more ↦ elim first [ inl tag ↦ absurd (other (sym tag)) | inr fewer ↦ absurd (omega (arith, more, fewer)) ]
         ]
@@ -134,7 +134,7 @@ lets_in f r is = of (is_own r f) refl
     of true e = let above = is.own (same r.tag f.tag e) in grind (arith, nat_tests, above)
     of false e = let above = is.other (differ r.tag f.tag e) in grind (arith, nat_tests, above)
 
-awaits_on : (f : Fence) (r : Resource) (g : Fence) → IsNoNewer f g → Awaits f r → Awaits f (behind r g)
+awaits_on : (f : Fence) (r : Resource) (g : Fence) → IsNoNewer f g → Awaits f r → Awaits f (after_fence r g)
 awaits_on f r g older is = of (accepts r g) refl
   where
     held : (own : Bool) → is_own r g ≡ own → accepts r g ≡ true → Awaits f (held_by own r g)
@@ -157,13 +157,13 @@ awaits_on f r g older is = of (accepts r g) refl
               ];
         }
 
-    of : (b : Bool) → accepts r g ≡ b → Awaits f (behind r g)
+    of : (b : Bool) → accepts r g ≡ b → Awaits f (after_fence r g)
     of false e = subst (Awaits f) (sym (when_refused r g e)) is
     of true e = subst (Awaits f) (sym (when_accepted r g e)) (held (is_own r g) refl e)
 
-awaits_still : (f : Fence) (r : Resource) (fences : List Fence) → AllByRecursion (IsNoNewer f) fences → Awaits f r → Awaits f (behind_all r fences)
+awaits_still : (f : Fence) (r : Resource) (fences : List Fence) → AllByRecursion (IsNoNewer f) fences → Awaits f r → Awaits f (after_fences r fences)
 awaits_still f r [] all is = is
-awaits_still f r (g ∷ fences) all is = awaits_still f (behind r g) fences all.1 (awaits_on f r g all.0 is)
+awaits_still f r (g ∷ fences) all is = awaits_still f (after_fence r g) fences all.1 (awaits_on f r g all.0 is)
 
 pub newest_is_accepted : NewestIsAccepted
-newest_is_accepted f fences some all = lets_in f (behind_all new_resource fences) (awaits_still f new_resource fences all (record { own = λ named. some; other = λ apart. some }))
+newest_is_accepted f fences some all = lets_in f (after_fences new_resource fences) (awaits_still f new_resource fences all (record { own = λ named. some; other = λ apart. some }))

@@ -46,24 +46,24 @@ abbrev pub held_by : Bool → Resource → Fence → Resource
 held_by own r f = record { gate = passed r.gate own f.count; tag = f.tag }
 
 -- the resource after one fence is presented, and after several; a rejected fence changes nothing
-abbrev pub behind : Resource → Fence → Resource
-behind r f = if accepts r f then held_by (is_own r f) r f else r
+abbrev pub after_fence : Resource → Fence → Resource
+after_fence r f = if accepts r f then held_by (is_own r f) r f else r
 
-abbrev pub behind_all : Resource → List Fence → Resource
-behind_all r [] = r
-behind_all r (f ∷ fences) = behind_all (behind r f) fences
+abbrev pub after_fences : Resource → List Fence → Resource
+after_fences r [] = r
+after_fences r (f ∷ fences) = after_fences (after_fence r f) fences
 
 -- ---- laws that hold for all fences, in any order, late or repeated
 
 -- after a fence is accepted, fences of other runs are accepted only with greater counts
 abbrev pub LaterIsGreater : Type 0
-LaterIsGreater = (r : Resource) (g f : Fence) (between : List Fence) → accepts r g ≡ true → accepts (behind_all (behind r g) between) f ≡ true → (f.tag ≡ g.tag) ⊎ (g.count < f.count)
+LaterIsGreater = (r : Resource) (g f : Fence) (between : List Fence) → accepts r g ≡ true → accepts (after_fences (after_fence r g) between) f ≡ true → (f.tag ≡ g.tag) ⊎ (g.count < f.count)
 
 -- once a resource has accepted a start and then a start of another run, it never accepts the first start again
 abbrev pub NoStartReturns : Type 0
 NoStartReturns =
-    (r : Resource) (f g : Fence) (between later : List Fence) → (f.tag ≡ g.tag → ⊥) → accepts r f ≡ true → accepts (behind_all (behind r f) between) g ≡ true →
-    accepts (behind_all (behind (behind_all (behind r f) between) g) later) f ≡ false
+    (r : Resource) (f g : Fence) (between later : List Fence) → (f.tag ≡ g.tag → ⊥) → accepts r f ≡ true → accepts (after_fences (after_fence r f) between) g ≡ true →
+    accepts (after_fences (after_fence (after_fences (after_fence r f) between) g) later) f ≡ false
 
 -- fence g is of the same run as f, or has a lesser count
 abbrev pub IsNoNewer : Fence → Fence → Type 0
@@ -71,4 +71,4 @@ IsNoNewer f g = (g.tag ≡ f.tag) ⊎ (g.count < f.count)
 
 -- a fence with a positive count that is greater than the counts of all other runs is accepted whenever it arrives
 abbrev pub NewestIsAccepted : Type 0
-NewestIsAccepted = (f : Fence) (fences : List Fence) → 0 < f.count → AllByRecursion (IsNoNewer f) fences → accepts (behind_all new_resource fences) f ≡ true
+NewestIsAccepted = (f : Fence) (fences : List Fence) → 0 < f.count → AllByRecursion (IsNoNewer f) fences → accepts (after_fences new_resource fences) f ≡ true

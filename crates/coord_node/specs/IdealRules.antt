@@ -1,7 +1,7 @@
 -- The ideal rules: the ideal world after each step.
 use Rattle.std.specs.Prelude.{ℕ, ◌==◌, Bool, ◌&&◌, ◌||◌, not, List, [], ◌∷◌, ◌++◌, if◌then◌else◌}
 use Rattle.coord_types.specs.NodeSet as set
-use Rattle.coord_types.specs.Facade.{Ideal, NodeState, behind_front, new_node, no_node}
+use Rattle.coord_types.specs.Facade.{Ideal, NodeState, after_front, new_node, no_node}
 use Rattle.coord_types.specs.declared.messages.Msg.{Msg}
 use Rattle.coord_types.specs.declared.steps.Command.{Command}
 use Rattle.coord_types.specs.declared.steps.Command.TheVariants.{Add, Remove, Join, Drop, Reset, Confirm}
@@ -32,7 +32,7 @@ ideal_all_applied w (d ∷ ds) = ideal_all_applied (ideal_applied w d.0 d.1) ds
 
 -- removes the first message in transit from v to u
 abbrev pub headed : Ideal → ℕ → ℕ → Ideal
-headed w v u = record w { in_transit = λ x y. if (x == v) && (y == u) then behind_front (w.in_transit x y) else w.in_transit x y }
+headed w v u = record w { in_transit = λ x y. if (x == v) && (y == u) then after_front (w.in_transit x y) else w.in_transit x y }
 
 -- whether x and y are a and b, in either order
 abbrev pub is_link : ℕ → ℕ → ℕ → ℕ → Bool

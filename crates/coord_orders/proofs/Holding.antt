@@ -528,17 +528,17 @@ other_step : (c : ℕ) (base : World) (first : ℕ) (e : Exchange) (s : Step) �
 other_step c base first e s h = elim (is_by c s) as (λ b. is_by c s ≡ b → Holds c base first (if b then e else record e { trail = e.trail ++ (s ∷ []) })) [ true ↦ λ yes. h | false ↦ λ differs. other c base first e s differs h ] refl
 
 -- more steps are settled
-behind_settled : ℕ → World → Exchange → ℕ → List Session
-behind_settled c base e n = orders_of c (fold base (take e.settled (take n e.trail))) (drop e.settled (take n e.trail))
+after_settled : ℕ → World → Exchange → ℕ → List Session
+after_settled c base e n = orders_of c (fold base (take e.settled (take n e.trail))) (drop e.settled (take n e.trail))
 
-from_settled : (c : ℕ) (base : World) (e : Exchange) (n : ℕ) → e.settled ≤ n → orders_of c base (take n e.trail) ≡ settled_of c base e ++ behind_settled c base e n
-unfolding behind_settled
-from_settled c base e n le = orders_cut c base e.settled (take n e.trail) ∙ ap (λ ss. orders_of c base ss ++ behind_settled c base e n) (take_of_take e.settled n e.trail le)
+from_settled : (c : ℕ) (base : World) (e : Exchange) (n : ℕ) → e.settled ≤ n → orders_of c base (take n e.trail) ≡ settled_of c base e ++ after_settled c base e n
+unfolding after_settled
+from_settled c base e n le = orders_cut c base e.settled (take n e.trail) ∙ ap (λ ss. orders_of c base ss ++ after_settled c base e n) (take_of_take e.settled n e.trail le)
 
 -- what lies between the settled steps and the trail
 between : (c : ℕ) (base : World) (e : Exchange) (n : ℕ) → e.settled ≤ n → settled_of c base e ≡ trail_of c base e → orders_of c base (take n e.trail) ≡ trail_of c base e
-between c base e n le all = squeezed (trail_of c base e) (orders_of c base (take n e.trail)) (behind_settled c base e n) (orders_of c (fold base (take n e.trail)) (drop n e.trail))
-    (from_settled c base e n le ∙ ap (λ z. z ++ behind_settled c base e n) all) (orders_cut c base n e.trail)
+between c base e n le all = squeezed (trail_of c base e) (orders_of c base (take n e.trail)) (after_settled c base e n) (orders_of c (fold base (take n e.trail)) (drop n e.trail))
+    (from_settled c base e n le ∙ ap (λ z. z ++ after_settled c base e n) all) (orders_cut c base n e.trail)
 
 settles : (c : ℕ) (base : World) (first : ℕ) (e : Exchange) (n : ℕ) → e.settled ≤ n → n ≤ length e.trail → Holds c base first e → Holds c base first (record e { settled = n })
 settles c base first e n le within h =
@@ -552,8 +552,8 @@ settles c base first e n le within h =
       more = h.more;
       orders = h.orders;
       in_hand = h.in_hand;
-      safe = h.safe ++ behind_settled c base e n;
-      settled = from_settled c base e n le ∙ ap (λ z. z ++ behind_settled c base e n) h.settled ∙ append_assoc e.done h.safe (behind_settled c base e n);
+      safe = h.safe ++ after_settled c base e n;
+      settled = from_settled c base e n le ∙ ap (λ z. z ++ after_settled c base e n) h.settled ∙ append_assoc e.done h.safe (after_settled c base e n);
       within = within;
       numbers = h.numbers;
       newest = h.newest;
@@ -579,11 +579,11 @@ releases c base first e k (Some o) is h =
 falls : (c : ℕ) (base : World) (first : ℕ) (e : Exchange) (n : ℕ) → e.settled ≤ n → Holds c base first e → Holds c base first (record e { trail = take n e.trail; owed = [] })
 falls c base first e n le h =
     let f : Exchange = record e { trail = take n e.trail; owed = [] } in
-    let behind : List Session = orders_of c (fold base (take n e.trail)) (drop n e.trail) in
-    let kept : trail_of c base f ≡ e.done ++ (h.safe ++ behind_settled c base e n) = from_settled c base e n le ∙ ap (λ z. z ++ behind_settled c base e n) h.settled ∙ append_assoc e.done h.safe (behind_settled c base e n) in
-    let whole : e.done ++ h.more ≡ e.done ++ ((h.safe ++ behind_settled c base e n) ++ behind) =
-    sym h.orders ∙ orders_cut c base n e.trail ∙ ap (λ z. z ++ behind) kept ∙ append_assoc e.done (h.safe ++ behind_settled c base e n) behind in
-    let parts : h.more ≡ (h.safe ++ behind_settled c base e n) ++ behind = append_cancel_left e.done h.more ((h.safe ++ behind_settled c base e n) ++ behind) whole in
+    let following : List Session = orders_of c (fold base (take n e.trail)) (drop n e.trail) in
+    let kept : trail_of c base f ≡ e.done ++ (h.safe ++ after_settled c base e n) = from_settled c base e n le ∙ ap (λ z. z ++ after_settled c base e n) h.settled ∙ append_assoc e.done h.safe (after_settled c base e n) in
+    let whole : e.done ++ h.more ≡ e.done ++ ((h.safe ++ after_settled c base e n) ++ following) =
+    sym h.orders ∙ orders_cut c base n e.trail ∙ ap (λ z. z ++ following) kept ∙ append_assoc e.done (h.safe ++ after_settled c base e n) following in
+    let parts : h.more ≡ (h.safe ++ after_settled c base e n) ++ following = append_cancel_left e.done h.more ((h.safe ++ after_settled c base e n) ++ following) whole in
     let settled : settled_of c base f ≡ settled_of c base e = ap (orders_of c base) (take_of_take e.settled n e.trail le) in
     let on : GoesOn c base e f = record {
       sent = omega arith;
@@ -591,9 +591,9 @@ falls c base first e n le h =
       stays = λ i less a none. record { none = none; kept = refl; done = refl; trail = λ all. between c base e n le all; settled = λ all. settled ∙ all ∙ sym (between c base e n le all) };
     } in
     record {
-      more = h.safe ++ behind_settled c base e n;
+      more = h.safe ++ after_settled c base e n;
       orders = kept;
-      in_hand = in_hand_first e.book.kept (h.safe ++ behind_settled c base e n) behind (subst (IsInHand e.book.kept) parts h.in_hand);
+      in_hand = in_hand_first e.book.kept (h.safe ++ after_settled c base e n) following (subst (IsInHand e.book.kept) parts h.in_hand);
       safe = h.safe;
       settled = settled ∙ h.settled;
       within = let size = length-take n e.trail in let short = h.within in omega (arith, size, short, le);

@@ -110,10 +110,10 @@ later_steps c (s ∷ ss) w = all_both (λ o. w.count < o.reply.step) (order_of c
 -- if the last of them is within the first k steps, all are
 pub all_within : (c : ℕ) (w : World) (ss : List Step) (k : ℕ) (xs : List Session) (s : Session) → orders_of c w ss ≡ xs ++ (s ∷ []) → s.reply.step ≤ w.count + k → k ≤ length ss → orders_of c w (take k ss) ≡ orders_of c w ss
 all_within c w ss k xs s last within short =
-    let behind : List Session = orders_of c (fold w (take k ss)) (drop k ss) in
+    let following : List Session = orders_of c (fold w (take k ss)) (drop k ss) in
     let cut = orders_cut c w k ss in
     let counts : (fold w (take k ss)).count ≡ w.count + k = fold_counts w (take k ss) ∙ ap (λ n. w.count + n) (length-take-le k ss short) in
-    elim behind as (λ b. orders_of c w ss ≡ orders_of c w (take k ss) ++ b → AllByRecursion (λ o. (fold w (take k ss)).count < o.reply.step) b → orders_of c w (take k ss) ≡ orders_of c w ss) [
+    elim following as (λ b. orders_of c w ss ≡ orders_of c w (take k ss) ++ b → AllByRecursion (λ o. (fold w (take k ss)).count < o.reply.step) b → orders_of c w (take k ss) ≡ orders_of c w ss) [
       | [] ↦ λ e all. sym (e ∙ append-nil (orders_of c w (take k ss)))
       | b ∷ bs ↦ λ e all.
           let less = of_end (λ o. (fold w (take k ss)).count < o.reply.step) (orders_of c w (take k ss)) b bs xs s (sym e ∙ last) all in

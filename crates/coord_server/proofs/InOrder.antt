@@ -144,17 +144,17 @@ module _ {D : Type 0} (answers : D → Request → Answer → D → Type 0) (bas
   served d e read text (Ok ended.Cut) (returned, last, reaches, is) = whole d e read text reaches.0 (last ∷ []) returned reaches.1 is (all_get d e reaches.0 returned reaches.2)
   served d e read text (Err serve.Read) (returned, last, reaches, is) = whole d e read text reaches.0 (last ∷ []) returned reaches.1 is (all_get d e reaches.0 returned reaches.2)
   served d e read text (Err serve.Turns) ((returned, last, reaches, is), many) = whole d e read text reaches.0 (last ∷ []) returned reaches.1 is (all_get d e reaches.0 returned reaches.2)
-  served d e read text (Err serve.Write) (returned, line, behind, left, f, g, a, unreturned, part, reaches, last, rest, posted, first, is) =
+  served d e read text (Err serve.Write) (returned, line, following, left, f, g, a, unreturned, part, reaches, last, rest, posted, first, is) =
       let by = all_get d f reaches.0 returned reaches.2 in
       let here = gets_at_last f g line a last in
-      let after = all_get g e behind unreturned rest in
+      let after = all_get g e following unreturned rest in
       let t : Returned = record { line = line; answer = a; after = reads g } in
       let on : StartsWith (reads e) (reads g) = leads (reads g) after.all (reads e) after.go_on in
       record {
         returned = by.all;
         torn = t ∷ [];
-        left = behind ++ left;
-        lines = reaches.1 ∙ sym (ap (λ l. l ++ (behind ++ left)) (map-append line_of by.all (t ∷ []) ∙ ap (λ l. l ++ line ∷ []) by.lines_are) ∙ append_assoc reaches.0 (line ∷ []) (behind ++ left));
+        left = following ++ left;
+        lines = reaches.1 ∙ sym (ap (λ l. l ++ (following ++ left)) (map-append line_of by.all (t ∷ []) ∙ ap (λ l. l ++ line ∷ []) by.lines_are) ∙ append_assoc reaches.0 (line ∷ []) (following ++ left));
         go_on = and_one (reads d) by.all (reads f) (reads e) t by.go_on here.0 on;
         borne_out = both (IsBorneOut base) by.all (t ∷ []) by.borne_out (here.1, tt);
         part = part;

@@ -19,7 +19,7 @@ use Rattle.coord_engine.specs.Facade.{Beginning, IsAfterSome, IsPastOf, MayPrint
 use Rattle.coord_engine.specs.State.{based_on}
 use Rattle.coord_engine.specs.declared.closed.Closed.{Closed}
 use Rattle.coord_server.proofs.Ends.{and_last, is_last, one_more, rested_history, rests, run_of}
-use Rattle.coord_server.proofs.OneHistory.{SaysWhatIsLeft, behind_rested, is_left, leaves_all, left_of, says_what_is_left}
+use Rattle.coord_server.proofs.OneHistory.{SaysWhatIsLeft, after_rested, is_left, leaves_all, left_of, says_what_is_left}
 use Rattle.coord_server.proofs.Starts.{on_more, printed_more}
 use Rattle.coord_server.specs.EngineDesk.{DeskState}
 use Rattle.coord_server.specs.Ending.{IsInstance, IsOneHistory, end_fault}
@@ -32,8 +32,8 @@ use Rattle.coord_server.specs.declared.instance_end.InstanceEnd.TheVariants.{Res
 use Rattle.coord_server.specs.declared.server_end.ServerEnd.{ServerEnd}
 
 -- after some steps after others
-behind : (base : World) (steps more : List Step) (bytes : List ℕ) → IsAfterSome (fold base steps) more bytes → IsAfterSome base (steps ++ more) bytes
-behind base steps more bytes after = record {
+following : (base : World) (steps more : List Step) (bytes : List ℕ) → IsAfterSome (fold base steps) more bytes → IsAfterSome base (steps ++ more) bytes
+following base steps more bytes after = record {
   number = length steps + after.number;
   within = omega (arith, after.within, length-append steps more);
   recovered = subst (Recovered bytes) (sym (ap (fold base) (take-append-add steps more after.number) ∙ fold-append steps (take after.number more) base)) after.recovered;
@@ -71,7 +71,7 @@ module _ {D : Type 0} (m : DiskModel D) where
       weaker m first.disk new _ _ (and_then m first.disk now.disk new _ _ (come.along.moments keeps) run)
       (λ bytes either. ⊎_elim
       (λ early. of_more first.world steps more bytes early)
-      (λ late. behind first.world steps more bytes (subst (λ w. IsAfterSome w more bytes) (sym come.leads) late))
+      (λ late. following first.world steps more bytes (subst (λ w. IsAfterSome w more bytes) (sym come.leads) late))
       either)
 
   -- after the instances so far, one more
@@ -104,8 +104,8 @@ module _ {D : Type 0} (m : DiskModel D) where
   leads_of first now steps (inr come) = come.leads
 
   -- the settled steps of an instance after those before it
-  pub settled_behind : (first : World) (steps : List Step) (world : World) (left : Closed D) → fold first steps ≡ world → SaysWhatIsLeft world left → first_settled first (steps ++ left.trail.items) left.settled ≡ steps ++ first_settled left.base left.trail.items left.settled
-  settled_behind first steps world left leads t =
+  pub settled_after : (first : World) (steps : List Step) (world : World) (left : Closed D) → fold first steps ≡ world → SaysWhatIsLeft world left → first_settled first (steps ++ left.trail.items) left.settled ≡ steps ++ first_settled left.base left.trail.items left.settled
+  settled_after first steps world left leads t =
       let trail = left.trail.items in
       let count : world.count ≡ first.count + length steps = ap (λ (w : World). w.count) (sym leads) ∙ fold_counts first steps in
       let base : left.base.count ≡ world.count = ap (λ (w : World). w.count) t.from in
@@ -144,7 +144,7 @@ module _ {D : Type 0} (m : DiskModel D) {V : Type 0} (talked : V → List Talk �
   pub ends_along : (first now : Kept D) (v u : V) (instance : Instance D V) (written : List Step) → RestedTo m talked most first v now u written → instance.writer.steps ≡ written ++ first_settled instance.closed.base instance.closed.trail.items instance.closed.settled → IsInstance (based_on m now.world []) talked failed most u instance → KeepsAlong m now instance.closed.trail.items instance.closed.store → HasLived m talked failed most first v instance
   ends_along first now v u instance written rested adds so along =
       let instances = rested.0 in
-      let settled = settled_behind m first.world (all_steps instances) now.world instance.closed (leads_of m first now (all_steps instances) rested.2) (says_what_is_left (based_on m now.world []) instance.closed (is_left (based_on m now.world []) so.desk instance.closed (end_fault instance.left) so.left)) in
+      let settled = settled_after m first.world (all_steps instances) now.world instance.closed (leads_of m first now (all_steps instances) rested.2) (says_what_is_left (based_on m now.world []) instance.closed (is_left (based_on m now.world []) so.desk instance.closed (end_fault instance.left) so.left)) in
       record {
         rested = instances;
         world = now.world;
@@ -163,7 +163,7 @@ module _ {D : Type 0} (m : DiskModel D) {V : Type 0} (talked : V → List Talk �
       let last : InstanceRun D V = run_of m talked failed most lived.world lived.callers instance lived.instance in
       let is = is_last m talked failed most lived.world lived.callers instance ended.served lived.instance over in
       let instances : List (InstanceRun D V) = rested ++ last ∷ [] in
-      let one : AreOneHistory first.world instances ended.closed.store ended.closed.settled = subst (λ (c : Closed D). AreOneHistory first.world instances c.store c.settled) (sym same) (behind_rested m talked failed most first.world lived.world v lived.callers rested last ended.served lived.before is) in
+      let one : AreOneHistory first.world instances ended.closed.store ended.closed.settled = subst (λ (c : Closed D). AreOneHistory first.world instances c.store c.settled) (sym same) (after_rested m talked failed most first.world lived.world v lived.callers rested last ended.served lived.before is) in
       let steps : all_steps instances ≡ all_steps rested ++ instance.closed.trail.items = and_steps rested last in
       let along : KeepsAlong m first (all_steps rested ++ instance.closed.trail.items) ended.closed.store = subst (λ (c : Closed D). KeepsAlong m first (all_steps rested ++ instance.closed.trail.items) c.store) (sym same) lived.along in
       let written : instance.writer.steps ≡ first_settled first.world (all_steps rested ++ instance.closed.trail.items) ended.closed.settled = subst (λ (c : Closed D). instance.writer.steps ≡ first_settled first.world (all_steps rested ++ instance.closed.trail.items) c.settled) (sym same) lived.written in

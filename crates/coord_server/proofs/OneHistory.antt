@@ -152,8 +152,8 @@ module _ {D : Type 0} (m : DiskModel D) {V : Type 0} (talked : V → List Talk �
 
 module _ {D : Type 0} (m : DiskModel D) {V : Type 0} (talked : V → List Talk → V → Type 0) (failed : V → V → Type 0) (most : ℕ) where
   -- those that rested, and the last one
-  pub behind_rested : (began world : World) (v u : V) (ls : List (InstanceRun D V)) (l : InstanceRun D V) (why : Option ServerFault) → HaveRested m talked most began v ls world u → IsLast m talked failed most world u l why → AreOneHistory began (ls ++ l ∷ []) l.left.store l.left.settled
-  behind_rested began world v u ls l why rested last = one_history began world ls l (instances_go_on m talked most began world v u ls rested) (says_what_is_left (based_on m world []) l.left (is_left (based_on m world []) l.desk l.left why last.history))
+  pub after_rested : (began world : World) (v u : V) (ls : List (InstanceRun D V)) (l : InstanceRun D V) (why : Option ServerFault) → HaveRested m talked most began v ls world u → IsLast m talked failed most world u l why → AreOneHistory began (ls ++ l ∷ []) l.left.store l.left.settled
+  after_rested began world v u ls l why rested last = one_history began world ls l (instances_go_on m talked most began world v u ls rested) (says_what_is_left (based_on m world []) l.left (is_left (based_on m world []) l.desk l.left why last.history))
 
   -- instances are some that rested, and a last one
   apart : (began : World) (v w : V) (instances : List (InstanceRun D V)) (why : Option ServerFault) (left : Closed D) → AreInstances m talked failed most began v instances why left w
@@ -168,4 +168,4 @@ module _ {D : Type 0} (m : DiskModel D) {V : Type 0} (talked : V → List Talk �
   instances_are_one began v w instances why left is =
       let at = apart began v w instances why left is in
       subst (λ ls. AreOneHistory began ls left.store left.settled) (sym at.4)
-      (subst (λ (c : Closed D). AreOneHistory began (at.0 ++ at.1 ∷ []) c.store c.settled) at.7 (behind_rested began at.2 v at.3 at.0 at.1 why at.5 at.6))
+      (subst (λ (c : Closed D). AreOneHistory began (at.0 ++ at.1 ∷ []) c.store c.settled) at.7 (after_rested began at.2 v at.3 at.0 at.1 why at.5 at.6))

@@ -19,8 +19,8 @@ cancel : (xs ys zs : List Step) → xs ++ ys ≡ xs ++ zs → ys ≡ zs
 cancel xs ys zs is = sym (drop_all xs ys) ∙ ap (drop (length xs)) is ∙ drop_all xs zs
 
 -- after the same steps
-pub begins_behind : (earlier first later : List Step) → StartsWith (earlier ++ later) (earlier ++ first) → StartsWith later first
-begins_behind earlier first later (others, is) = (others, cancel earlier later (first ++ others) (is ∙ append_assoc earlier first others))
+pub begins_after : (earlier first later : List Step) → StartsWith (earlier ++ later) (earlier ++ first) → StartsWith later first
+begins_after earlier first later (others, is) = (others, cancel earlier later (first ++ others) (is ∙ append_assoc earlier first others))
 
 -- what was read after earlier steps
 pub read_back : (history : TableId) (earlier settled : List Step) (read : Beginning) → HasReadSettled history earlier settled read → read_in earlier read ≡ settled
@@ -36,7 +36,7 @@ reads_nothing history earlier read is = is ∙ ap (λ steps. record { history = 
 -- some steps that were read begin with others
 pub begins_so : (history : TableId) (earlier first later : List Step) (before now : Beginning) → HasReadSettled history earlier first before → HasReadSettled history earlier later now → StartsWith now.steps before.steps → StartsWith later first
 begins_so history earlier first later before now was is begins =
-    begins_behind earlier first later
+    begins_after earlier first later
     (subst (λ steps. StartsWith steps (earlier ++ first)) (ap (λ (r : Beginning). r.steps) is)
     (subst (λ steps. StartsWith now.steps steps) (ap (λ (r : Beginning). r.steps) was) begins))
 

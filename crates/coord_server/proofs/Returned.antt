@@ -13,7 +13,7 @@ use Rattle.coord_ledger.specs.declared.ticket.Note.{Note}
 use Rattle.coord_ledger.specs.Facade.{Claim, IsCollectable, LedgerGives, Log, GivesSettled as LogGives, kinds_of, reply_of, settled_steps, settled_world}
 use Rattle.coord_engine.specs.declared.closed.Closed.{Closed}
 use Rattle.coord_engine.specs.Facade.{AnswersStep, AtSomeMoment, Basis, LedgerAndNotes, all_notes, engine_verdict, note_of, notes_of}
-use Rattle.coord_server.specs.Returned.{InstanceGives, InstancesLeaveSteps, NamesItsStep, NotesAreReplies, NotesEndALife, RepliesNameSteps}
+use Rattle.coord_server.specs.Returned.{InstanceGives, InstancesLeaveSteps, NamesItsStep, NotesAreReplies, NotesEndAnInstance, RepliesNameSteps}
 
 -- the note's step stands at this place after a world, with that reply
 record IsRepliedIn (w : World) (steps : List Step) (note : Note) (place : ℕ) : Type 0 where
@@ -108,5 +108,5 @@ instances_leave_steps D P b desk left history keeps image is =
 
 -- ---- how long an instance is
 
-pub notes_end_an_instance : (D P : Type 0) → NotesEndALife D P
+pub notes_end_an_instance : (D P : Type 0) → NotesEndAnInstance D P
 notes_end_an_instance D P b desk most long (kept, (trail, moment, is), fewer) = omega (arith, long, is, fewer)

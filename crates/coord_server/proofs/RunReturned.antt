@@ -25,7 +25,7 @@ use Rattle.coord_engine.proofs.Histories.{first_of_first, none_of}
 use Rattle.coord_engine.specs.Facade.{Basis, StartsWith, based_on, first_settled}
 use Rattle.coord_engine.specs.declared.closed.Closed.{Closed}
 use Rattle.coord_server.proofs.InOrder.{from_earlier, answered_in_order}
-use Rattle.coord_server.proofs.Moments.{all_of_settled, settled_behind}
+use Rattle.coord_server.proofs.Moments.{all_of_settled, settled_after}
 use Rattle.coord_server.proofs.OneHistory.{is_left, leaves_all, left_of, says_what_is_left}
 use Rattle.coord_server.specs.EngineDesk.{DeskState}
 use Rattle.coord_server.specs.Ending.{IsClosed, Local, ServedWhileOpen, Serves, ServesInstance}
@@ -63,17 +63,17 @@ all_lead base first last (c ∷ cs) is = first_of_first first is.0 last (leads f
 
 -- ---- an instance, after the steps of those before it
 
-behind_these : (before now first : List Step) → StartsWith now first → StartsWith (before ++ now) (before ++ first)
-behind_these before now first is = (is.0, ap (λ l. before ++ l) is.1 ∙ sym (append_assoc before first is.0))
+after_these : (before now first : List Step) → StartsWith now first → StartsWith (before ++ now) (before ++ first)
+after_these before now first is = (is.0, ap (λ l. before ++ l) is.1 ∙ sym (append_assoc before first is.0))
 
 -- the step at a place after others
-there_behind : (before steps : List Step) (place : ℕ) (s : Step) → slice_get steps place ≡ Some s → slice_get (before ++ steps) (length before + place) ≡ Some s
-there_behind [] steps place s there =
+there_after : (before steps : List Step) (place : ℕ) (s : Step) → slice_get steps place ≡ Some s → slice_get (before ++ steps) (length before + place) ≡ Some s
+there_after [] steps place s there =
     let same : place ≡ 0 + place = omega arith in
     subst (λ n. slice_get steps n ≡ Some s) same there
-there_behind (x ∷ before) steps place s there =
+there_after (x ∷ before) steps place s there =
     let same : suc (length before + place) ≡ length (x ∷ before) + place = omega arith in
-    subst (λ n. slice_get (x ∷ (before ++ steps)) n ≡ Some s) same (there_behind before steps place s there)
+    subst (λ n. slice_get (x ∷ (before ++ steps)) n ≡ Some s) same (there_after before steps place s there)
 
 there_before : (before steps : List Step) (place : ℕ) (s : Step) → slice_get before place ≡ Some s → slice_get (before ++ steps) place ≡ Some s
 there_before [] steps place s there = absurd cc
@@ -121,8 +121,8 @@ module _ (began : World) (before : List Step) where
   answers_same (t ∷ returned) = ap (λ l. t.answer ∷ l) (answers_same returned)
 
   go_on : (first : List Step) (returned : List Returned) (last : List Step) → GoOn first returned last → GoOn (before ++ first) (map lift returned) (before ++ last)
-  go_on first [] last on = behind_these before last first on
-  go_on first (t ∷ returned) last on = (behind_these before t.after first on.0, go_on t.after returned last on.1)
+  go_on first [] last on = after_these before last first on
+  go_on first (t ∷ returned) last on = (after_these before t.after first on.0, go_on t.after returned last on.1)
 
   -- the reply that the world of an instance keeps was given by an earlier instance, or the first world keeps it
   kept_reply : (steps : List Step) (s : Step) (r : Reply) → IsKeptBy base (record { step = r.step; what = s; kind = r.kind }) → IsOwnReply began (before ++ steps) s r
@@ -150,7 +150,7 @@ module _ (began : World) (before : List Step) where
   own_reply : (steps : List Step) (s : Step) (r : Reply) → IsOwnReply base steps s r → IsOwnReply began (before ++ steps) s r
   own_reply steps s r (inl (place, there, is)) = inl (
     length before + place,
-    there_behind before steps place s there,
+    there_after before steps place s there,
     ap (λ l. reply (fold began l) s) (take-append-add before steps place) ∙ ap (λ (w : World). reply w s) (fold-append before (take place steps) began) ∙ is,
   )
   own_reply steps s r (inr kept) = kept_reply steps s r kept
@@ -195,7 +195,7 @@ module _ (began : World) (before : List Step) where
       }
 
   all_in_order : (first : List Step) (cs : List Connection) (last : List Step) → AllInOrder base first cs last → AllInOrder began (before ++ first) cs (before ++ last)
-  all_in_order first [] last is = behind_these before last first is
+  all_in_order first [] last is = after_these before last first is
   all_in_order first (c ∷ cs) last is = (before ++ is.0, writes first c.talk is.0 is.1, all_in_order is.0 cs last is.2)
 
 -- ---- the connections of one instance
@@ -267,9 +267,9 @@ module _ {D : Type 0} (m : DiskModel D) {V : Type 0} (talked : V → List Talk �
       let here : settled ≡ before ++ first_settled instance.left.base instance.left.trail.items instance.left.settled =
       all ∙ ap (λ l. first_settled began (before ++ l) left.settled) (append-nil instance.left.trail.items)
       ∙ ap (λ (c : Closed D). first_settled began (before ++ instance.left.trail.items) c.settled) (sym is.1)
-      ∙ settled_behind m began before world instance.left (sym from) t
+      ∙ settled_after m began before world instance.left (sym from) t
       in
-      let on : StartsWith settled (before ++ instance.desk.read) = subst (λ l. StartsWith l (before ++ instance.desk.read)) (sym here) (behind_these before _ instance.desk.read last.returned) in
+      let on : StartsWith settled (before ++ instance.desk.read) = subst (λ l. StartsWith l (before ++ instance.desk.read)) (sym here) (after_these before _ instance.desk.read last.returned) in
       record {
         connections = own.connections;
         had = (own.connections, [], sym (append-nil own.connections), own.had, refl);
@@ -284,14 +284,14 @@ module _ {D : Type 0} (m : DiskModel D) {V : Type 0} (talked : V → List Talk �
       let t = says_what_is_left b instance.left (left_of b instance.desk instance.left rests.history) in
       let from_next : instance.left.store.world ≡ fold began (before ++ trail) = leaves_all world instance.left t rests.all_settled ∙ ap (λ (x : World). fold x trail) from ∙ sym (fold-append before trail began) in
       let rest = gone settled (before ++ trail) instance.left.store.world instance.callers w (next ∷ later) why left from_next (all ∙ ap (λ l. first_settled began l left.settled) (sym (append_assoc before trail (all_steps (next ∷ later))))) is.1 in
-      let on : StartsWith (before ++ trail) (before ++ instance.desk.read) = behind_these before trail instance.desk.read (subst (λ l. StartsWith l instance.desk.read) (all_of_settled m instance.left rests.all_settled) rests.returned) in
+      let on : StartsWith (before ++ trail) (before ++ instance.desk.read) = after_these before trail instance.desk.read (subst (λ l. StartsWith l instance.desk.read) (all_of_settled m instance.left rests.all_settled) rests.returned) in
       let mine : AllInOrder began before own.connections (before ++ trail) = to_later began before (before ++ instance.desk.read) (before ++ trail) own.connections (lifted before instance.desk.read world own.connections from own.returned) on in
-      let behind : StartsWith settled (before ++ trail) = all_lead began (before ++ trail) settled rest.connections rest.returned in
+      let following : StartsWith settled (before ++ trail) = all_lead began (before ++ trail) settled rest.connections rest.returned in
       record {
         connections = own.connections ++ rest.connections;
         had = (own.connections, rest.connections, refl, own.had, rest.had);
         returned = and_later began before (before ++ trail) settled own.connections rest.connections mine rest.returned;
-        reads = (t.from ∙ from, first_of_first (before ++ instance.desk.read) (before ++ trail) settled on behind, rest.reads);
+        reads = (t.from ∙ from, first_of_first (before ++ instance.desk.read) (before ++ trail) settled on following, rest.reads);
       }
 
 pub run_answers_from_one_history : {D V W : Type 0} (m : DiskModel D) (talked : V → List Talk → V → Type 0) (failed : V → V → Type 0) (contents : W → Option (List ℕ)) (gives : List Step → ℕ → ℕ → ℕ → Type 0) → RunAnswersFromOneHistory m talked failed contents gives

@@ -124,10 +124,10 @@ module _ {D : Type 0} (answers : D → Request → Answer → D → Type 0) (see
   served d e read text (Err serve.Turns) ((returned, last, reaches, is), many) =
       let all = all_get d e reaches.0 returned reaches.2 in
       (all.0, lines_distinguish (seen e) returned text all.1 is)
-  served d e read text (Err serve.Write) (returned, line, behind, left, f, g, a, unreturned, part, reaches, last, rest, posted, first, is) =
+  served d e read text (Err serve.Write) (returned, line, following, left, f, g, a, unreturned, part, reaches, last, rest, posted, first, is) =
       let all = all_get d f reaches.0 returned reaches.2 in
       let here = gets_at_last f g line a last in
-      let on = (all_get g e behind unreturned rest).0 in
+      let on = (all_get g e following unreturned rest).0 in
       let le : seen f ≤ seen e = omega (arith, here.0, on) in (
         omega (arith, all.0, le),
         record { returned = returned; up_to = all_further (seen f) (seen e) returned le all.1; part = part; broken = inr (a, further (seen g) (seen e) a on here.1, first); text_is = is },

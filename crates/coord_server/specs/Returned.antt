@@ -90,5 +90,5 @@ InstancesLeaveSteps D P =
     → b.keeps_model left.store.disk ≡ true → (image : List ℕ) → IsImage (b.present left.store.disk) image → InstanceGives left image
 
 -- A desk that has noted as many steps as an instance has never keeps fewer, whatever its engine keeps.
-abbrev pub NotesEndALife : Type 0 → Type 0 → Type 0
-NotesEndALife D P = (b : Basis D) (desk : DeskState P) (most : ℕ) → most ≤ length desk.notes → ¬ HasKeptFewer (DeskKeeps b) desk most
+abbrev pub NotesEndAnInstance : Type 0 → Type 0 → Type 0
+NotesEndAnInstance D P = (b : Basis D) (desk : DeskState P) (most : ℕ) → most ≤ length desk.notes → ¬ HasKeptFewer (DeskKeeps b) desk most

@@ -6,7 +6,7 @@ ghost use Rattle.coord_server.specs.InOrder.{AnsweredInOrder};
 ghost use Rattle.coord_server.specs.Instances.{InstancesAreOne};
 ghost use Rattle.coord_server.specs.RunReturned.{RunAnswersFromOneHistory};
 ghost use Rattle.coord_server.specs.SignalsBetween.{PrintedBetween, PrintedWithDrops};
-ghost use Rattle.coord_server.specs.Returned.{InstancesLeaveSteps, NotesAreReplies, NotesEndALife, RepliesNameSteps, ReturnedIsSettled};
+ghost use Rattle.coord_server.specs.Returned.{InstancesLeaveSteps, NotesAreReplies, NotesEndAnInstance, RepliesNameSteps, ReturnedIsSettled};
 ghost use Rattle.coord_server.specs.WorkedReturned.{ReturnUpToThird};
 
 use crate::SignalSource;
@@ -84,5 +84,5 @@ pub fn instances_leave_steps<D: Disk, P: Port>()
 /// No connection begins at a desk that has noted as many steps as an instance has, whatever its engine
 /// keeps.
 pub fn notes_end_an_instance<D: Disk, P: Port>()
-    ensures { NotesEndALife D P }
+    ensures { NotesEndAnInstance D P }
 {}

@@ -33,10 +33,10 @@ use Rattle.coord_serving_members.specs.Server.{AreReadIn, IsLookAt, NoMixOverASe
 
 -- ---- answers, one after the other
 
-go_on_behind : (first now last : List Step) (returned later : List Returned) → GoOn first returned now → GoOn now later last → GoOn first (returned ++ later) last
-go_on_behind first now last [] [] is on = first_of_first first now last is on
-go_on_behind first now last [] (t ∷ later) is on = (first_of_first first now t.after is on.0, on.1)
-go_on_behind first now last (t ∷ returned) later is on = (is.0, go_on_behind t.after now last returned later is.1 on)
+go_on_after : (first now last : List Step) (returned later : List Returned) → GoOn first returned now → GoOn now later last → GoOn first (returned ++ later) last
+go_on_after first now last [] [] is on = first_of_first first now last is on
+go_on_after first now last [] (t ∷ later) is on = (first_of_first first now t.after is on.0, on.1)
+go_on_after first now last (t ∷ returned) later is on = (is.0, go_on_after t.after now last returned later is.1 on)
 
 both : (P : Returned → Type 0) (xs ys : List Returned) → AllByRecursion P xs → AllByRecursion P ys → AllByRecursion P (xs ++ ys)
 both P [] ys is also = also
@@ -44,7 +44,7 @@ both P (x ∷ xs) ys is also = (is.0, both P xs ys is.1 also)
 
 go_on_over : (world : World) (first : List Step) (cs : List Connection) (last : List Step) → (is : AllInOrder world first cs last) → GoOn first (returned_over world first cs last is) last
 go_on_over world first [] last is = is
-go_on_over world first (c ∷ cs) last is = go_on_behind first is.0 last (is.1.returned ++ is.1.torn) (returned_over world is.0 cs last is.2) is.1.go_on (go_on_over world is.0 cs last is.2)
+go_on_over world first (c ∷ cs) last is = go_on_after first is.0 last (is.1.returned ++ is.1.torn) (returned_over world is.0 cs last is.2) is.1.go_on (go_on_over world is.0 cs last is.2)
 
 borne_out_over : (world : World) (first : List Step) (cs : List Connection) (last : List Step) → (is : AllInOrder world first cs last) → AllByRecursion (IsBorneOut world) (returned_over world first cs last is)
 borne_out_over world first [] last is = tt

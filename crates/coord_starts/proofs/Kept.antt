@@ -16,7 +16,7 @@ use Rattle.coord_world.proofs.Facade.{kept_reply_law}
 use Rattle.coord_ledger.specs.machine.Answers.{IsOneOf}
 use Rattle.coord_following.specs.Histories.{Raises, Takes, Turn, turned}
 use Rattle.coord_starts.specs.Returned.{IsLastKeptOrder, KeepsLast, led, outcomes}
-use Rattle.coord_starts.proofs.Turns.{one_behind, outcome_of, outcomes-append}
+use Rattle.coord_starts.proofs.Turns.{one_after, outcome_of, outcomes-append}
 
 -- ---- one step
 
@@ -84,7 +84,7 @@ last_is_given w turns c o last =
     let given = outcomes-append last.before (Takes q ∷ last.rest) w in
     subst (λ ts. IsOneOf o.reply (replies w ts)) (sym last.order)
     (subst (λ os. IsOneOf o.reply (map (λ (p : StepOutcome). p.reply) os)) (sym given)
-    (one_behind (λ (p : StepOutcome). p.reply) o.reply (outcomes w last.before) (outcomes (led w last.before) (Takes q ∷ last.rest)) (inl last.replied)))
+    (one_after (λ (p : StepOutcome). p.reply) o.reply (outcomes w last.before) (outcomes (led w last.before) (Takes q ∷ last.rest)) (inl last.replied)))
 
 -- what the world after some turns keeps was given by one of them, or kept before
 pub kept_is_given : (turns : List Turn) (w : World) (client : ℕ) (last : Session) → get (led w turns).sessions client ≡ Some last → IsReplyIn w turns last.reply

@@ -32,7 +32,7 @@ use Rattle.coord_starts.specs.OneHistory.{StartsAreOne}
 use Rattle.coord_starts.specs.Starts.{AreStarts, IsStart, MayServe, Raises, Serves, Start, at_end, left_by, released_in, released_of, replied_in, replied_of, turns_in, turns_of}
 use Rattle.coord_starts.specs.Returned.{IsReplyTo, led, outcomes}
 use Rattle.coord_starts.proofs.Kept.{IsReplyIn, keeps_last, kept_is_given, replies}
-use Rattle.coord_starts.proofs.Turns.{counted, history-append, history-steps, led-append, led-steps, numbered, one_behind, one_more, outcomes-append, outcomes-steps, reply_to}
+use Rattle.coord_starts.proofs.Turns.{counted, history-append, history-steps, led-append, led-steps, numbered, one_after, one_more, outcomes-append, outcomes-steps, reply_to}
 
 -- a predicate on all items, in a weaker form
 weaker : {A : Type 0} (P Q : A → Type 0) (xs : List A) → ((x : A) → P x → Q x) → AllByRecursion P xs → AllByRecursion Q xs
@@ -142,10 +142,10 @@ reply_more xs ys w r (inl one) =
     inl (subst (λ os. IsOneOf r (map (λ (o : StepOutcome). o.reply) os)) (sym (outcomes-append xs ys w)) (one_more (λ (o : StepOutcome). o.reply) r (outcomes w xs) (outcomes (led w xs) ys) one))
 reply_more xs ys w r (inr kept) = inr kept
 
-reply_behind : (xs ys : List Turn) (w : World) (r : Reply) → IsReplyIn (led w xs) ys r → IsReplyIn w (xs ++ ys) r
-reply_behind xs ys w r (inl one) =
-    inl (subst (λ os. IsOneOf r (map (λ (o : StepOutcome). o.reply) os)) (sym (outcomes-append xs ys w)) (one_behind (λ (o : StepOutcome). o.reply) r (outcomes w xs) (outcomes (led w xs) ys) one))
-reply_behind xs ys w r (inr kept) = subst (IsReplyIn w (xs ++ ys)) kept.1.1.1 (reply_more xs ys w kept.1.0.reply (kept_is_given xs w kept.0 kept.1.0 kept.1.1.0))
+reply_after : (xs ys : List Turn) (w : World) (r : Reply) → IsReplyIn (led w xs) ys r → IsReplyIn w (xs ++ ys) r
+reply_after xs ys w r (inl one) =
+    inl (subst (λ os. IsOneOf r (map (λ (o : StepOutcome). o.reply) os)) (sym (outcomes-append xs ys w)) (one_after (λ (o : StepOutcome). o.reply) r (outcomes w xs) (outcomes (led w xs) ys) one))
+reply_after xs ys w r (inr kept) = subst (IsReplyIn w (xs ++ ys)) kept.1.1.1 (reply_more xs ys w kept.1.0.reply (kept_is_given xs w kept.0 kept.1.0 kept.1.1.0))
 
 all_replies : (starts : List Start) (w : World) → IsSound w → AreStarts w starts → AllByRecursion (IsReplyIn w (turns_of w starts)) (replied_of w starts)
 all_replies [] w sound are = tt
@@ -154,7 +154,7 @@ all_replies (s ∷ starts) w sound are =
     let ys = turns_of (led w xs) starts in
     all_both (IsReplyIn w (xs ++ ys)) (replied_in w s) (replied_of (led w xs) starts)
     (weaker (IsReplyIn w xs) (IsReplyIn w (xs ++ ys)) (replied_in w s) (reply_more xs ys w) (start_replies w s sound are.0))
-    (weaker (IsReplyIn (led w xs) ys) (IsReplyIn w (xs ++ ys)) (replied_of (led w xs) starts) (reply_behind xs ys w) (all_replies starts (led w xs) (start_sound w s sound are.0) are.1))
+    (weaker (IsReplyIn (led w xs) ys) (IsReplyIn w (xs ++ ys)) (replied_of (led w xs) starts) (reply_after xs ys w) (all_replies starts (led w xs) (start_sound w s sound are.0) are.1))
 
 all_releases : (starts : List Start) (w : World) → IsSound w → AreStarts w starts → IsPartOf (released_first (released_of w starts)) (releases_of (outcomes w (turns_of w starts)))
 all_releases [] w sound are = tt

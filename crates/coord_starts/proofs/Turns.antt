@@ -77,6 +77,6 @@ one_more f x [] ys one = absurd one
 one_more f x (y ∷ xs) ys (inl same) = inl same
 one_more f x (y ∷ xs) ys (inr one) = inr (one_more f x xs ys one)
 
-pub one_behind : {A B : Type 0} (f : A → B) (x : B) (xs ys : List A) → IsOneOf x (map f ys) → IsOneOf x (map f (xs ++ ys))
-one_behind f x [] ys one = one
-one_behind f x (y ∷ xs) ys one = inr (one_behind f x xs ys one)
+pub one_after : {A B : Type 0} (f : A → B) (x : B) (xs ys : List A) → IsOneOf x (map f ys) → IsOneOf x (map f (xs ++ ys))
+one_after f x [] ys one = one
+one_after f x (y ∷ xs) ys one = inr (one_after f x xs ys one)

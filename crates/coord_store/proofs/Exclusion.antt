@@ -6,7 +6,7 @@ use Rattle.coord_batch.proofs.SpellingLaws.{batches_prefix_free}
 use Rattle.coord_codec.specs.Worlds.{world}
 use Rattle.coord_codec.proofs.WorldGrammars.{worlds_prefix_free}
 use Rattle.coord_journal.specs.Text.{Content}
-use Rattle.coord_journal.proofs.Texts.{text_same, text_header, behind_header}
+use Rattle.coord_journal.proofs.Texts.{text_same, text_header, after_header}
 use Rattle.coord_world.specs.Facade.{World, fold, rows_of, InRange, Legal}
 use Rattle.coord_store.specs.Laws.{RecoveredIsOne, RecoveredIsOpened}
 use Rattle.coord_store.specs.Recovered.{Gives, HasSnapshot, IsBody, Replays}
@@ -101,7 +101,7 @@ text_unrefused bytes w fault recovered refused =
 -- a text begins with a header
 begins_with_header : (content : Content) (bytes : List ℕ) → IsText content bytes → BeginsWithHeader bytes
 begins_with_header content bytes is =
-    let text = is.3 in (text.selector, is.0, behind_header bytes content is.0 is.1 is.2 text, text_header bytes content is.0 is.1 is.2 text)
+    let text = is.3 in (text.selector, is.0, after_header bytes content is.0 is.1 is.2 text, text_header bytes content is.0 is.1 is.2 text)
 
 -- the journal of such a text is refused for lack of memory or by the device alone
 pub journal_unrefused : (bytes : List ℕ) (content : Content) (why : JournalFault) → IsText content bytes → JournalRefuses bytes why → IsPassing (store_fault_of why)

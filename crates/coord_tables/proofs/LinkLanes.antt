@@ -185,7 +185,7 @@ back_and_there (e ∷ es) = ap (λ l. e ∷ l) (back_and_there es)
 pub rows_come_back : (rows : List LinkRow) → LinksRise rows → link_rows (links_of rows) ≡ rows
 rows_come_back rows is = ap (map link_row) (entries-from_sorted pair_cmp_total (map link_entry rows) is.rise) ∙ there_and_back rows
 
--- rows tell links apart
+-- rows distinguish links
 pub rows_distinguish_links : (s t : Links) → link_rows s ≡ link_rows t → s ≡ t
 rows_distinguish_links s t same = same_entries_table s t (sym (back_and_there (entries s)) ∙ ap (map link_entry) same ∙ back_and_there (entries t))
 

@@ -180,19 +180,19 @@ below_each k q (x ∷ xs) below any =
     by_test (nat_eq x q) (λ b. (b || list_any (λ y. nat_eq y q) xs) ≡ true → k < q) (λ is _. grind (arith, nat_tests, below.0, is)) (λ _ further. below_each k q xs below.1 further) any
 
 -- a set's first member, and the rest after it
-behind_first : (s : NodeSet) (k : ℕ) (xs : List ℕ) → items s ≡ xs → IsStrictlySortedBy nat_cmp xs → first_of xs ≡ Some k → items s ≡ k ∷ items (remove s k)
-behind_first s k [] is sorted e = cc
-behind_first s k (x ∷ xs) is sorted e =
+after_first : (s : NodeSet) (k : ℕ) (xs : List ℕ) → items s ≡ xs → IsStrictlySortedBy nat_cmp xs → first_of xs ≡ Some k → items s ≡ k ∷ items (remove s k)
+after_first s k [] is sorted e = cc
+after_first s k (x ∷ xs) is sorted e =
     let same : x ≡ k = cc in
     let member : (q : ℕ) → contains s q ≡ (nat_eq x q || list_any (λ y. nat_eq y q) xs) = λ q. contains-items s q ∙ ap (list_any (λ y. nat_eq y q)) is in
     items_least s k (grind (arith, nat_tests, member k, same))
     (λ q has. least q same (sym (member q) ∙ has) (below_each x q xs (sorted_head nat_cmp x xs sorted)))
   where
     least : (q : ℕ) → x ≡ k → (nat_eq x q || list_any (λ y. nat_eq y q) xs) ≡ true → (list_any (λ y. nat_eq y q) xs ≡ true → x < q) → k ≤ q
-    least q same any behind = grind (arith, nat_tests)
+    least q same any following = grind (arith, nat_tests)
 
 pub items-first : (s : NodeSet) (k : ℕ) → first s ≡ Some k → items s ≡ k ∷ items (remove s k)
-items-first s k e = behind_first s k (items s) refl (items-sorted s) e
+items-first s k e = after_first s k (items s) refl (items-sorted s) e
 
 pub len-first : (s : NodeSet) (k : ℕ) → first s ≡ Some k → len s ≡ len (remove s k) + 1
 len-first s k e = grind (arith, len_of_items s, len_of_items (remove s k), ap length (items-first s k e))

@@ -26,9 +26,9 @@ begins_with [] m = false
 begins_with (front ∷ ms) m = same_msg front m
 
 -- the list without its first message
-abbrev pub behind_front : List Msg → List Msg
-behind_front [] = []
-behind_front (m ∷ ms) = ms
+abbrev pub after_front : List Msg → List Msg
+after_front [] = []
+after_front (m ∷ ms) = ms
 
 -- the number by which a message is stored; `msg_from` converts it back
 abbrev pub msg_number : Msg → ℕ

@@ -1,7 +1,7 @@
 -- What a step makes of the view is the ideal step.
 use Rattle.std.proofs.Common.{◌≡◌, ℕ, ◌+◌, ◌≤◌, ◌&&◌, ◌++◌, Option, Some, None, refl, ap, ◌∙◌, arith, cond, eqb, is_some}
 use Rattle.std.proofs.lemmas.Bool.Decides.{nat_tests}
-use Rattle.coord_types.specs.Facade.{NodeState, behind_front, get, no_node}
+use Rattle.coord_types.specs.Facade.{NodeState, after_front, get, no_node}
 use Rattle.coord_types.specs.declared.steps.Command.TheVariants.{Drop, Join, Add, Remove, Reset, Confirm}
 use Rattle.coord_types.proofs.Tables.{option_map}
 use Rattle.coord_link.specs.LaneMachine.{Lane, sent, took, cleared, transit, new_lane}
@@ -90,7 +90,7 @@ module _ (w : World) (counts : AllCount w) where
       ways : (x y : ℕ) (o : Option Lane) → lane_at w.links x y ≡ o →
           transit_or_none (option_map (λ l. cond (eqb x u) (sent (added d y) l) l) o) ≡ cond (eqb x u && is_some o) (transit_or_none o ++ added d y) (transit_or_none o)
       ways x y None e = grind (arith, nat_tests)
-      ways x y (Some l) e = let behind = transit-sent l (added d y) (counts x y l e) in grind (arith, nat_tests, behind)
+      ways x y (Some l) e = let following = transit-sent l (added d y) (counts x y l e) in grind (arith, nat_tests, following)
 
   -- a front that is taken leaves the way
   pub view_took : (v u : ℕ) (k : Lane) → lane_at w.links v u ≡ Some k → k.got ≡ k.base → view (on_lane w v u took) ≡ headed (view w) v u
@@ -102,9 +102,9 @@ module _ (w : World) (counts : AllCount w) where
   }
     where
       ways : (x y : ℕ) (o : Option Lane) → lane_at w.links x y ≡ o →
-          transit_or_none (option_map (λ l. cond (is_lane (x, y) v u) (took l) l) o) ≡ cond (eqb x v && eqb y u) (behind_front (transit_or_none o)) (transit_or_none o)
+          transit_or_none (option_map (λ l. cond (is_lane (x, y) v u) (took l) l) o) ≡ cond (eqb x v && eqb y u) (after_front (transit_or_none o)) (transit_or_none o)
       ways x y None e = grind (arith, nat_tests)
-      ways x y (Some l) e = by_test (is_lane (x, y) v u) (λ b. transit (cond b (took l) l) ≡ cond b (behind_front (transit l)) (transit l))
+      ways x y (Some l) e = by_test (is_lane (x, y) v u) (λ b. transit (cond b (took l) l) ≡ cond b (after_front (transit l)) (transit l))
           (λ t. transit-took l (rw (it_is w v u x y k l there e t) idle)) (λ _. refl)
 
   -- a front that is cleared was not on the way

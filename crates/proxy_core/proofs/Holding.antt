@@ -255,8 +255,8 @@ over_push a ended delivered requests going over d is =
     let o = over d is in
     (o.0, o.1 ∙ sym same)
 
-over_told : (t : Delivery) (ended : List ℕ) (delivered : List Delivery) (requests : List Request) → is_ended t.to ended ≡ false → Over ended delivered requests → Over ended (delivered ++ t ∷ []) requests
-over_told t ended delivered requests going over d is =
+over_delivered : (t : Delivery) (ended : List ℕ) (delivered : List Delivery) (requests : List Request) → is_ended t.to ended ≡ false → Over ended delivered requests → Over ended (delivered ++ t ∷ []) requests
+over_delivered t ended delivered requests going over d is =
     let apart : (t.to == d) ≡ false = ended_apart t.to d ended going is in
     let same : places_delivered d (delivered ++ t ∷ []) ≡ places_delivered d delivered =
     delivered_push d delivered t ∙ ap (λ b. places_delivered d delivered ++ place_if b t.place) apart ∙ append-nil (places_delivered d delivered) in
@@ -353,7 +353,7 @@ came_denied r w in_flight queued c role line going may_not none h =
       twice = h.twice;
       within = h.within;
       turn = turn_denied r a w.ended w.delivered w.proxy.refused in_flight queued w.requests none h.turn;
-      over = over_told t w.ended w.delivered (w.requests ++ a ∷ []) going (over_push a w.ended w.delivered w.requests going h.over);
+      over = over_delivered t w.ended w.delivered (w.requests ++ a ∷ []) going (over_push a w.ended w.delivered w.requests going h.over);
       own = own_denied (IsAnswerTo r (w.requests ++ a ∷ []) w.sent) w.delivered w.answers c a.place (own_requested r w.requests w.sent a (by_server w.delivered) w.answers h.own);
       denied = all_append (IsDeniedRightly r (w.requests ++ a ∷ [])) w.delivered (t ∷ []) (all_weaker (IsDeniedRightly r w.requests) (IsDeniedRightly r (w.requests ++ a ∷ [])) (λ x. more_denied_rightly r w.requests (a ∷ []) x) w.delivered h.denied) ((a, Contains-push w.requests a, refl, refl, may_not), tt);
       in_flight = all_weaker (IsGood r w.requests) (IsGood r (w.requests ++ a ∷ [])) (λ x. more_good r w.requests a x) in_flight h.in_flight;
@@ -584,10 +584,10 @@ turn_rest : (a : Request) (more : List Request) (delivered : List Delivery) (k :
     → places_delivered d delivered ++ hand d k (a ∷ more) queued ≡ places_of d requests → places_delivered d delivered ++ hand d k more queued ≡ places_of d requests
 turn_rest a more delivered k queued requests d apart turn = sym (ap (λ l. places_delivered d delivered ++ l) (hand_rest d k a more queued apart)) ∙ turn
 
-turn_told : (a : Request) (more : List Request) (ended : List ℕ) (delivered : List Delivery) (k : ℕ) (queued requests : List Request) (answer : List ℕ) → places_of a.from (take k queued) ≡ []
+turn_delivered : (a : Request) (more : List Request) (ended : List ℕ) (delivered : List Delivery) (k : ℕ) (queued requests : List Request) (answer : List ℕ) → places_of a.from (take k queued) ≡ []
     → Turn ended delivered k (a ∷ more) queued requests
     → Turn ended (delivered ++ (record { to = a.from; place = a.place; answer = Some answer }) ∷ []) k more queued requests
-turn_told a more ended delivered k queued requests answer oldest turn d going =
+turn_delivered a more ended delivered k queued requests answer oldest turn d going =
     let own : List ℕ = place_if (a.from == d) a.place in
     ap (λ l. l ++ hand d k more queued) (delivered_push d delivered (record { to = a.from; place = a.place; answer = Some answer }))
     ∙ append_assoc (places_delivered d delivered) own (hand d k more queued)
@@ -597,9 +597,9 @@ turn_told a more ended delivered k queued requests answer oldest turn d going =
 few_rest : (a : Pending) (more waiting : List Pending) → Few (a ∷ more) waiting → Few more waiting
 few_rest a more waiting few d = let before = few d in let less = count_rest (is_from d) (a ∷ more) in omega (arith, before, less)
 
-own_told : (P : Delivery → Answer → Type 0) (delivered : List Delivery) (answers : List Answer) (c place : ℕ) (answer : List ℕ) (h : Answer) → AreOf P (by_server delivered) answers → P (record { to = c; place = place; answer = Some answer }) h
+own_delivered : (P : Delivery → Answer → Type 0) (delivered : List Delivery) (answers : List Answer) (c place : ℕ) (answer : List ℕ) (h : Answer) → AreOf P (by_server delivered) answers → P (record { to = c; place = place; answer = Some answer }) h
     → AreOf P (by_server (delivered ++ (record { to = c; place = place; answer = Some answer }) ∷ [])) (answers ++ h ∷ [])
-own_told P delivered answers c place answer h own is =
+own_delivered P delivered answers c place answer h own is =
     let t : Delivery = record { to = c; place = place; answer = Some answer } in
     subst (λ l. AreOf P l (answers ++ h ∷ [])) (sym (server-append delivered (t ∷ []))) (are_push P (by_server delivered) answers t h own is)
 
@@ -655,9 +655,9 @@ said_to r w answer a more queued up oldest h =
       single = λ now. flight_rest (pending_of r a) (map (pending_of r) more) (h.single now);
       twice = λ now. all_twice_rest (pending_of r a) (map (pending_of r) more) (h.twice now);
       within = h.within;
-      turn = turn_told a more w.ended w.delivered w.proxy.refused queued w.requests answer oldest h.turn;
-      over = over_told (record { to = a.from; place = a.place; answer = Some answer }) w.ended w.delivered w.requests there h.over;
-      own = own_told (IsAnswerTo r w.requests w.sent) w.delivered w.answers a.from a.place answer (record { sent = s; answer = answer; heard = length w.sent }) h.own is;
+      turn = turn_delivered a more w.ended w.delivered w.proxy.refused queued w.requests answer oldest h.turn;
+      over = over_delivered (record { to = a.from; place = a.place; answer = Some answer }) w.ended w.delivered w.requests there h.over;
+      own = own_delivered (IsAnswerTo r w.requests w.sent) w.delivered w.answers a.from a.place answer (record { sent = s; answer = answer; heard = length w.sent }) h.own is;
       denied = all_append (IsDeniedRightly r w.requests) w.delivered (record { to = a.from; place = a.place; answer = Some answer } ∷ []) h.denied (tt, tt);
       in_flight = h.in_flight.1;
       queued = h.queued;

@@ -352,9 +352,9 @@ outcome_views r w answer (a ∷ more) queued up held h =
 answers_views : (r : Rules) (w : Run) (in_flight queued : List Request) (answer : List ℕ) → Holds r (with_hand r in_flight queued w) → Views r (with_hand r in_flight queued w) → Views r (happens r (with_hand r in_flight queued w) (Answers answer))
 answers_views r w in_flight queued answer held h =
     let v : Run = with_hand r in_flight queued w in
-    let told : Outcome = outcome_of r answer w.proxy.is_resent w.proxy.needs_view (is_late v.proxy) (map (pending_of r) in_flight) in
+    let heard_now : Outcome = outcome_of r answer w.proxy.is_resent w.proxy.needs_view (is_late v.proxy) (map (pending_of r) in_flight) in
     either (Views r) w.proxy.is_up (said r v answer (outcome r answer v.proxy)) v
-    (λ up. (let is : outcome r answer v.proxy ≡ told = ap (λ b. cond b told Unsolicited) up in subst (λ g. Views r (said r v answer g)) (sym is) (outcome_views r w answer in_flight queued up held h)))
+    (λ up. (let is : outcome r answer v.proxy ≡ heard_now = ap (λ b. cond b heard_now Unsolicited) up in subst (λ g. Views r (said r v answer g)) (sym is) (outcome_views r w answer in_flight queued up held h)))
     (λ down. h)
 
 -- ---- the server's connection breaks, an order is taken back, and there is a new connection

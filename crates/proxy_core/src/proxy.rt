@@ -117,7 +117,7 @@ impl Proxy {
         role: u32,
         line: &[u8],
     ) -> Result<Admission, AllocError>
-        ensures told { IfOk result (λ t. t ≡ admission (P.rules policy.now) connection role line.now self.old) }
+        ensures returned { IfOk result (λ t. t ≡ admission (P.rules policy.now) connection role line.now self.old) }
         ensures taken { IfOk result (λ t. self.new ≡ after_admission t
             (new_pending connection line.now ((P.rules policy.now).is_once line.now) ((P.rules policy.now).is_query line.now) (needs_number (P.rules policy.now) line.now)) self.old) }
         ensures err { OnErr result (self.new ≡ self.old) }
@@ -226,7 +226,7 @@ impl Proxy {
         role: u32,
         line: &[u8],
     ) -> Result<Admission, AllocError>
-        ensures told { IfOk result (λ t. t ≡ admission_after_view (P.rules policy.now) connection role line.now self.old) }
+        ensures returned { IfOk result (λ t. t ≡ admission_after_view (P.rules policy.now) connection role line.now self.old) }
         ensures taken { IfOk result (λ t. self.new ≡ after_following t
             (new_pending connection line.now ((P.rules policy.now).is_once line.now) ((P.rules policy.now).is_query line.now) (needs_number (P.rules policy.now) line.now)) self.old) }
         ensures err { OnErr result (self.new ≡ self.old) }
@@ -310,7 +310,7 @@ impl Proxy {
         policy: &P,
         answer: &[u8],
     ) -> Result<Outcome, AllocError>
-        ensures told { IfOk result (λ g. g ≡ outcome (P.rules policy.now) answer.now self.old) }
+        ensures returned { IfOk result (λ g. g ≡ outcome (P.rules policy.now) answer.now self.old) }
         ensures after { IfOk result (λ g. self.new ≡ after_outcome (P.rules policy.now) answer.now g self.old) }
         ensures err { OnErr result (self.new ≡ self.old) }
     {
@@ -425,7 +425,7 @@ impl Proxy {
     /// line that must not be sent twice is dropped: then this returns the line's connection, and the loop ends the
     /// connection, since nobody knows whether the line was carried out.
     pub fn server_lost(&mut self) -> Option<u64>
-        ensures told { result ≡ lost self.old }
+        ensures returned { result ≡ lost self.old }
         ensures after { self.new ≡ after_broken result self.old }
     {
         self.is_up = false;
@@ -446,7 +446,7 @@ impl Proxy {
     /// line is not sent again, and its connection counts as ended. Nobody knows yet whether the number was used, so
     /// unnumbered orders wait until the loop finds the last number.
     pub fn take_back(&mut self, connection: u64) -> Option<u64>
-        ensures told { result ≡ taken_back connection self.old }
+        ensures returned { result ≡ taken_back connection self.old }
         ensures after { self.new ≡ after_taken result self.old }
     {
         if self.is_up || !begins_order(&self.flight, connection) {
@@ -466,7 +466,7 @@ impl Proxy {
     /// writes the flight. If the flight is a line that needs a view, nothing changes and this returns false: the loop
     /// takes the line back first.
     pub fn server_connected(&mut self) -> bool
-        ensures told { result ≡ may_connect self.old }
+        ensures returned { result ≡ may_connect self.old }
         ensures up { self.new ≡ after_connection self.old }
     {
         let may = !self.is_up && (!self.needs_view || is_none(&self.flight));

@@ -30,8 +30,8 @@ pub(crate) fn read_usual(line: &[u8]) -> Option<Request>
 fn read_confirm(line: &[u8]) -> Option<Request>
     ensures { IfSome result (λ request. asked_by (Some line.now) ≡ Ok request) }
 {
-    let (node, rest) = number_behind(line, b"{\"op\":\"confirm\",\"node\":")?;
-    let (epoch, rest) = number_behind(rest, b",\"epoch\":")?;
+    let (node, rest) = number_after(line, b"{\"op\":\"confirm\",\"node\":")?;
+    let (epoch, rest) = number_after(rest, b",\"epoch\":")?;
     let node = identifier(node)?;
     if is_end(rest) {
         return Some(Request::Confirm(node, epoch));
@@ -42,7 +42,7 @@ fn read_confirm(line: &[u8]) -> Option<Request>
 fn read_reset(line: &[u8]) -> Option<Request>
     ensures { IfSome result (λ request. asked_by (Some line.now) ≡ Ok request) }
 {
-    let (node, rest) = number_behind(line, b"{\"op\":\"reset\",\"node\":")?;
+    let (node, rest) = number_after(line, b"{\"op\":\"reset\",\"node\":")?;
     let node = identifier(node)?;
     if is_end(rest) {
         return Some(Request::Reset(node));
@@ -53,8 +53,8 @@ fn read_reset(line: &[u8]) -> Option<Request>
 fn read_reset_at(line: &[u8]) -> Option<Request>
     ensures { IfSome result (λ request. asked_by (Some line.now) ≡ Ok request) }
 {
-    let (node, rest) = number_behind(line, b"{\"op\":\"reset\",\"node\":")?;
-    let (epoch, rest) = number_behind(rest, b",\"epoch\":")?;
+    let (node, rest) = number_after(line, b"{\"op\":\"reset\",\"node\":")?;
+    let (epoch, rest) = number_after(rest, b",\"epoch\":")?;
     let node = identifier(node)?;
     if is_end(rest) {
         return Some(Request::ResetAt(node, epoch));
@@ -65,10 +65,10 @@ fn read_reset_at(line: &[u8]) -> Option<Request>
 fn read_numbered_confirm(line: &[u8]) -> Option<Request>
     ensures { IfSome result (λ request. asked_by (Some line.now) ≡ Ok request) }
 {
-    let (client, rest) = number_behind(line, b"{\"op\":\"confirm\",\"client\":")?;
-    let (number, rest) = number_behind(rest, b",\"number\":")?;
-    let (node, rest) = number_behind(rest, b",\"node\":")?;
-    let (epoch, rest) = number_behind(rest, b",\"epoch\":")?;
+    let (client, rest) = number_after(line, b"{\"op\":\"confirm\",\"client\":")?;
+    let (number, rest) = number_after(rest, b",\"number\":")?;
+    let (node, rest) = number_after(rest, b",\"node\":")?;
+    let (epoch, rest) = number_after(rest, b",\"epoch\":")?;
     let client = identifier(client)?;
     let node = identifier(node)?;
     if is_end(rest) {
@@ -80,9 +80,9 @@ fn read_numbered_confirm(line: &[u8]) -> Option<Request>
 fn read_numbered_reset(line: &[u8]) -> Option<Request>
     ensures { IfSome result (λ request. asked_by (Some line.now) ≡ Ok request) }
 {
-    let (client, rest) = number_behind(line, b"{\"op\":\"reset\",\"client\":")?;
-    let (number, rest) = number_behind(rest, b",\"number\":")?;
-    let (node, rest) = number_behind(rest, b",\"node\":")?;
+    let (client, rest) = number_after(line, b"{\"op\":\"reset\",\"client\":")?;
+    let (number, rest) = number_after(rest, b",\"number\":")?;
+    let (node, rest) = number_after(rest, b",\"node\":")?;
     let client = identifier(client)?;
     let node = identifier(node)?;
     if is_end(rest) {
@@ -106,14 +106,14 @@ fn identifier<const MOST: u8>(number: u64) -> Option<Identifier<MOST>>
 }
 
 /// Returns the number that follows this text at the start of the bytes, and the bytes after the number.
-fn number_behind<'b>(bytes: &'b [u8], text: &[u8]) -> Option<(u64, &'b [u8])>
+fn number_after<'b>(bytes: &'b [u8], text: &[u8]) -> Option<(u64, &'b [u8])>
     ensures text { IfSome result (λ found. bytes.now ≡ text.now ++ (decimal found.0 ++ found.1.now)) }
     ensures word { IfSome result (λ found. found.0 < 2 ^ 64) }
 {
-    let rest = behind(bytes, text)?;
+    let rest = after_text(bytes, text)?;
     let number = first_number(rest);
     let mut buffer = Buffer::new();
-    let rest = behind(rest, buffer.format(number).as_bytes())?;
+    let rest = after_text(rest, buffer.format(number).as_bytes())?;
     Some((number, rest))
 }
 
@@ -130,7 +130,7 @@ fn first_number(bytes: &[u8]) -> u64 {
 }
 
 /// Returns the bytes after this text, if the bytes begin with it.
-fn behind<'b>(bytes: &'b [u8], text: &[u8]) -> Option<&'b [u8]>
+fn after_text<'b>(bytes: &'b [u8], text: &[u8]) -> Option<&'b [u8]>
     ensures { IfSome result (λ rest. bytes.now ≡ text.now ++ rest.now) }
 {
     bytes.strip_prefix(text)

@@ -1,6 +1,6 @@
 -- The bytes that arrived from a client and were not yet taken as lines.
 use Rattle.std.specs.Prelude.{◌≡◌, ℕ, ◌||◌, Bool, false, List, [], Option, Some, None, if◌then◌else◌, is_some}
-use Rattle.coord_lines.specs.Lines.{Line, extended, before_line_feed, behind_line_feed}
+use Rattle.coord_lines.specs.Lines.{Line, extended, before_line_feed, after_line_feed}
 
 pub record Inbox : Type 0 where
   pub line : Line  -- the line so far; None if it is over the limit
@@ -12,17 +12,17 @@ new_inbox = record { line = Some []; is_whole = false; rest = [] }
 
 -- whether a whole line has arrived
 abbrev pub has_line : Inbox → Bool
-has_line i = i.is_whole || is_some (behind_line_feed i.rest)
+has_line i = i.is_whole || is_some (after_line_feed i.rest)
 
-abbrev pub behind : Option (List ℕ) → List ℕ
-behind None = []
-behind (Some more) = more
+abbrev pub or_empty : Option (List ℕ) → List ℕ
+or_empty None = []
+or_empty (Some more) = more
 
 -- the inbox after the bytes up to the next line feed, or all bytes if there is none, have moved into the line
 abbrev pub with_line : Inbox → Inbox
 with_line i =
     if i.is_whole then i
-    else record { line = extended i.line (before_line_feed i.rest); is_whole = is_some (behind_line_feed i.rest); rest = behind (behind_line_feed i.rest) }
+    else record { line = extended i.line (before_line_feed i.rest); is_whole = is_some (after_line_feed i.rest); rest = or_empty (after_line_feed i.rest) }
 
 -- the inbox at the beginning of the next line
 abbrev pub after_line : Inbox → Inbox

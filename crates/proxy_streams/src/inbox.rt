@@ -55,8 +55,8 @@ impl Inbox {
         }
         let rest = &self.piece[self.begin..];
         match self.line.take(rest) {
-            Some(behind) => {
-                self.begin = self.piece.len() - behind.len();
+            Some(following) => {
+                self.begin = self.piece.len() - following.len();
                 self.is_whole = true;
                 true
             }

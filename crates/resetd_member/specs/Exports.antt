@@ -18,14 +18,14 @@ use Rattle.resetd_member.specs.Status.{IsGiven, status_of}
 abbrev pub work_of : Work → Option ℕ
 work_of work = if work.is_there then Some work.epoch else None
 
-abbrev pub IsTold : {X : Type 0} → Result X Fault → X → ℕ → Type 0
-IsTold (Ok x) told status = (status ≡ 0) × (told ≡ x)
-IsTold (Err fault) told status = status ≡ status_of fault
+abbrev pub IsReported : {X : Type 0} → Result X Fault → X → ℕ → Type 0
+IsReported (Ok x) reported status = (status ≡ 0) × (reported ≡ x)
+IsReported (Err fault) reported status = status ≡ status_of fault
 
 pub record IsJudgedAs (show : List ℕ) (node : ℕ) (file history : List ℕ) (work : Option ℕ) (room : List ℕ) (judged : Judged) (status : ℕ) : Type 0 where
   pub made : Result Judged Fault
   pub is : IsGivenTo show node file history work room made
-  pub told : IsTold made judged status
+  pub reported : IsReported made judged status
 
 abbrev pub IsStartText : ℕ → ℕ → Result (String Global) Fault → Type 0
 IsStartText node epoch (Ok text) = string_bytes text ≡ start_text node (Some epoch) None None
@@ -46,14 +46,14 @@ pub record IsCarriedGiven (node : ℕ) (file boot room : List ℕ) (size status 
   pub is : IsCarried node file boot made
   pub given : IsGiven made room size status
 
-abbrev pub IsToldFence : Result Brought Fault → ℕ → List ℕ → ℕ → ℕ → Type 0
-IsToldFence (Ok fence) count room size status = (count ≡ fence.0) × IsGiven (Ok fence.1) room size status
-IsToldFence (Err fault) count room size status = status ≡ status_of fault
+abbrev pub IsReportedFence : Result Brought Fault → ℕ → List ℕ → ℕ → ℕ → Type 0
+IsReportedFence (Ok fence) count room size status = (count ≡ fence.0) × IsGiven (Ok fence.1) room size status
+IsReportedFence (Err fault) count room size status = status ≡ status_of fault
 
 pub record IsFenceGiven (node : ℕ) (file : List ℕ) (generation : ℕ) (word : List ℕ) (count : ℕ) (room : List ℕ) (size status : ℕ) : Type 0 where
   pub made : Result Brought Fault
   pub is : IsFenceFor node file generation word made
-  pub told : IsToldFence made count room size status
+  pub reported : IsReportedFence made count room size status
 
 pub record IsTagGiven (show : List ℕ) (node : ℕ) (file word room : List ℕ) (size status : ℕ) : Type 0 where
   pub made : Result (String Global) Fault

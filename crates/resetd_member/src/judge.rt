@@ -266,10 +266,10 @@ pub(crate) fn tag(
 }
 
 /// Returns a text followed by another text.
-fn joined(mut text: String, behind: &str) -> Result<String, AllocError>
-    ensures { IfOk result (λ both. string_bytes both ≡ string_bytes text ++ behind.now) }
+fn joined(mut text: String, following: &str) -> Result<String, AllocError>
+    ensures { IfOk result (λ both. string_bytes both ≡ string_bytes text ++ following.now) }
 {
-    text.push_str(behind)?;
+    text.push_str(following)?;
     Ok(text)
 }
 

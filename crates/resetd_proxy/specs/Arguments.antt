@@ -238,4 +238,4 @@ asked_in found = option_and_then (λ each. asked_of_name each.0 each.1) found
 
 -- what the arguments request; the first argument is the program's name
 abbrev pub task_of : List Text → Option AskedTask
-task_of words = without_fault (fault_of resetd_proxy words) (asked_in (subcommand_of resetd_proxy words))
+task_of arguments = without_fault (fault_of resetd_proxy arguments) (asked_in (subcommand_of resetd_proxy arguments))

@@ -49,11 +49,11 @@ pub struct SocketArguments {
 
 /// Returns the task that the arguments request. The first argument is the program's name. Errors: the arguments are
 /// wrong, or out of memory.
-pub fn read_arguments(alloc: Global, words: &[String]) -> Result<Task, ArgumentsFault>
-    ensures { Requested asked_of (task_of (map string_bytes words.now)) result }
+pub fn read_arguments(alloc: Global, arguments: &[String]) -> Result<Task, ArgumentsFault>
+    ensures { Requested asked_of (task_of (map string_bytes arguments.now)) result }
 {
     let program = program(alloc)?;
-    match program.try_get_matches_from(words) {
+    match program.try_get_matches_from(arguments) {
         Ok(matches) => task_in(alloc, &matches),
         Err(error) => match error.kind() {
             ErrorKind::OutOfMemory => Err(ArgumentsFault::OutOfMemory),

@@ -32,14 +32,14 @@ const USAGE: &str =
     "usage: resetd-proxy serve --server HOST:PORT .. --policy FILE [--listen NAME=PATH] ..\n                          [--listen-fds NAME,NAME..] [--certificates PATH] [--signals FILE] [--audit FILE]\n                          [--metrics FILE] [--patience SECONDS] [--stuck SECONDS] [--server-silent SECONDS]\n                          [--connections N]\n       resetd-proxy check FILE";
 
 fn main(rt: HostRuntime) -> ExitCode {
-    let arguments = match env::args(&rt) {
-        Ok(arguments) => arguments,
+    let given = match env::args(&rt) {
+        Ok(given) => given,
         Err(_) => return ExitCode::from(1),
     };
-    let Ok(words) = arguments.collect::<Vec<String>>(rt.alloc()) else {
+    let Ok(arguments) = given.collect::<Vec<String>>(rt.alloc()) else {
         return ExitCode::from(1);
     };
-    let done = match read_arguments(rt.alloc(), words.as_slice()) {
+    let done = match read_arguments(rt.alloc(), arguments.as_slice()) {
         Ok(Task::Serve(arguments)) => run(&rt, process::id(rt.process()), arguments),
         Ok(Task::Check(path)) => check(&rt, path.as_str()),
         Err(ArgumentsFault::OutOfMemory) => Err(ErrorKind::OutOfMemory.into()),

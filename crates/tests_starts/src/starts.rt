@@ -97,25 +97,25 @@ fn in_a_reset(rt: &(impl Abort + AllocGlobal)) -> Task {
 }
 
 // Returns the text of the answers in a start and of the number of releases.
-fn told_of(rt: &(impl Abort + AllocGlobal), trace: &Trace) -> String {
+fn text_of_trace(rt: &(impl Abort + AllocGlobal), trace: &Trace) -> String {
     let (answers, released) = (&trace.answers, trace.released.len());
     format!(in rt.alloc(); "{answers:?} {released}").expect(rt, "not printed")
 }
 
 // Returns the text of the result of a start.
-fn told(rt: &(impl Abort + AllocGlobal), outcome: &Outcome) -> String {
+fn text_of(rt: &(impl Abort + AllocGlobal), outcome: &Outcome) -> String {
     match outcome {
-        Outcome::Served(trace) => told_of(rt, trace),
+        Outcome::Served(trace) => text_of_trace(rt, trace),
         Outcome::Raised => String::from_str(rt.alloc(), "raised").expect(rt, "not printed"),
         Outcome::Refused(_) => String::from_str(rt.alloc(), "refused").expect(rt, "not printed"),
     }
 }
 
 // Checks that each start has the expected result.
-fn tells(rt: &(impl Abort + AllocGlobal), outcomes: &[Outcome], wanted: &[&str]) {
+fn expect_outcomes(rt: &(impl Abort + AllocGlobal), outcomes: &[Outcome], wanted: &[&str]) {
     same(rt, &outcomes.len(), &wanted.len());
     for (at, (outcome, wanted)) in outcomes.iter().zip(wanted).enumerate() {
-        let text = told(rt, outcome);
+        let text = text_of(rt, outcome);
         same(rt, &(at, text.as_str()), &(at, *wanted));
     }
 }
@@ -140,7 +140,7 @@ fn ran(rt: &(impl Abort + AllocGlobal), tasks: &[Task]) -> Vec<Outcome> {
 fn the_starts_of_a_store_are_one_history(rt: HostRuntime) {
     let tasks = [losing(&rt), Task::Migrate, unheard(&rt), repeating(&rt)];
     let outcomes = ran(&rt, &tasks);
-    tells(
+    expect_outcomes(
         &rt,
         &outcomes,
         &[
@@ -156,7 +156,7 @@ fn the_starts_of_a_store_are_one_history(rt: HostRuntime) {
 #[test]
 fn a_store_in_a_reset_stays_as_it_is(rt: HostRuntime) {
     let outcomes = ran(&rt, &[in_a_reset(&rt), Task::Migrate]);
-    tells(
+    expect_outcomes(
         &rt,
         &outcomes,
         &[

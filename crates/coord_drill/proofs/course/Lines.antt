@@ -94,15 +94,15 @@ not_late s line is = grind (arith, in_time)
 module _ {D : Type 0} (disk : DiskModel D) (crashes : D → D → Type 0) where
   module _ (d : Drill D) (p : Place D) (at : Stands disk d p) where
     -- a line that asks for nothing leaves the drill's state unchanged
-    abbrev behind : List ℕ → Place D
-    behind text = record p { lines = p.lines + 1; printed = p.printed ++ text }
+    abbrev following : List ℕ → Place D
+    following text = record p { lines = p.lines + 1; printed = p.printed ++ text }
 
-    stands_on : (text : List ℕ) → Stands disk d (behind text)
+    stands_on : (text : List ℕ) → Stands disk d (following text)
     stands_on text = record { state = at.state; holds = at.holds; keeps = at.keeps; consistent = at.consistent; represents = at.represents; settled = at.settled; empty = at.empty; survives = at.survives }
 
     stays : (line : Line) (text : List ℕ) → asked_in p.state line ≡ None → LineResponds p.state (p.lines + 1) line [] text p.state → (q : Place D) × Stands disk d q × (q.printed ≡ p.printed ++ text) × LineGoes disk crashes p line q
     stays line text none responds = (
-      behind text,
+      following text,
       stands_on text,
       refl,
       record {
@@ -206,7 +206,7 @@ module _ {D : Type 0} (disk : DiskModel D) (crashes : D → D → Type 0) where
           after = first.0.state;
           rest = rest.0 ++ u;
           line = one.responds;
-          behind = subst (λ n. Prints first.0.state (n + 1) (ls ++ ks) (rest.0 ++ u)) one.lines rest.2;
+          following = subst (λ n. Prints first.0.state (n + 1) (ls ++ ks) (rest.0 ++ u)) one.lines rest.2;
           whole = append_assoc one.text rest.0 u;
         },
       )

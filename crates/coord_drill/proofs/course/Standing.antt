@@ -63,11 +63,11 @@ module _ {D : Type 0} (disk : DiskModel D) (crashes : D → D → Type 0) where
       (to.0, to.1, to.2, record { in_range = led.in_range; answered = led.answered; moments = to.3; failed = failed_is old to.0 (disk_held d) (disk_held new) es given led.failed there to.1 })
 
   -- after them whatever a crash may leave survives
-  survives_behind : (s : Machine) (es : List Event) (gs : List Answer) (old new : D) → EachMoment disk crashes true s es gs old new → CrashPrefix (run s es gs) true (disk.present new)
-  survives_behind s [] [] old new moments = moments.1
-  survives_behind s [] (a ∷ gs) old new moments = absurd moments
-  survives_behind s (e ∷ es) [] old new moments = absurd moments
-  survives_behind s (e ∷ es) (a ∷ gs) old new moments = survives_behind (after s e a) es gs moments.1.0 new moments.1.1.1
+  survives_after : (s : Machine) (es : List Event) (gs : List Answer) (old new : D) → EachMoment disk crashes true s es gs old new → CrashPrefix (run s es gs) true (disk.present new)
+  survives_after s [] [] old new moments = moments.1
+  survives_after s [] (a ∷ gs) old new moments = absurd moments
+  survives_after s (e ∷ es) [] old new moments = absurd moments
+  survives_after s (e ∷ es) (a ∷ gs) old new moments = survives_after (after s e a) es gs moments.1.0 new moments.1.1.1
 
   -- a later state, which the drill has reached
   pub record Reached (d new : Drill D) (p : Place D) (a : Asked) (given : List Answer) (text : List ℕ) : Type 0 where
@@ -133,7 +133,7 @@ module _ {D : Type 0} (disk : DiskModel D) (crashes : D → D → Type 0) where
             represents = led.represents;
             settled = all_both (λ k. k ≤ settled_count s.log) p.reported reported before later;
             empty = λ none. stays_empty (state_of d) (state_of new) given text (subst (λ (t : DrillState). t.has_begun ≡ false → IsEmptyLog t.log) at.state at.empty) none a answered;
-            survives = survives_behind p.machine es given p.disk there.0 there.3.moments;
+            survives = survives_after p.machine es given p.disk there.0 there.3.moments;
           };
         }
 

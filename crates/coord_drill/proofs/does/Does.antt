@@ -4,7 +4,7 @@ use Rattle.coord_types.specs.declared.steps.Kind.{Kind}
 use Rattle.coord_disk.specs.Model.DiskModel.{DiskModel}
 use Rattle.coord_ledger.specs.declared.events.Event.TheVariants as event
 use Rattle.coord_ledger.specs.Facade.{DriverState, IsAnew, started, after_submit, run as after_run, settled_count, verdict, with_step}
-use Rattle.coord_ledger.proofs.follows.Follows.{log_behind}
+use Rattle.coord_ledger.proofs.follows.Follows.{log_after}
 use Rattle.coord_drill.specs.Answered.{asked_lines, flight_lines, kept_line, repeat_line}
 use Rattle.coord_drill.specs.Drill.{DrillState, after_asked, flight_events, machine_of, seen_as}
 use Rattle.coord_drill.specs.declared.asked.Asked.TheVariants.{Crash, Submit}
@@ -64,4 +64,4 @@ crash_line s count = refl
 -- it is seen from the world that was opened
 pub crash_after : {D : Type 0} (disk : DiskModel D) (crashes : D → D → Type 0) (v w : DriverState D) (holds begun : Bool) (count : ℕ) → Led disk crashes (started v.ledger) (event.Crash ∷ []) (Opened count ∷ []) v w → IsAnew w → drill_of w.ledger false begun ≡ after_asked (drill_of v.ledger holds begun) Crash (Opened count ∷ [])
 unfolding after_asked
-crash_after disk crashes v w holds begun count h1 h2 = grind (arith, log_behind)
+crash_after disk crashes v w holds begun count h1 h2 = grind (arith, log_after)

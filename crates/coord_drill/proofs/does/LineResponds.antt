@@ -107,4 +107,4 @@ prints_somehow s n [] = ([], refl)
 prints_somehow s n (l ∷ ls) =
     let one = line_somehow s n l in
     let rest = prints_somehow one.2 (n + 1) ls in
-    (one.1 ++ rest.0, record { given = one.0; reported = one.1; after = one.2; rest = rest.0; line = one.3; behind = rest.1; whole = refl })
+    (one.1 ++ rest.0, record { given = one.0; reported = one.1; after = one.2; rest = rest.0; line = one.3; following = rest.1; whole = refl })

@@ -8,7 +8,7 @@ use Rattle.coord_types.specs.declared.outputs.Output.{Output}
 use Rattle.coord_world.proofs.Facade.{by_test, fold-append, fold_counts, same_version}
 use Rattle.coord_world.specs.Facade.{World, again, fold, next, outputs, outs, reply}
 use Rattle.coord_ledger.specs.Facade.{Claim, IsCollectable, IsGranted, Log, release_of, releases_of, resent, settled_world}
-use Rattle.coord_drill.specs.Facade.{Release, Step, behind, claims_of, collected_lines, left, output_line, output_lines, released_lines, reply_line, settled_lines, waiting}
+use Rattle.coord_drill.specs.Facade.{Release, Step, after_step, claims_of, collected_lines, left, output_line, output_lines, released_lines, reply_line, settled_lines, waiting}
 use Rattle.coord_ledger.proofs.follows.Granted.{slice_get-middle}
 
 -- ---- the releases of one step
@@ -25,15 +25,15 @@ none_later version v (s ∷ ss) n le = first (none_later version (next v s) ss n
         (λ same. absurd (grind (arith, nat_tests, same, le)))
         (λ _. refl)
 
-all_later : (v : World) (steps : List Step) (n : ℕ) → n ≤ v.count → behind n (releases_of (outs v steps)) ≡ releases_of (outs v steps)
+all_later : (v : World) (steps : List Step) (n : ℕ) → n ≤ v.count → after_step n (releases_of (outs v steps)) ≡ releases_of (outs v steps)
 all_later v [] n le = refl
 all_later v (s ∷ ss) n le = first (all_later (next v s) ss n (omega (arith, le))) (outputs v s)
   where
-    first : behind n (releases_of (outs (next v s) ss)) ≡ releases_of (outs (next v s) ss) → (os : List Output) → behind n (map (release_of (v.count + 1)) os ++ releases_of (outs (next v s) ss)) ≡ map (release_of (v.count + 1)) os ++ releases_of (outs (next v s) ss)
+    first : after_step n (releases_of (outs (next v s) ss)) ≡ releases_of (outs (next v s) ss) → (os : List Output) → after_step n (map (release_of (v.count + 1)) os ++ releases_of (outs (next v s) ss)) ≡ map (release_of (v.count + 1)) os ++ releases_of (outs (next v s) ss)
     first all [] = all
     first all (o ∷ os) =
         let rest = map (release_of (v.count + 1)) os ++ releases_of (outs (next v s) ss) in
-        by_test ((v.count + 1) == n) (λ b. cond b (behind n rest) (release_of (v.count + 1) o ∷ rest) ≡ release_of (v.count + 1) o ∷ rest)
+        by_test ((v.count + 1) == n) (λ b. cond b (after_step n rest) (release_of (v.count + 1) o ∷ rest) ≡ release_of (v.count + 1) o ∷ rest)
         (λ same. absurd (grind (arith, nat_tests, same, le)))
         (λ _. refl)
 
@@ -45,11 +45,11 @@ own_lines version n (o ∷ os) rest none =
     (λ _. ap (λ l. output_line version o ++ l) (own_lines version n os rest none))
     (λ apart. absurd (grind (arith, nat_tests, apart)))
 
-own_behind : (n : ℕ) (os : List Output) (rest : List Release) → behind n rest ≡ rest → behind n (map (release_of n) os ++ rest) ≡ rest
-own_behind n [] rest all = all
-own_behind n (o ∷ os) rest all =
-    by_test (n == n) (λ b. cond b (behind n (map (release_of n) os ++ rest)) (release_of n o ∷ (map (release_of n) os ++ rest)) ≡ rest)
-    (λ _. own_behind n os rest all)
+own_after : (n : ℕ) (os : List Output) (rest : List Release) → after_step n rest ≡ rest → after_step n (map (release_of n) os ++ rest) ≡ rest
+own_after n [] rest all = all
+own_after n (o ∷ os) rest all =
+    by_test (n == n) (λ b. cond b (after_step n (map (release_of n) os ++ rest)) (release_of n o ∷ (map (release_of n) os ++ rest)) ≡ rest)
+    (λ _. own_after n os rest all)
     (λ apart. absurd (grind (arith, nat_tests, apart)))
 
 -- ---- the steps of a flight
@@ -66,7 +66,7 @@ after_first w b s ss = grind (arith, nat_tests, fold_counts (next w s) (take b s
 pub collected_are : (version : ℕ) (w : World) (b : ℕ) (steps : List Step) → collected_lines version (fold w (take b steps)).count (claims_of w steps) (releases_of (outs w (take b steps))) ≡ settled_lines version (outs w (take b steps))
 collected_are version w zero [] = refl
 collected_are version w zero (s ∷ ss) =
-    let lines = reply_line (reply w s) ++ (released_lines version (w.count + 1) [] ++ collected_lines version w.count (claims_of (next w s) ss) (behind (w.count + 1) [])) in
+    let lines = reply_line (reply w s) ++ (released_lines version (w.count + 1) [] ++ collected_lines version w.count (claims_of (next w s) ss) (after_step (w.count + 1) [])) in
     by_test (nat_le (w.count + 1) w.count) (λ b. cond b lines [] ≡ [])
     (λ le. absurd (grind (arith, nat_tests, le)))
     (λ _. refl)
@@ -77,10 +77,10 @@ collected_are version w (suc b) (s ∷ ss) =
     let rest = releases_of (outs v (take b ss)) in
     let count = (fold v (take b ss)).count in
     let own = own_lines version n (outputs w s) rest (none_later version v (take b ss) n (omega arith)) in
-    let later = own_behind n (outputs w s) rest (all_later v (take b ss) n (omega arith)) in
-    let reported = reply_line (reply w s) ++ (released_lines version n (map (release_of n) (outputs w s) ++ rest) ++ collected_lines version count (claims_of v ss) (behind n (map (release_of n) (outputs w s) ++ rest))) in
+    let later = own_after n (outputs w s) rest (all_later v (take b ss) n (omega arith)) in
+    let reported = reply_line (reply w s) ++ (released_lines version n (map (release_of n) (outputs w s) ++ rest) ++ collected_lines version count (claims_of v ss) (after_step n (map (release_of n) (outputs w s) ++ rest))) in
     ap (λ t. cond t reported []) (after_first w b s ss)
-    ∙ ap (λ l. reply_line (reply w s) ++ (l ++ collected_lines version count (claims_of v ss) (behind n (map (release_of n) (outputs w s) ++ rest)))) own
+    ∙ ap (λ l. reply_line (reply w s) ++ (l ++ collected_lines version count (claims_of v ss) (after_step n (map (release_of n) (outputs w s) ++ rest)))) own
     ∙ ap (λ l. reply_line (reply w s) ++ (output_lines version (outputs w s) ++ collected_lines version count (claims_of v ss) l)) later
     ∙ ap (λ l. reply_line (reply w s) ++ (output_lines version (outputs w s) ++ l)) (collected_are version v b ss)
     ∙ sym (append_assoc (reply_line (reply w s)) (output_lines version (outputs w s)) _)

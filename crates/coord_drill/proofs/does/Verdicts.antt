@@ -1,4 +1,4 @@
--- A ledger never says to a step that memory lacks, and which answers do not tell so.
+-- A ledger never answers a step with out of memory, and the answers that do not report it.
 use Rattle.std.proofs.Common.{◌≡◌, ◌≢◌, Bool, true, false, cond, [], ◌∷◌, Option, Some, None, Result, Ok, Err, refl, sym, ap, ◌∙◌, ◌==◌, ◌&&◌, arith}
 use Rattle.std.proofs.lemmas.Bool.{false≢true}
 use Rattle.std.specs.List.{AllByRecursion}

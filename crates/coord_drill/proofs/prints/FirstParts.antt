@@ -20,8 +20,8 @@ first_part-short written text rest short = (short.0 ++ rest, ap (λ l. l ++ rest
 
 -- ---- a text is not written whole
 
-pub short_behind : (before text part printed : List ℕ) → printed ≡ before ++ text → IsShortPart part text → IsShortPart (before ++ part) printed
-short_behind before text part printed is short = (short.0, is ∙ ap (λ l. before ++ l) short.1 ∙ sym (append_assoc before part short.0), short.2)
+pub short_after : (before text part printed : List ℕ) → printed ≡ before ++ text → IsShortPart part text → IsShortPart (before ++ part) printed
+short_after before text part printed is short = (short.0, is ∙ ap (λ l. before ++ l) short.1 ∙ sym (append_assoc before part short.0), short.2)
 
 pub short_longer : (part text rest : List ℕ) → IsShortPart part text → IsShortPart part (text ++ rest)
 short_longer part text rest short = (short.0 ++ rest, ap (λ l. l ++ rest) short.1 ∙ append_assoc part short.0 rest, omega (arith, length-append short.0 rest, short.2))

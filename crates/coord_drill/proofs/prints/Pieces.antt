@@ -2,12 +2,12 @@
 use Rattle.std.proofs.Common.{◌≡◌, ◌⊎◌, ℕ, ◌+◌, List, [], ◌∷◌, ◌++◌, Some, None, refl, sym, ap, ◌∙◌, subst, arith, inl, inr, append-nil, append_assoc}
 use Rattle.coord_disk.specs.Model.DiskModel.{DiskModel}
 use Rattle.coord_ledger.specs.Facade.{disk_held}
-use Rattle.coord_lines.specs.Lines.{IsWithin, Line, before_line_feed, behind_line_feed, extended, lines_on}
+use Rattle.coord_lines.specs.Lines.{IsWithin, Line, before_line_feed, after_line_feed, extended, lines_on}
 use Rattle.coord_lines.proofs.LinesOn.{extended-nothing, lines_on-ended, lines_on-unended}
 use Rattle.coord_drill.specs.Facade.{Breaks, CarriesLine, CarriesOut, Console, CutsLine, EndsEarly, EndsWith, Fault, FirstCutShort, IsOfWriting, IsShortPart, LinesBreakOff, Place, StopsDrill, StopsWork, TakesPiece}
 use Rattle.coord_drill.specs.declared.fault.Fault.TheVariants.{Read, TooManyReads}
 use Rattle.coord_drill.proofs.course.Lines.{goes_both, goes_one}
-use Rattle.coord_drill.proofs.prints.FirstParts.{short_behind, short_longer}
+use Rattle.coord_drill.proofs.prints.FirstParts.{short_after, short_longer}
 
 module _ {D : Type 0} (disk : DiskModel D) (crashes : D → D → Type 0) where
   -- ---- lines that were carried out, and more after them
@@ -65,9 +65,9 @@ module _ {D : Type 0} (disk : DiskModel D) (crashes : D → D → Type 0) where
     }
 
   -- the disk is given back after them
-  breaks_behind : (c new : Console D) (ls others all : List Line) (t u : List ℕ) (lost : D) (Why : Place D → List Line → List ℕ → Type 0) → all ≡ ls ++ others → CarriesOut disk crashes c ls t new → disk_held new.drill.driver ≡ Some lost →
+  breaks_later : (c new : Console D) (ls others all : List Line) (t u : List ℕ) (lost : D) (Why : Place D → List Line → List ℕ → Type 0) → all ≡ ls ++ others → CarriesOut disk crashes c ls t new → disk_held new.drill.driver ≡ Some lost →
       ((p q : Place D) → lost ≡ q.disk → q.printed ≡ p.printed ++ t → Why q others (p.printed ++ u)) → Breaks disk crashes c all u Why
-  breaks_behind c new ls others all t u lost Why split out there why = record {
+  breaks_later c new ls others all t u lost Why split out there why = record {
     ended = ls;
     others = others;
     split = split;
@@ -84,8 +84,8 @@ module _ {D : Type 0} (disk : DiskModel D) (crashes : D → D → Type 0) where
   -- its text was not written whole
   pub line_unwritten : (c new : Console D) (line : Line) (text part : List ℕ) (refused : Fault × D) → CarriesLine disk crashes c.drill (c.number + 1) line text new.drill → new.number ≡ c.number + 1 → IsShortPart part text → IsOfWriting refused.0 → disk_held new.drill.driver ≡ Some refused.1 → LinesBreakOff disk crashes c (line ∷ []) refused part
   line_unwritten c new line text part refused carries number short writing there =
-      breaks_behind c new (line ∷ []) [] (line ∷ []) text part refused.1 _ refl (carries_line c new line text carries number) there
-      (λ p q same printed. inr (record { cause = writing; wrote = short_behind p.printed text part q.printed printed short; given_back = inl same }))
+      breaks_later c new (line ∷ []) [] (line ∷ []) text part refused.1 _ refl (carries_line c new line text carries number) there
+      (λ p q same printed. inr (record { cause = writing; wrote = short_after p.printed text part q.printed printed short; given_back = inl same }))
 
   -- it was cut short
   pub line_cut : (c : Console D) (line : Line) (refused : Fault × D) → CutsLine disk crashes c.drill line refused → LinesBreakOff disk crashes c (line ∷ []) refused []
@@ -111,7 +111,7 @@ module _ {D : Type 0} (disk : DiskModel D) (crashes : D → D → Type 0) where
   pub last_unflushed : (c new : Console D) (t : List ℕ) (refused : Fault × D) → IsWithin c.line → CarriesOut disk crashes c (c.line ∷ []) t new → IsOfWriting refused.0 → disk_held new.drill.driver ≡ Some refused.1 → EndsEarly disk crashes c (lines_on c.line []) refused t
   last_unflushed c new t refused within out writing there =
       last_breaks c refused t within
-      (breaks_behind c new (c.line ∷ []) [] (c.line ∷ []) t t refused.1 _ refl out there
+      (breaks_later c new (c.line ∷ []) [] (c.line ∷ []) t t refused.1 _ refl out there
       (λ p q same printed. inr (inl (record { cause = writing; wrote = sym printed; ended = refl; same = same }))))
 
   -- ---- pieces
@@ -125,27 +125,27 @@ module _ {D : Type 0} (disk : DiskModel D) (crashes : D → D → Type 0) where
     whole = ap (lines_on c.line) (sym (append-nil piece)) ∙ taken.lines [] ∙ ap (λ r. taken.ended ++ lines_on now.line r) (append-nil rest)
 
     -- a line feed ends a line
-    module _ (behind : List ℕ) (longer : Line) (feed : Some behind ≡ behind_line_feed rest) (is : longer ≡ extended now.line (before_line_feed rest)) where
-      at_feed : (more : List ℕ) → lines_on now.line (rest ++ more) ≡ longer ∷ lines_on (Some []) (behind ++ more)
-      at_feed more = lines_on-ended now.line rest more behind (sym feed) ∙ ap (λ l. l ∷ lines_on (Some []) (behind ++ more)) (sym is)
+    module _ (following : List ℕ) (longer : Line) (feed : Some following ≡ after_line_feed rest) (is : longer ≡ extended now.line (before_line_feed rest)) where
+      at_feed : (more : List ℕ) → lines_on now.line (rest ++ more) ≡ longer ∷ lines_on (Some []) (following ++ more)
+      at_feed more = lines_on-ended now.line rest more following (sym feed) ∙ ap (λ l. l ∷ lines_on (Some []) (following ++ more)) (sym is)
 
-      pub takes_line : (u : List ℕ) (new : Console D) → new.line ≡ Some [] → CarriesOut disk crashes (record now { line = longer }) (longer ∷ []) u new → TakesPiece disk crashes c piece behind (t ++ u) new
+      pub takes_line : (u : List ℕ) (new : Console D) → new.line ≡ Some [] → CarriesOut disk crashes (record now { line = longer }) (longer ∷ []) u new → TakesPiece disk crashes c piece following (t ++ u) new
       takes_line u new empty out = record {
         ended = taken.ended ++ longer ∷ [];
         lines = λ more.
-            taken.lines more ∙ ap (λ l. taken.ended ++ l) (at_feed more) ∙ sym (append_assoc taken.ended (longer ∷ []) (lines_on (Some []) (behind ++ more)))
-            ∙ ap (λ l. (taken.ended ++ longer ∷ []) ++ lines_on l (behind ++ more)) (sym empty);
+            taken.lines more ∙ ap (λ l. taken.ended ++ l) (at_feed more) ∙ sym (append_assoc taken.ended (longer ∷ []) (lines_on (Some []) (following ++ more)))
+            ∙ ap (λ l. (taken.ended ++ longer ∷ []) ++ lines_on l (following ++ more)) (sym empty);
         out = carries_after c now taken.ended (longer ∷ []) t u taken.out new out;
       }
 
       pub takes_cut : (refused : Fault × D) (u : List ℕ) → LinesBreakOff disk crashes (record now { line = longer }) (longer ∷ []) refused u → LinesBreakOff disk crashes c (lines_on c.line piece) refused (t ++ u)
       takes_cut refused u breaks =
-          let more = lines_on (Some []) (behind ++ []) in
+          let more = lines_on (Some []) (following ++ []) in
           let all = ap (lines_on c.line) (sym (append-nil piece)) ∙ taken.lines [] ∙ ap (λ l. taken.ended ++ l) (at_feed []) in
           breaks_after c (record now { line = longer }) taken.ended (longer ∷ []) t u taken.out _ more (lines_on c.line piece) all (work_more refused more) breaks
 
     -- with none the line goes on
-    pub takes_rest : (longer : Line) → None ≡ behind_line_feed rest → longer ≡ extended now.line (before_line_feed rest) → TakesPiece disk crashes c piece [] t (record now { line = longer })
+    pub takes_rest : (longer : Line) → None ≡ after_line_feed rest → longer ≡ extended now.line (before_line_feed rest) → TakesPiece disk crashes c piece [] t (record now { line = longer })
     takes_rest longer none is = record {
       ended = taken.ended;
       lines = λ more. taken.lines more ∙ ap (λ l. taken.ended ++ l) (lines_on-unended now.line rest more (sym none) ∙ ap (λ l. lines_on l more) (sym is));
@@ -159,7 +159,7 @@ module _ {D : Type 0} (disk : DiskModel D) (crashes : D → D → Type 0) where
     -- nothing more can be read
     pub takes_breaks : (refused : Fault × D) → (refused.0 ≡ Read) ⊎ (refused.0 ≡ TooManyReads) → disk_held now.drill.driver ≡ Some refused.1 → EndsEarly disk crashes c (lines_on c.line piece) refused t
     takes_breaks refused reading there =
-        breaks_behind c now taken.ended (lines_on now.line []) (lines_on c.line piece) t t refused.1 _ all taken.out there
+        breaks_later c now taken.ended (lines_on now.line []) (lines_on c.line piece) t t refused.1 _ all taken.out there
         (λ p q same printed. inl (record { cause = reading; wrote = sym printed; unended = refl; same = same }))
 
     pub takes_ends : (u : List ℕ) (last : D) → EndsWith disk crashes now (lines_on now.line []) u last → EndsWith disk crashes c (lines_on c.line piece) (t ++ u) last
@@ -185,15 +185,15 @@ module _ {D : Type 0} (disk : DiskModel D) (crashes : D → D → Type 0) where
     -- not all of the text of a piece was written
     pub takes_unwritten : (part : List ℕ) (refused : Fault × D) → IsShortPart part t → IsOfWriting refused.0 → disk_held now.drill.driver ≡ Some refused.1 → LinesBreakOff disk crashes c (lines_on c.line piece) refused part
     takes_unwritten part refused short writing there =
-        breaks_behind c now taken.ended (lines_on now.line []) (lines_on c.line piece) t part refused.1 _ all taken.out there
-        (λ p q same printed. inr (record { cause = writing; wrote = short_behind p.printed t part q.printed printed short; given_back = inl same }))
+        breaks_later c now taken.ended (lines_on now.line []) (lines_on c.line piece) t part refused.1 _ all taken.out there
+        (λ p q same printed. inr (record { cause = writing; wrote = short_after p.printed t part q.printed printed short; given_back = inl same }))
 
   -- or if a line failed before, and then the writer's fault is reported
   pub breaks_unwritten : (c : Console D) (ls : List Line) (fault later : Fault) (lost : D) (t part : List ℕ) → IsOfWriting later → LinesBreakOff disk crashes c ls (fault, lost) t → IsShortPart part t → LinesBreakOff disk crashes c ls (later, lost) part
   breaks_unwritten c ls fault later lost t part writing breaks short = breaks_so c ls t part _ _ put breaks
     where
       put : (p q : Place D) (others : List Line) → StopsWork disk crashes q others (p.printed ++ t) (fault, lost) → StopsWork disk crashes q others (p.printed ++ part) (later, lost)
-      put p q others (inl line) = inr (record { cause = writing; wrote = short_behind p.printed t part q.printed (sym line.wrote) short; given_back = inr (fault, line.cut) })
+      put p q others (inl line) = inr (record { cause = writing; wrote = short_after p.printed t part q.printed (sym line.wrote) short; given_back = inr (fault, line.cut) })
       put p q others (inr more) =
           let rest = more.wrote.0 in
-          inr (record { cause = writing; wrote = short_behind p.printed (t ++ rest) part q.printed (more.wrote.1 ∙ append_assoc p.printed t rest) (short_longer part t rest short); given_back = more.given_back })
+          inr (record { cause = writing; wrote = short_after p.printed (t ++ rest) part q.printed (more.wrote.1 ∙ append_assoc p.printed t rest) (short_longer part t rest short); given_back = more.given_back })

@@ -131,10 +131,10 @@ pub record IsTable {A : Type 0} (rows : List (Row A)) : Type 0 where
 -- the row that a spelling is of
 pub record Found (A : Type 0) (rows : List (Row A)) (x : A) (ws rest : List Word) : Type 0 where
   pub verb : Word
-  pub behind : List Word
-  pub is : ws ≡ verb ∷ behind
-  pub reads : read_by rows verb (behind ++ rest) ≡ Some (x, rest)
-  pub plain : IsPlain verb × ArePlain behind
+  pub following : List Word
+  pub is : ws ≡ verb ∷ following
+  pub reads : read_by rows verb (following ++ rest) ≡ Some (x, rest)
+  pub plain : IsPlain verb × ArePlain following
   pub apart : (r : Row A) → is_other r rows ≡ true → bytes_eq verb r.verb ≡ false
 
 -- a verb is the verb of its own row

@@ -290,11 +290,11 @@ spelled_line version request line None e f = absurd cc
 spelled_line version request line (Some ws) e f =
     let found = found_by (requests version) (requests_table version) request ws [] e in
     let same : join_with_byte 32 ws ≡ line = cc in
-    let words : words_of line ≡ found.verb ∷ found.behind =
-    ap words_of (sym same) ∙ ap (λ v. words_of (join_with_byte 32 v)) found.is ∙ words_of-joined found.verb found.behind found.plain
+    let words : words_of line ≡ found.verb ∷ found.following =
+    ap words_of (sym same) ∙ ap (λ v. words_of (join_with_byte 32 v)) found.is ∙ words_of-joined found.verb found.following found.plain
     in
     ap (λ v. read_first (requests version) v >>= all_read) words
-    ∙ ap (λ v. read_by (requests version) found.verb v >>= all_read) (sym (append-nil found.behind))
+    ∙ ap (λ v. read_by (requests version) found.verb v >>= all_read) (sym (append-nil found.following))
     ∙ ap (λ o. o >>= all_read) found.reads
 
 pub spelled_is_read : SpelledIsRead

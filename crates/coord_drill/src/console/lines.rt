@@ -38,9 +38,9 @@ impl<D: CrashDisk> Console<D> {
     {
         let mut console = self;
         let mut rest = piece;
-        while let Some(behind) = console.line.take(rest) {
+        while let Some(following) = console.line.take(rest) {
             console = console.end_line(writer)?;
-            rest = behind;
+            rest = following;
         }
         Ok(console)
     }

@@ -8,7 +8,7 @@ ghost use Rattle.coord_ledger.specs.declared.release.Release.{Release as Row};
 ghost use Rattle.coord_ledger.specs.Facade.{IsGranted, disk_held, next_size, reply_of, settled_count, settled_world, settling_releases};
 ghost use Rattle.coord_drill.specs.Drill.{flight_events, landing_events};
 ghost use Rattle.coord_drill.specs.Faults.{IsOfMemory};
-ghost use Rattle.coord_drill.specs.Holding.{AreGranted, FlownTo, IsReadyDrill, Lands, Reports, behind, collected_lines, flown_answers, flown_lines, landed_answers, left, left_by, released_lines, waiting};
+ghost use Rattle.coord_drill.specs.Holding.{AreGranted, FlownTo, IsReadyDrill, Lands, Reports, after_step, collected_lines, flown_answers, flown_lines, landed_answers, left, left_by, released_lines, waiting};
 ghost use Rattle.coord_drill.specs.Moments.{CarriesIf, CutsIf, Flies, GoesBy, Leads, LeadsPart};
 ghost use Rattle.coord_drill.specs.declared.asked.Asked.TheVariants as ask;
 ghost use Rattle.coord_drill.specs.declared.fault.Fault.TheVariants.{OutOfMemory};
@@ -294,7 +294,7 @@ pub(super) fn print_released(
     ensures printed { OnOk result (string_bytes text.new ≡
         string_bytes text.old ++ released_lines version step (left ahead.old releases.old)) }
     ensures rest { OnOk result (left ahead.new releases.new ≡
-        behind step (left ahead.old releases.old)) }
+        after_step step (left ahead.old releases.old)) }
 {
     while let Some(release) = *ahead {
         if release.step != step {

@@ -46,8 +46,8 @@ module _ {D : Type 0} (d : DriverState D) (s : Machine) (is : IsConsistent s) (r
   log_is same = grind (arith, nat_tests, log_rebased, count_after)
 
   -- the driver's log is the part after the machine's settled steps, if none of its own steps is settled
-  pub log_behind : d.ledger.log.settled ≡ 0 → d.ledger.log ≡ rebased s.log s.log.settled
-  log_behind none = grind (arith, nat_tests, log_rebased)
+  pub log_after : d.ledger.log.settled ≡ 0 → d.ledger.log ≡ rebased s.log s.log.settled
+  log_after none = grind (arith, nat_tests, log_rebased)
 
 -- ---- flights go out
 

@@ -44,8 +44,8 @@ given_with : (log : Log) (s : Step) (given : List (List Output)) (front : World)
 given_with log s given front le is same led = grind (arith, nat_tests, front_is, outputs_of-push, pending_with, take-append-le)
 
 -- the outputs that remain once the next n steps are settled
-given_behind : (log : Log) (n : ℕ) (given : List (List Output)) → given ≡ outputs_of (settled_world log) (pending log) → drop n given ≡ outputs_of (settled_world (with_settled log n)) (pending (with_settled log n))
-given_behind log n given same = grind (arith, nat_tests, outputs_of-drop, world-add, drop-drop)
+given_after : (log : Log) (n : ℕ) (given : List (List Output)) → given ≡ outputs_of (settled_world log) (pending log) → drop n given ≡ outputs_of (settled_world (with_settled log n)) (pending (with_settled log n))
+given_after log n given same = grind (arith, nat_tests, outputs_of-drop, world-add, drop-drop)
 
 module _ {D : Type 0} where
   -- ---- one step more
@@ -126,7 +126,7 @@ module _ {D : Type 0} where
   -- one that was committed
   pub back_good : (log : Log) (kinds : List Kind) (given left : List (List Output)) (front settled later : World) (out any : ℕ) (kept : Kept D) (f : FlightState D) → IsLedger {D = D} log kinds given front settled out None → IsCarried f kept → f.mark ≡ Good
       → f.world ≡ settled_world log → out ≡ length f.steps → f.steps ≡ take (length f.steps) (pending log) → left ≡ drop (length f.steps) given → later ≡ fold f.world f.steps → IsLedger (with_settled log (length f.steps)) kinds left front later any (Some kept)
-  back_good log kinds given left front settled later out any kept f is carried good at size same rest led = grind (arith, nat_tests, world-add, log_stays, given_behind, front_is)
+  back_good log kinds given left front settled later out any kept f is carried good at size same rest led = grind (arith, nat_tests, world-add, log_stays, given_after, front_is)
 
   -- ---- what the front takes
 
@@ -150,9 +150,9 @@ module _ {D : Type 0} where
   fresh_next log kinds given front settled out store steps is same = grind (arith, nat_tests, fresh_first)
 
   -- the next steps, if there are no others after them, lead to the front
-  pub front_behind : (log : Log) (kinds : List Kind) (given : List (List Output)) (front settled : World) (out : ℕ) (store : Option (Kept D)) (steps : List Step) → IsLedger log kinds given front settled out store → steps ≡ take (length steps) (pending log)
+  pub front_after : (log : Log) (kinds : List Kind) (given : List (List Output)) (front settled : World) (out : ℕ) (store : Option (Kept D)) (steps : List Step) → IsLedger log kinds given front settled out store → steps ≡ take (length steps) (pending log)
       → length steps ≡ length (pending log) → front ≡ fold (settled_world log) steps
-  front_behind log kinds given front settled out store steps is same all =
+  front_after log kinds given front settled out store steps is same all =
       is.front_is ∙ sym (front_is log is.consistent) ∙ ap (fold (settled_world log)) (sym (same ∙ ap (λ n. take n (pending log)) all ∙ take-length (pending log)))
 
   -- with a step that was judged fresh

@@ -32,14 +32,14 @@ part_self [] = tt
 part_self (x ∷ xs) = inl (refl, part_self xs)
 
 -- with more in front
-part_behind : {A : Type 0} (ys us vs : List A) → IsPartOf us vs → IsPartOf us (ys ++ vs)
-part_behind [] us vs part = part
-part_behind (y ∷ ys) [] vs part = tt
-part_behind (y ∷ ys) (u ∷ us) vs part = inr (part_behind ys (u ∷ us) vs part)
+part_after : {A : Type 0} (ys us vs : List A) → IsPartOf us vs → IsPartOf us (ys ++ vs)
+part_after [] us vs part = part
+part_after (y ∷ ys) [] vs part = tt
+part_after (y ∷ ys) (u ∷ us) vs part = inr (part_after ys (u ∷ us) vs part)
 
 -- parts of two lists, one after the other
 pub part_both : {A : Type 0} (xs ys us vs : List A) → IsPartOf xs ys → IsPartOf us vs → IsPartOf (xs ++ us) (ys ++ vs)
-part_both [] ys us vs part more = part_behind ys us vs more
+part_both [] ys us vs part more = part_after ys us vs more
 part_both (x ∷ xs) [] us vs part more = absurd part
 part_both (x ∷ xs) (y ∷ ys) us vs (inl same) more = inl (same.0, part_both xs ys us vs same.1 more)
 part_both (x ∷ xs) (y ∷ ys) us vs (inr part) more = inr (part_both (x ∷ xs) ys us vs part more)

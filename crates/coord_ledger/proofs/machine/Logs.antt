@@ -34,9 +34,9 @@ front_is log is = (trail_is_cut log.base log.trail log.settled is.trail).whole
 -- ---- fresh steps
 
 -- the last steps of those that are fresh
-fresh_behind : (xs ys : List Step) (settled w : World) → AllFresh settled w (xs ++ ys) → AllFresh settled (fold w xs) ys
-fresh_behind [] ys settled w all = all
-fresh_behind (x ∷ xs) ys settled w all = fresh_behind xs ys settled (next w x) all.1
+fresh_after : (xs ys : List Step) (settled w : World) → AllFresh settled w (xs ++ ys) → AllFresh settled (fold w xs) ys
+fresh_after [] ys settled w all = all
+fresh_after (x ∷ xs) ys settled w all = fresh_after xs ys settled (next w x) all.1
 
 -- the first ones
 pub fresh_first : (n : ℕ) (xs : List Step) (settled w : World) → AllFresh settled w xs → AllFresh settled w (take n xs)
@@ -96,7 +96,7 @@ module _ (log : Log) (b : ℕ) (is : IsConsistentLog log) (le : log.settled + b 
       let trail : IsTrail w steps = (trail_is_cut log.base log.trail log.settled is.trail).others in
       let two : take b steps ++ drop b steps ≡ steps = take-append-drop b steps in
       let size : length (take b steps) ≡ b = length-take-le b steps (omega (arith, le, length-drop log.settled log.trail)) in
-      let rest : AllFresh w (fold w (take b steps)) (drop b steps) = fresh_behind (take b steps) (drop b steps) w w (subst (AllFresh w w) (sym two) is.fresh) in
+      let rest : AllFresh w (fold w (take b steps)) (drop b steps) = fresh_after (take b steps) (drop b steps) w w (subst (AllFresh w w) (sym two) is.fresh) in
       let later : AllFresh (fold w (take b (take b steps))) (fold w (take b steps)) (drop b steps) = later_settled w b (take b steps) (drop b steps) (omega (arith, size)) (subst (IsTrail w) (sym two) trail) rest in
       record {
         trail = is.trail;
@@ -115,14 +115,14 @@ doubted_stays log b is = record { trail = is.trail; within = is.within; few = is
 -- ---- the first steps alone
 
 -- none is after the first n of the first n
-pub none_behind : {A : Type 0} (n : ℕ) (xs : List A) → drop n (take n xs) ≡ []
-none_behind zero xs = refl
-none_behind (suc n) [] = refl
-none_behind (suc n) (x ∷ xs) = none_behind n xs
+pub none_after : {A : Type 0} (n : ℕ) (xs : List A) → drop n (take n xs) ≡ []
+none_after zero xs = refl
+none_after (suc n) [] = refl
+none_after (suc n) (x ∷ xs) = none_after n xs
 
 cut : (log : Log) (n : ℕ) → IsConsistentLog log → n ≤ length log.trail → IsConsistentLog (cut_to log n)
 cut log n is le =
-    let none = none_behind n log.trail in
+    let none = none_after n log.trail in
     let w = settled_world (cut_to log n) in
     record {
       trail = (trail_is_cut log.base log.trail n is.trail).first;

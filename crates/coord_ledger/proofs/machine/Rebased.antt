@@ -12,7 +12,7 @@ use Rattle.coord_world.specs.Facade.{accepts, again, fold}
 use Rattle.coord_ledger.specs.laws.Rebasing.{CrashReopens, RebasedAnswersAlike, RebasedGoesOn, rebased_machine}
 use Rattle.coord_view.specs.Shown.{shown}
 use Rattle.coord_ledger.proofs.machine.Lists.{each_one}
-use Rattle.coord_ledger.proofs.machine.Logs.{rebased_accepted, rebased_base, rebased_count, rebased_front, rebased_pending, rebased_settled, none_behind}
+use Rattle.coord_ledger.proofs.machine.Logs.{rebased_accepted, rebased_base, rebased_count, rebased_front, rebased_pending, rebased_settled, none_after}
 
 -- what a crash may keep after c more steps
 pub kept_later : (c d : ℕ) (f : Option FlightOut) (o : Option ℕ) → kept_by (c + d) f o ≡ map (λ n. c + n) (kept_by d f o)
@@ -115,4 +115,4 @@ pub rebased_goes_on : RebasedGoesOn
 rebased_goes_on s n e a is le calm one = each_one (λ b. after (rebased_machine s n) e b ≡ rebased_machine (after s e b) n) (answers s e) a one (on_event s n is le e calm)
 
 pub crash_reopens : CrashReopens
-crash_reopens = grind (arith, nat_tests, take-take, none_behind, settled)
+crash_reopens = grind (arith, nat_tests, take-take, none_after, settled)

@@ -23,11 +23,11 @@ full_first full k [] = refl
 full_first full k (t ∷ ts) = by_test t.0 (λ b. unless_full full (cond b (Err t.1) (refused_or (Fresh k) ts)) ≡ cond full (Err PendingFull) (cond b (Err t.1) (refused_or (Fresh k) ts))) (λ _. refl) (λ _. full_first full k ts)
 
 -- the test of a full ledger comes after that of a repeat
-behind_repeat : (full : Bool) (o : Option Session) (n : ℕ) (x : Command) (v : Result Verdict Refusal) → unless_full full (or_repeat o n x v) ≡ or_repeat o n x (unless_full full v)
-behind_repeat full o n x v = grind arith
+after_repeat : (full : Bool) (o : Option Session) (n : ℕ) (x : Command) (v : Result Verdict Refusal) → unless_full full (or_repeat o n x v) ≡ or_repeat o n x (unless_full full v)
+after_repeat full o n x v = grind arith
 
 going_order : (log : Log) (s : Step) → unless_full (is_full log) (accepts (front_world log) (settled_world log) s) ≡ unless_repeat (front_world log) s (judged_in_order log s)
-going_order log s = grind (arith, behind_repeat, full_first)
+going_order log s = grind (arith, after_repeat, full_first)
 
 pub submit_order : SubmitOrder
 submit_order log s = ap (cond (has_stopped log) (Err Stopped)) (going_order log s)

@@ -26,7 +26,7 @@ fn next_steps(trail: &[Step], done: usize, size: usize) -> &[Step]
 impl<D: Disk> Ledger<D> {
     /// Returns the world after these steps, which are the next pending steps. If they are all pending
     /// steps, the world is a copy of the front world. Errors: out of memory.
-    fn world_behind(&self, steps: &[Step]) -> Result<World, AllocError>
+    fn flown_world(&self, steps: &[Step]) -> Result<World, AllocError>
         requires { steps.now ≡ take (length steps.now) (pending self.now.log) }
         ensures { IfOk result (λ world. world ≡ fold (settled_world self.now.log) steps.now) }
     {
@@ -52,7 +52,7 @@ impl<D: Disk> Ledger<D> {
     {
         let size = MAX_BATCH_STEPS.min(self.trail.len() - self.done);
         let steps = Vec::from_slice(self.alloc, next_steps(&self.trail, self.done, size))?;
-        match self.world_behind(&steps) {
+        match self.flown_world(&steps) {
             Ok(next) => Ok((steps, next)),
             Err(fault) => {
                 drop(steps);

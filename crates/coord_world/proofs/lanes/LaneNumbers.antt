@@ -15,7 +15,7 @@ use Rattle.coord_tables.specs.Links.{Turned}
 use Rattle.coord_tables.proofs.LinkLanes.{in_order-found, in_order-sorted}
 use Rattle.coord_tables.proofs.SortedEntries.{found}
 use Rattle.coord_world.specs.code.Fronts.{HasNumber}
-use Rattle.coord_types.specs.Facade.{Ideal, behind_front, contains}
+use Rattle.coord_types.specs.Facade.{Ideal, after_front, contains}
 use Rattle.coord_types.specs.declared.messages.Msg.TheVariants.{Abort, Ack, Ready}
 use Rattle.coord_world.specs.laws.Laws.{IsShort}
 use Rattle.coord_world.proofs.legal.Sound.{Sound}
@@ -99,19 +99,19 @@ way_short w u v sound linked = grind (arith, nat_tests, sound, linked, counted (
 pub way_aborts : (w : Ideal) (u v : ℕ) → Sound w → w.linked u v ≡ true → aborts (w.in_transit u v) ≤ 1
 way_aborts w u v h1 h2 = grind (arith, nat_tests, h1, h2)
 
-aborts-behind : (q : List Msg) → aborts q ≤ aborts (behind_front q) + 1
-aborts-behind q = grind (arith, nat_tests)
+aborts-following : (q : List Msg) → aborts q ≤ aborts (after_front q) + 1
+aborts-following q = grind (arith, nat_tests)
 
 aborts-queue : (l : Lane) → aborts l.queue ≤ aborts (transit l) + 1
-aborts-queue l = grind (arith, nat_tests, aborts-behind l.queue)
+aborts-queue l = grind (arith, nat_tests, aborts-following l.queue)
 
 -- only the front is left out
-length-behind : (q : List Msg) → length q ≤ length (behind_front q) + 1
-length-behind q = grind (arith, nat_tests)
+length-following : (q : List Msg) → length q ≤ length (after_front q) + 1
+length-following q = grind (arith, nat_tests)
 
 -- at most the front isn't on the way
 length-queue : (l : Lane) → length l.queue ≤ length (transit l) + 1
-length-queue l = grind (arith, nat_tests, length-behind l.queue)
+length-queue l = grind (arith, nat_tests, length-following l.queue)
 
 -- a lane of a sound world is short
 pub lane_short : (w : World) (u v : ℕ) (l : Lane) → Sound (view w) → lane_at w.links u v ≡ Some l → IsShort l

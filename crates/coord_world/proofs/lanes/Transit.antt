@@ -1,11 +1,11 @@
 -- The messages in transit on one lane, as the lane changes and as messages join it.
 use Rattle.std.proofs.Common.{◌≡◌, ◌≢◌, ◌+◌, Bool, true, false, ◌&&◌, ◌||◌, not, List, [], ◌∷◌, ◌++◌, refl, ap, ◌⊎◌, inl, inr, arith, ◌==◌, ℕ, ◌≤◌}
 use Rattle.std.proofs.lemmas.Bool.Decides.{nat_tests}
-use Rattle.coord_types.specs.Messages.{behind_front, is_nil}
+use Rattle.coord_types.specs.Messages.{after_front, is_nil}
 use Rattle.coord_types.specs.declared.messages.Msg.{Msg}
 use Rattle.coord_link.specs.LaneMachine.{Lane, Counts, transit, sent, took, cleared}
 use Rattle.coord_types.specs.declared.messages.Msg.TheVariants.{Abort, Ack, Ready}
-use Rattle.coord_world.specs.protocol.Links.{aborts, acks, readies, readies_behind, strays}
+use Rattle.coord_world.specs.protocol.Links.{aborts, acks, readies, readies_after, strays}
 
 -- ---- the lane changes
 
@@ -52,7 +52,7 @@ counts-sent l ms counts = counts_from (sent ms l) (elim (counts_cases l counts) 
 ])
 
 -- a front that is taken leaves the way
-pub transit-took : (l : Lane) → l.got ≡ l.base → transit (took l) ≡ behind_front (transit l)
+pub transit-took : (l : Lane) → l.got ≡ l.base → transit (took l) ≡ after_front (transit l)
 transit-took l same = grind (arith, nat_tests)
 
 -- the numbers fit a front that was taken
@@ -87,31 +87,31 @@ readies-append (Ack ∷ xs) ys = readies-append xs ys
 readies-append (Ready ∷ xs) ys = omega (arith, readies-append xs ys)
 
 -- no Ready stands after a new last message that is none
-pub readies_behind-abort : (xs : List Msg) (n : ℕ) → readies_behind (xs ++ Abort n ∷ []) ≡ readies_behind xs
-readies_behind-abort [] n = omega arith
-readies_behind-abort (Abort k ∷ xs) n = omega (arith, readies-append xs (Abort n ∷ []))
-readies_behind-abort (Ack ∷ xs) n = readies_behind-abort xs n
-readies_behind-abort (Ready ∷ xs) n = readies_behind-abort xs n
+pub readies_after-abort : (xs : List Msg) (n : ℕ) → readies_after (xs ++ Abort n ∷ []) ≡ readies_after xs
+readies_after-abort [] n = omega arith
+readies_after-abort (Abort k ∷ xs) n = omega (arith, readies-append xs (Abort n ∷ []))
+readies_after-abort (Ack ∷ xs) n = readies_after-abort xs n
+readies_after-abort (Ready ∷ xs) n = readies_after-abort xs n
 
-pub readies_behind-ack : (xs : List Msg) → readies_behind (xs ++ Ack ∷ []) ≡ readies_behind xs
-readies_behind-ack [] = omega arith
-readies_behind-ack (Abort k ∷ xs) = omega (arith, readies-append xs (Ack ∷ []))
-readies_behind-ack (Ack ∷ xs) = readies_behind-ack xs
-readies_behind-ack (Ready ∷ xs) = readies_behind-ack xs
+pub readies_after-ack : (xs : List Msg) → readies_after (xs ++ Ack ∷ []) ≡ readies_after xs
+readies_after-ack [] = omega arith
+readies_after-ack (Abort k ∷ xs) = omega (arith, readies-append xs (Ack ∷ []))
+readies_after-ack (Ack ∷ xs) = readies_after-ack xs
+readies_after-ack (Ready ∷ xs) = readies_after-ack xs
 
 -- at most all stand after one
-pub readies_behind_le : (xs : List Msg) → readies_behind xs ≤ readies xs
-readies_behind_le [] = omega arith
-readies_behind_le (Abort k ∷ xs) = omega arith
-readies_behind_le (Ack ∷ xs) = readies_behind_le xs
-readies_behind_le (Ready ∷ xs) = omega (arith, readies_behind_le xs)
+pub readies_after_le : (xs : List Msg) → readies_after xs ≤ readies xs
+readies_after_le [] = omega arith
+readies_after_le (Abort k ∷ xs) = omega arith
+readies_after_le (Ack ∷ xs) = readies_after_le xs
+readies_after_le (Ready ∷ xs) = omega (arith, readies_after_le xs)
 
 -- without an Abort nothing stands after one
-pub readies_behind-ready : (xs : List Msg) → aborts xs ≡ 0 → readies_behind (xs ++ Ready ∷ []) ≡ 0
-readies_behind-ready [] none = omega arith
-readies_behind-ready (Abort k ∷ xs) none = absurd (omega arith)
-readies_behind-ready (Ack ∷ xs) none = readies_behind-ready xs none
-readies_behind-ready (Ready ∷ xs) none = readies_behind-ready xs none
+pub readies_after-ready : (xs : List Msg) → aborts xs ≡ 0 → readies_after (xs ++ Ready ∷ []) ≡ 0
+readies_after-ready [] none = omega arith
+readies_after-ready (Abort k ∷ xs) none = absurd (omega arith)
+readies_after-ready (Ack ∷ xs) none = readies_after-ready xs none
+readies_after-ready (Ready ∷ xs) none = readies_after-ready xs none
 
 -- of Aborts that carry another distance
 pub strays-append : (n : ℕ) (xs ys : List Msg) → strays n (xs ++ ys) ≡ strays n xs + strays n ys
@@ -127,4 +127,4 @@ strays_le n (Abort k ∷ xs) = grind (arith, strays_le n xs)
 strays_le n (Ack ∷ xs) = strays_le n xs
 strays_le n (Ready ∷ xs) = strays_le n xs
 
-pub ruleset ways = (strays-append, strays_le, aborts-append, acks-append, readies-append, readies_behind-abort, readies_behind-ack, readies_behind-ready, readies_behind_le)
+pub ruleset ways = (strays-append, strays_le, aborts-append, acks-append, readies-append, readies_after-abort, readies_after-ack, readies_after-ready, readies_after_le)

@@ -6,7 +6,7 @@ use Rattle.coord_types.specs.Facade.{NodeSet, NodeState, Ideal, contains}
 use Rattle.coord_types.specs.declared.messages.Mode.TheVariants.{Ready, Converge}
 use Rattle.coord_node.specs.Rules.{is_empty, is_parent}
 use Rattle.coord_world.specs.Facade.{is_abort, is_legal_node, is_parent_near, is_ready}
-use Rattle.coord_world.specs.protocol.Links.{Link, LegalLink, one, aborts, acks, readies, readies_behind, strays, is_converge, link}
+use Rattle.coord_world.specs.protocol.Links.{Link, LegalLink, one, aborts, acks, readies, readies_after, strays, is_converge, link}
 use Rattle.coord_types.specs.NodeSet as set
 
 -- ---- nodes
@@ -69,7 +69,7 @@ legal_node count r sound fit =
 pub record SoundLink (l : Link) : Type 0 where
   pub counted : aborts l.out + one (is_abort l.there.mode && l.there.child) + acks l.back ≡ one l.here.awaits
   pub one_ready : readies l.out ≤ 1
-  pub ready_first : readies_behind l.out ≡ 0
+  pub ready_first : readies_after l.out ≡ 0
   pub converged : is_converge l.there.mode ≡ true → l.there.child ≡ true → is_ready l.here.mode ≡ true → 1 ≤ readies l.out
   pub one_parent : l.here.child ≡ true → l.there.child ≡ false
   pub no_ready : is_ready l.here.mode ≡ false → l.here.child ≡ false → aborts l.out ≡ 0 → readies l.out ≡ 0

@@ -3,7 +3,7 @@
 use Rattle.std.proofs.Common.{◌≡◌, ℕ, ◌+◌, ◌≤◌, Bool, true, false, ◌&&◌, List, [], ◌∷◌, Option, Some, None, refl, sym, ap, ◌∙◌, subst, arith, is_some, length}
 use Rattle.std.specs.List.{list_all}
 use Rattle.std.proofs.lemmas.Bool.Decides.{nat_tests}
-use Rattle.coord_types.specs.Facade.{NodeSet, NodeState, behind_front, get, contains}
+use Rattle.coord_types.specs.Facade.{NodeSet, NodeState, after_front, get, contains}
 use Rattle.coord_types.specs.declared.messages.Mode.{Mode}
 use Rattle.coord_types.specs.declared.messages.Mode.TheVariants.{Ready, Abort, Converge}
 use Rattle.coord_types.specs.declared.messages.Msg.{Msg}
@@ -61,17 +61,17 @@ module _ (w : World) (range : InRange w) (first : w.version ≡ 1) where
   no_strays (msg.Ack ∷ ms) within = no_strays ms within.1
   no_strays (msg.Ready ∷ ms) within = no_strays ms within.1
 
-  no_strays_behind : (ms : List Msg) → CarryWithin (farthest w.version w.count) ms → strays 0 (behind_front ms) ≡ 0
-  no_strays_behind [] within = refl
-  no_strays_behind (m ∷ ms) within = no_strays ms within.1
+  no_strays_after : (ms : List Msg) → CarryWithin (farthest w.version w.count) ms → strays 0 (after_front ms) ≡ 0
+  no_strays_after [] within = refl
+  no_strays_after (m ∷ ms) within = no_strays ms within.1
 
   no_strays_on_way : (o : Option Lane) → ((l : Lane) → o ≡ Some l → CarryWithin (farthest w.version w.count) l.queue) → strays 0 (transit_or_none o) ≡ 0
   no_strays_on_way None carry = refl
   no_strays_on_way (Some l) carry =
       let within = carry l refl in
       let whole = no_strays l.queue within in
-      let behind = no_strays_behind l.queue within in
-      by_test (is_front_taken l) (λ b. strays 0 (transit l) ≡ 0) (λ e. grind (arith, e, behind)) (λ e. grind (arith, e, whole))
+      let following = no_strays_after l.queue within in
+      by_test (is_front_taken l) (λ b. strays 0 (transit l) ≡ 0) (λ e. grind (arith, e, following)) (λ e. grind (arith, e, whole))
 
   -- H
   links : (u v : ℕ) → has_right_distances (link (view w) u v) ≡ true

@@ -1,4 +1,4 @@
--- The rows of a world in its ranges fit together, and tell it from any other.
+-- The rows of a world in its ranges fit together, and distinguish it from any other.
 use Rattle.std.proofs.Common.{arith, ◌≡◌, ℕ, List, [], ◌∷◌, Option, map, refl, sym, ap, ◌∙◌, is_some, ◌≤◌, true, Some, cond, eqb, length, subst, Ordering}
 use Rattle.std.proofs.lemmas.Bool.Decides.{nat_tests}
 use Rattle.std.specs.FinMap.{nat_cmp-IsAntisymmetric}
@@ -71,7 +71,7 @@ module _ (v w : World) (in_v : InRange v) (in_w : InRange w) (same : rows_of v �
   one_world : v ≡ w
   one_world = grind (arith, nat_tests, same_links, same_table nat_cmp-IsAntisymmetric v.nodes w.nodes each_node, same_entries_table v.sessions w.sessions same_sessions)
 
--- rows tell worlds apart
+-- rows distinguish worlds
 pub rows_give_world : RowsGiveWorld
 rows_give_world v w in_v in_w same = one_world v w in_v in_w same
 

@@ -6,7 +6,7 @@ use Rattle.coord_types.specs.declared.steps.Step.TheVariants.{Order, Take, Clear
 use Rattle.coord_world.specs.Facade.{CarryWithin, InRange, IsFresh, World, farthest, IsDistant, carried, next, state}
 use Rattle.coord_world.proofs.Acceptance.{fresh_take, Passes, fresh_order}
 use Rattle.coord_world.proofs.ranges.EveryNode.{carried_by, Adds, AllRows, Carries, rows_next}
-use Rattle.coord_types.specs.Facade.{NodeState, behind_front}
+use Rattle.coord_types.specs.Facade.{NodeState, after_front}
 use Rattle.coord_types.specs.declared.messages.Msg.{Msg}
 use Rattle.coord_types.specs.declared.steps.Command.{Command}
 use Rattle.coord_types.specs.declared.steps.Command.TheVariants.{Add, Remove, Join, Drop, Reset, Confirm}
@@ -78,16 +78,16 @@ within_more n k [] less within = tt
 within_more n k (m ∷ xs) less within = (omega (arith, less, within.0), within_more n k xs less within.1)
 
 -- without the front
-within_behind : (n : ℕ) (xs : List Msg) → CarryWithin n xs → CarryWithin n (behind_front xs)
-within_behind n [] within = tt
-within_behind n (m ∷ xs) within = within.1
+within_after : (n : ℕ) (xs : List Msg) → CarryWithin n xs → CarryWithin n (after_front xs)
+within_after n [] within = tt
+within_after n (m ∷ xs) within = within.1
 
 -- each change of a lane keeps its messages within the ranges
 carries_carried : (version count : ℕ) → LaneCarries (CarryWithin (farthest version (count + 1))) (λ x y l. CarryWithin (farthest version count) l.queue) (λ x y l. CarryWithin (farthest version (count + 1)) l.queue)
 carries_carried version count = record {
   weaken = λ x y l within. within_more _ _ l.queue (farthest_grows version count) within;
   take = λ x y l within. within_more _ _ l.queue (farthest_grows version count) within;
-  clear = λ x y l within. within_behind _ l.queue (within_more _ _ l.queue (farthest_grows version count) within);
+  clear = λ x y l within. within_after _ l.queue (within_more _ _ l.queue (farthest_grows version count) within);
   send = λ x y l ms sends within. within_append _ l.queue ms within sends;
 }
 

@@ -13,7 +13,7 @@ use Rattle.coord_link.specs.LaneMachine.{Lane, cleared, new_lane, sent, took}
 use Rattle.coord_node.specs.Facade.{Transition, added, is_link, lost, request, sends_of, transition, without, without_parent}
 use Rattle.coord_tables.proofs.LinkLanes.{lane-apart}
 use Rattle.coord_world.specs.Facade.{Links, World, all_sent, is_lane, lane_at, lanes_in_order, next, on_lane, sent_by, state, with_command, with_transition}
-use Rattle.coord_world.specs.code.Fronts.{by_lesser, front_behind, fronts_sent, new_fronts}
+use Rattle.coord_world.specs.code.Fronts.{by_lesser, front_after, fronts_sent, new_fronts}
 use Rattle.coord_world.specs.code.Ready.{IsReadyFor}
 use Rattle.coord_tables.proofs.Cases.{by_test}
 use Rattle.coord_world.proofs.Acceptance.{fresh_order, fresh_take}
@@ -50,13 +50,13 @@ take_fronts w a u d apart turned =
     untouched b None isnt = refl
     untouched b (Some l) isnt = ap (λ t. Some (cond t (took l) l)) isnt
 
-clear_fronts : (w : World) (a b : ℕ) → Turned (on_lane w a b cleared).links → front_behind (lane_at w.links a b) (a, b) ≡ all_sent w.links (lanes_in_order (on_lane w a b cleared).links)
+clear_fronts : (w : World) (a b : ℕ) → Turned (on_lane w a b cleared).links → front_after (lane_at w.links a b) (a, b) ≡ all_sent w.links (lanes_in_order (on_lane w a b cleared).links)
 clear_fronts w a b turned =
     let after = (on_lane w a b cleared).links in
     sym (in_order w.links after turned ((a, b) ∷ []) (tt, tt)
     (λ k l is away. let other : is_lane k a b ≡ false = grind (arith, nat_tests, away) in still_same k (lane_at w.links k.0 k.1) l (sym (lane_on w a b cleared k.0 k.1 ∙ untouched (is_lane k a b) (lane_at w.links k.0 k.1) other) ∙ is))
     ∙ append-nil (front_now w.links (a, b) (lane_at after a b))
-    ∙ ap (front_now w.links (a, b)) (lane_on w a b cleared a b) ∙ behind (lane_at w.links a b) refl)
+    ∙ ap (front_now w.links (a, b)) (lane_on w a b cleared a b) ∙ following (lane_at w.links a b) refl)
   where
     untouched : (t : Bool) (o : Option Lane) → t ≡ false → option_map (λ l. cond t (cleared l) l) o ≡ o
     untouched t None isnt = refl
@@ -65,9 +65,9 @@ clear_fronts w a b turned =
     here : is_lane (a, b) a b ≡ true
     here = grind (arith, nat_tests)
 
-    behind : (o : Option Lane) → lane_at w.links a b ≡ o → front_now w.links (a, b) (option_map (λ l. cond (is_lane (a, b) a b) (cleared l) l) o) ≡ front_behind o (a, b)
-    behind None was = refl
-    behind (Some l) was = grind (arith, nat_tests, was)
+    following : (o : Option Lane) → lane_at w.links a b ≡ o → front_now w.links (a, b) (option_map (λ l. cond (is_lane (a, b) a b) (cleared l) l) o) ≡ front_after o (a, b)
+    following None was = refl
+    following (Some l) was = grind (arith, nat_tests, was)
 
 -- a node sends nothing to the one that it lost
 not_back : (r : NodeState) (v : ℕ) → set.contains (lost r v).to v ≡ false

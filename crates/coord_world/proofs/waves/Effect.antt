@@ -1,7 +1,7 @@
 -- What a step does to a wave, and what transitions that send no Abort leave on the way.
 use Rattle.std.proofs.Common.{◌≡◌, ◌≢◌, ◌⊎◌, ℕ, ◌≤◌, true, false, List, [], ◌∷◌, Some, None, eqb, arith}
 use Rattle.std.proofs.lemmas.Bool.Decides.{nat_tests}
-use Rattle.coord_types.specs.Facade.{Ideal, NodeState, contains, behind_front}
+use Rattle.coord_types.specs.Facade.{Ideal, NodeState, contains, after_front}
 use Rattle.coord_types.specs.declared.messages.Mode.TheVariants.{Ready, Abort, Converge}
 use Rattle.coord_types.specs.declared.steps.Kind.{Kind}
 use Rattle.coord_types.specs.declared.steps.Kind.TheVariants.{Finished}
@@ -110,8 +110,8 @@ pub data Effect (z y : Ideal) (signals : ℕ → ℕ) (starts : List ℕ) (k : K
 -- ---- transitions that send no Abort
 
 -- to take a message leaves no more
-fewer_behind : (xs : List Msg) → aborts (behind_front xs) ≤ aborts xs
-fewer_behind xs = grind (arith, nat_tests)
+fewer_after : (xs : List Msg) → aborts (after_front xs) ≤ aborts xs
+fewer_after xs = grind (arith, nat_tests)
 
 -- a transition sends no Abort
 abbrev pub IsQuiet : Transition → Type 0
@@ -120,10 +120,10 @@ IsQuiet d = (y : ℕ) → aborts (added d y) ≡ 0
 module _ (z : Ideal) (v t : ℕ) where
   -- a message that is taken is on no other way
   headed_fewer : (a b : ℕ) → aborts ((headed z v t).in_transit a b) ≤ aborts (z.in_transit a b)
-  headed_fewer a b = grind (arith, nat_tests, fewer_behind (z.in_transit a b))
+  headed_fewer a b = grind (arith, nat_tests, fewer_after (z.in_transit a b))
 
   -- the message that was taken was no Abort, or its receiver wasn't Ready
-  headed_kept : (is_ready (z.state t).mode ≡ true → aborts (z.in_transit v t) ≤ aborts (behind_front (z.in_transit v t))) → (a b : ℕ) → is_ready (z.state b).mode ≡ true → aborts (z.in_transit a b) ≤ aborts ((headed z v t).in_transit a b)
+  headed_kept : (is_ready (z.state t).mode ≡ true → aborts (z.in_transit v t) ≤ aborts (after_front (z.in_transit v t))) → (a b : ℕ) → is_ready (z.state b).mode ≡ true → aborts (z.in_transit a b) ≤ aborts ((headed z v t).in_transit a b)
   headed_kept h1 a b h2 = grind (arith, nat_tests, h1, h2)
 
 module _ (z : Ideal) (t : ℕ) (d : Transition) (quiet : IsQuiet d) where
@@ -136,7 +136,7 @@ module _ (z : Ideal) (t : ℕ) (d : Transition) (quiet : IsQuiet d) where
   calm_transition = record { fewer = λ a b. omega (arith, same_aborts a b); kept = λ a b ready. omega (arith, same_aborts a b) }
 
 -- a quiet transition that takes a message
-pub calm_take : (z : Ideal) (v t : ℕ) (d : Transition) → IsQuiet d → (is_ready (z.state t).mode ≡ true → aborts (z.in_transit v t) ≤ aborts (behind_front (z.in_transit v t))) → Calm z (after_take z v t d)
+pub calm_take : (z : Ideal) (v t : ℕ) (d : Transition) → IsQuiet d → (is_ready (z.state t).mode ≡ true → aborts (z.in_transit v t) ≤ aborts (after_front (z.in_transit v t))) → Calm z (after_take z v t d)
 calm_take z v t d quiet same = record {
   fewer = λ a b. omega (arith, same_aborts (headed z v t) t d quiet a b, headed_fewer z v t a b);
   kept = λ a b ready. omega (arith, same_aborts (headed z v t) t d quiet a b, headed_kept z v t same a b ready);

@@ -1,7 +1,7 @@
 -- The new fronts of a step, lane by lane. A lane gets a new front only if the step sends a message on it while it is
 -- empty, or clears its front.
 use Rattle.std.specs.Prelude.{◌≡◌, ℕ, ◌-◌, ◌^◌, ◌<◌, nat_lt, List, [], ◌∷◌, ◌++◌, Option, Some, None, if◌then◌else◌}
-use Rattle.coord_types.specs.Facade.{behind_front, is_nil}
+use Rattle.coord_types.specs.Facade.{after_front, is_nil}
 use Rattle.coord_types.specs.declared.messages.Msg.{Msg}
 use Rattle.coord_types.specs.declared.outputs.Output.{Output}
 use Rattle.coord_types.specs.declared.outputs.Output.TheVariants.{Sent}
@@ -38,9 +38,9 @@ fronts_sent links u [] = []
 fronts_sent links u (s ∷ ss) = front_sent (lane_at links u s.0) (u, s.0) s.1 ++ fronts_sent links u ss
 
 -- the packet of the message after a lane's front; that message becomes the front once the present front is cleared
-abbrev pub front_behind : Option Lane → ℕ × ℕ → List Output
-front_behind None k = []
-front_behind (Some l) k = packets_of k (cleared l) (behind_front l.queue)
+abbrev pub front_after : Option Lane → ℕ × ℕ → List Output
+front_after None k = []
+front_after (Some l) k = packets_of k (cleared l) (after_front l.queue)
 
 -- the outputs of both ends of a link, with the outputs of the lesser end first
 abbrev pub by_lesser : ℕ → ℕ → List Output → List Output → List Output
@@ -58,4 +58,4 @@ fronts_ordered w (Confirm u e) = []
 abbrev pub new_fronts : World → Step → List Output
 new_fronts w (Order c n x) = fronts_ordered w x
 new_fronts w (Take p) = fronts_sent w.links p.to (sends_of (transition w.version p.msg (state w p.to) p.from))
-new_fronts w (Clear p) = front_behind (lane_at w.links p.from p.to) (p.from, p.to)
+new_fronts w (Clear p) = front_after (lane_at w.links p.from p.to) (p.from, p.to)

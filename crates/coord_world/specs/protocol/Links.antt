@@ -56,11 +56,11 @@ readies (msg.Ack ∷ ms) = readies ms
 readies (msg.Ready ∷ ms) = 1 + readies ms
 
 -- the number of Readies after the first Abort
-abbrev pub readies_behind : List Msg → ℕ
-readies_behind [] = 0
-readies_behind (msg.Abort k ∷ ms) = readies ms
-readies_behind (msg.Ack ∷ ms) = readies_behind ms
-readies_behind (msg.Ready ∷ ms) = readies_behind ms
+abbrev pub readies_after : List Msg → ℕ
+readies_after [] = 0
+readies_after (msg.Abort k ∷ ms) = readies ms
+readies_after (msg.Ack ∷ ms) = readies_after ms
+readies_after (msg.Ready ∷ ms) = readies_after ms
 
 -- the number of Aborts that carry a distance other than n
 abbrev pub strays : ℕ → List Msg → ℕ
@@ -103,7 +103,7 @@ has_one_ready_at_most l = nat_le (readies l.out) 1
 
 -- D: no Ready follows an Abort
 abbrev pub has_readies_first : Link → Bool
-has_readies_first l = readies_behind l.out == 0
+has_readies_first l = readies_after l.out == 0
 
 -- E: if the other end waits for this end's Ready, a Ready is in transit to it, or this end is not Ready
 abbrev pub has_ready_for_child : Link → Bool

@@ -12,12 +12,12 @@ ghost use Rattle.coord_world.specs.protocol.NumberedWorld.{state};
 ghost use Rattle.coord_world.specs.protocol.Next.{with_transitions, with_transition, on_lane, with_command};
 ghost use Rattle.coord_world.specs.protocol.Outputs.{receipt, signals};
 ghost use Rattle.coord_world.specs.protocol.Ranges.{carried};
-ghost use Rattle.coord_world.specs.code.Fronts.{AreNumbered, front_behind, fronts_ordered, fronts_sent};
+ghost use Rattle.coord_world.specs.code.Fronts.{AreNumbered, front_after, fronts_ordered, fronts_sent};
 ghost use Rattle.coord_world.specs.code.NodeTransitions.{CanApply};
 ghost use Rattle.coord_world.specs.code.Ready.{IsReadyFor};
 
 use crate::step::outputs::{
-    front_behind, push_fronts, push_fronts_of_both, push_receipt, push_signal,
+    front_after, push_fronts, push_fronts_of_both, push_receipt, push_signal,
 };
 use crate::tables::Tables;
 use coord_link::Lane;
@@ -195,13 +195,13 @@ impl Tables {
             l.base < 2 ^ 64 - 2) }
         ensures world { OnOk result (self.new ≡ on_lane self.old from to cleared) }
         ensures outputs { IfOk result (λ outputs. outputs.items ≡
-            front_behind (lane_at self.old.links from to) record {
+            front_after (lane_at self.old.links from to) record {
               0 = from;
               1 = to;
             }) }
         ensures err { OnErr result (self.new ≡ self.old) }
     {
-        let outputs = front_behind(alloc, &self.links, from, to)?;
+        let outputs = front_after(alloc, &self.links, from, to)?;
         self.links.clear(from, to);
         Ok(outputs)
     }

@@ -5,7 +5,7 @@ ghost use Rattle.std.specs.List.{All};
 ghost use Rattle.std.specs.Option.{ForSome};
 ghost use Rattle.coord_tables.specs.Links.{lane_at, lanes_in_order};
 ghost use Rattle.coord_world.specs.protocol.Outputs.{again_by, all_again, receipt};
-ghost use Rattle.coord_world.specs.code.Fronts.{AreNumbered, HasNumber, by_lesser, front_behind, front_sent, fronts_sent};
+ghost use Rattle.coord_world.specs.code.Fronts.{AreNumbered, HasNumber, by_lesser, front_after, front_sent, fronts_sent};
 ghost use Rattle.coord_world.specs.code.NodeTransitions.{signal_of};
 
 use crate::step::node_transition::NodeTransition;
@@ -109,7 +109,7 @@ fn push_front(
 
 /// Returns the packet of the message after a lane's front, if there is one. That message becomes the front when the
 /// present front is cleared.
-pub fn front_behind(
+pub fn front_after(
     alloc: Global,
     links: &LinkTable,
     from: NodeId,
@@ -118,7 +118,7 @@ pub fn front_behind(
     requires there { ForSome (lane_at links.now from to) (λ l. 0 < length l.queue) }
     requires numbered { ForSome (lane_at links.now from to) (λ l. l.base < 2 ^ 64 - 2) }
     ensures { IfOk result (λ outputs. outputs.items ≡
-        front_behind (lane_at links.now from to) record { 0 = from; 1 = to }) }
+        front_after (lane_at links.now from to) record { 0 = from; 1 = to }) }
 {
     let Some(lane) = links.lane(from, to) else {
         return Ok(Vec::new(alloc));

@@ -12,5 +12,5 @@ invariant-loop-place l =
       filled : l.filled ≡ loose_below disk l.place;
       few : l.filled ≤ l.place;
       below : (i : ℕ) → i < l.place → slice_get l.read i ≡ (if is_loose disk i then Some (repeated l.filler (loose_below disk i)) else slice_get l.fn.read i);
-      behind : (i : ℕ) → l.place ≤ i → slice_get l.read i ≡ slice_get l.fn.read i;
+      following : (i : ℕ) → l.place ≤ i → slice_get l.read i ≡ slice_get l.fn.read i;
     }

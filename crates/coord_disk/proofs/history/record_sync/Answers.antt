@@ -9,10 +9,10 @@ use Rattle.coord_disk.proofs.history.record_sync.Goals as goal
 settled : (c : goal.After-push_reserved) → (with_items c.extend_from_slice.new.self c.copy_written.new.synced).items ≡ c.args.read.now.items
 settled c =
     let old = c.args.history.now in
-    let behind = c.deref.result.now in
+    let following = c.deref.result.now in
     let start : c.len-before.result ≡ length old.synced.items = search rules in
-    let tail = take (length behind - c.len-before.result) (drop c.len-before.result behind) in
-    let tail_is = take_rest behind c.len-before.result ∙ ap (λ (n : ℕ). drop n behind) start ∙ ap (λ (l : List ℕ). drop (length old.synced.items) l) c.deref.ensures.value in
+    let tail = take (length following - c.len-before.result) (drop c.len-before.result following) in
+    let tail_is = take_rest following c.len-before.result ∙ ap (λ (n : ℕ). drop n following) start ∙ ap (λ (l : List ℕ). drop (length old.synced.items) l) c.deref.ensures.value in
     let synced_is : c.deref_mut.result.now ≡ old.synced.items ++ tail = search rules in
     let ready = is_ready old c.args.read.now.items c.deref-3.result.now tail c.deref_mut.result.now c.deref-2.result.now c.requires.led c.deref-3.ensures.value (c.deref-2.ensures.value ∙ c.reserve.ensures.items) tail_is synced_is in
     with_items_is c.extend_from_slice.new.self c.copy_written.new.synced (c.copy_written.auto.synced ∙ c.deref_mut.ensures.len) ∙ c.copy_written.ensures old.first.items ready ∙ c.deref-3.ensures.value

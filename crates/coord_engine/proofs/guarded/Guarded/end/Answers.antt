@@ -1,7 +1,7 @@
 use Rattle.std.proofs.Common.{◌++◌, length, subst, sym, take, ap, ◌∙◌}
 use Rattle.coord_engine.proofs.Histories.{all_of}
 use Rattle.coord_engine.proofs.Past.{ended}
-use Rattle.coord_engine.proofs.Releasing.{begins_behind, behind_both, released_back}
+use Rattle.coord_engine.proofs.Releasing.{begins_after, after_both, released_back}
 use Rattle.coord_engine.specs.Facade.{Beginning, HasReadSettled, StartsWith}
 use Rattle.coord_ledger.specs.Facade.{settled_steps}
 use Rattle.coord_engine.proofs.guarded.Guarded.end.Goals as goal
@@ -20,10 +20,10 @@ write_settled-requires-clause-on g c =
     let back = c.take_back.ensures in
     let l = c.self.inside.ledger in
     let settled = settled_steps l.log in
-    let begins = begins_behind g.L.Origin.history g.L.Origin.earlier settled flew.settled c.self.inside.writer c.take_back.new.self c.flight.inside.reader inv.9 back.same flew.read_them back.begins in
+    let begins = begins_after g.L.Origin.history g.L.Origin.earlier settled flew.settled c.self.inside.writer c.take_back.new.self c.flight.inside.reader inv.9 back.same flew.read_them back.begins in
     let e = ended g.D.Disk.model g.L.Origin.disk g.L.Origin.base l c.end_flush.new.self c.flight.inside.flight settled flew.settled inv.4 inv.7 flew.flies (all_of settled) begins is.own is.taken in
     let later = settled_steps c.end_flush.new.self.log in
-    subst (λ (b : Beginning). StartsWith (g.L.Origin.earlier ++ later) b.steps) (sym (back.same ∙ inv.9)) (behind_both g.L.Origin.earlier later settled e.grown)
+    subst (λ (b : Beginning). StartsWith (g.L.Origin.earlier ++ later) b.steps) (sym (back.same ∙ inv.9)) (after_both g.L.Origin.earlier later settled e.grown)
 
 pub new-released-requires : goal.new-released-requires
 new-released-requires g c =
@@ -40,7 +40,7 @@ invariant_of-self g c =
     let back = c.take_back.ensures in
     let l = c.self.inside.ledger in
     let settled = settled_steps l.log in
-    let begins = begins_behind g.L.Origin.history g.L.Origin.earlier settled flew.settled c.self.inside.writer c.take_back.new.self c.flight.inside.reader inv.9 back.same flew.read_them back.begins in
+    let begins = begins_after g.L.Origin.history g.L.Origin.earlier settled flew.settled c.self.inside.writer c.take_back.new.self c.flight.inside.reader inv.9 back.same flew.read_them back.begins in
     let e = ended g.D.Disk.model g.L.Origin.disk g.L.Origin.base l c.end_flush.new.self c.flight.inside.flight settled flew.settled inv.4 inv.7 flew.flies (all_of settled) begins is.own is.taken in
     let later = settled_steps c.end_flush.new.self.log in
     let has_read = subst (λ (b : Beginning). HasReadSettled b.history g.L.Origin.earlier later c.write_settled.new.writer) (back.same ∙ inv.9) c.write_settled.ensures in

@@ -18,7 +18,7 @@ from . import ranges
 from .base import DONE, Command, Control, add_json, print_json
 
 MARKS = {"ready": "·", "abort": "A", "converge": "C"}
-PROXY_SECONDS = 30.0  # between two looks, if the proxy reports changes
+PROXY_SECONDS = 30.0  # between two views, if the proxy reports changes
 LEGEND = "· confirmed, o not confirmed yet, A abort, C converge; node:epoch/confirmed"
 
 
@@ -59,7 +59,7 @@ def watch(control: Control) -> int:
     seen: list[str] | None = None
     with closing(wakes) if isinstance(wakes, Watched) else nullcontext():
         while (left := until - time.monotonic()) > 0:
-            picture = looked(control)
+            picture = picture_lines(control)
             if picture != seen:
                 draw(picture, seen) if is_terminal else note(picture)
                 seen = picture
@@ -67,7 +67,7 @@ def watch(control: Control) -> int:
     return DONE
 
 
-def looked(control: Control) -> list[str]:
+def picture_lines(control: Control) -> list[str]:
     """Returns two lines: a mark for each node's mode, with the number of steps; and the nodes that are not through. If there is
     no view, returns one line with the reason."""
     try:
@@ -94,12 +94,12 @@ def note(picture: list[str]) -> None:
 
 def add_watch_arguments(parser: argparse.ArgumentParser) -> None:
     parser.add_argument("--every", type=ranges.some_seconds, default=0.2, metavar="SECONDS",
-                        help="the seconds between two looks, if no proxy reports changes (default: 0.2)")
+                        help="the seconds between two views, if no proxy reports changes (default: 0.2)")
     parser.add_argument("--for", dest="for_seconds", type=ranges.span, metavar="SECONDS", help="end after this many seconds (default: never)")
 
 
 COMMANDS = (
-    Command("show", "prints the nodes and links", show, add_json, is_look=True),
+    Command("show", "prints the nodes and links", show, add_json, is_read_only=True),
     Command("watch", "draws the nodes' modes as they change; if the output is not a terminal, prints a line for each change", watch,
-            add_watch_arguments, is_look=True),
+            add_watch_arguments, is_read_only=True),
 )
