@@ -17,7 +17,7 @@ help:
 	@echo 'make services  tries what services rest on: restores, members that come again, a work queue, torn and lost lines, 64 members, messages'
 	@echo 'make build     proves every crate, and leaves the programs at bin/resetd and bin/resetd-proxy; nothing is proved again while that is newer than every source'
 	@echo 'make lib       proves the members'"'"' library for C and other languages, and leaves it in lib/: libresetd_member.a, .so, its header and a file for pkg-config'
-	@echo 'make test      what every change has to pass: every crate is proved from nothing (some kits keep what passed here before), the must-fail edits, the program, then make program; it leaves the programs in bin/ too'
+	@echo 'make test      what every change has to pass: every crate is proved from nothing (some kits keep what passed here before), the must-fail edits, the programs, then all tests over these programs, which it leaves in bin/'
 	@echo 'make program   runs the tests of the crates and of the program as people run it (tests/), over trial builds, in some minutes'
 	@echo 'make load      the same ten times on a busy machine, where none may fail (TIMES=N for N)'
 	@echo 'make refusals  tries the mutants, which the prover has to refuse (CRATE=NAME for one crate)'
@@ -82,7 +82,7 @@ check:
 prove:
 	rt all check --jobs $(JOBS)
 	cd crates/resetd && rt run -- drill < stdin
-	cd crates/resetd_proxy && rt run -- --help
+	cd crates/resetd_proxy && rt run -- check ../../examples/proxy.toml
 	mkdir -p bin
 	cp crates/resetd/out/resetd bin/resetd
 	cp crates/resetd_proxy/out/resetd_proxy bin/resetd-proxy
@@ -111,7 +111,7 @@ test:
 	mkdir -p bin
 	cp crates/resetd/out/resetd bin/resetd
 	cp crates/resetd_proxy/out/resetd_proxy bin/resetd-proxy
-	@tests/run
+	@RESETD=$(CURDIR)/bin/resetd RESETD_PROXY=$(CURDIR)/bin/resetd-proxy tests/run
 
 program:
 	@tests/run

@@ -91,7 +91,7 @@ class Watching(Case):
 
     def setUp(self) -> None:
         super().setUp()
-        arguments = Arguments(program=PROGRAM, seconds=SECONDS, without=set())
+        arguments = Arguments(program=PROGRAM, seconds=SECONDS, without=set(), seed=1)
         self.trial = Trial(arguments, self.folder, 3)
         self.addCleanup(self.trial.end)
         self.rule = Rule(self.path("member"))

@@ -77,7 +77,9 @@ def write_policy(path: str, text: str) -> None:
 class Server:
     """`resetd serve`, which may be killed and started again at the same address."""
 
-    def __init__(self, folder: str, topology: str) -> None:
+    def __init__(self, folder: str, topology: str, environment: dict[str, str] | None = None) -> None:
+        """`environment` is what the server's environment has besides that of the test."""
+        self._environment = {**os.environ, **(environment or {})}
         self.store, self.signals = f"{folder}/store", f"{folder}/signals"
         with open(f"{folder}/topology", "w", encoding="ascii") as file:
             file.write("half = 32768\n" + topology)
@@ -94,7 +96,7 @@ class Server:
         with open(self.signals, "ab") as file:
             begin = file.tell()
             self.process = subprocess.Popen([RESETD, "serve", self.store, self.address], stdin=subprocess.DEVNULL,
-                                            stdout=file, stderr=subprocess.DEVNULL)
+                                            stdout=file, stderr=subprocess.DEVNULL, env=self._environment)
         return until("its first line", lambda: self._address(begin) or ("-" if self._has_ended() else "")).strip("-")
 
     def _address(self, begin: int) -> str:
@@ -268,13 +270,17 @@ class Case(unittest.TestCase):
         temporary = tempfile.TemporaryDirectory(dir=self.parent)
         self.addCleanup(temporary.cleanup)
         self.folder = temporary.name
-        self.server = Server(self.folder, self.topology())
+        self.server = Server(self.folder, self.topology(), self.environment_of_server())
         self.addCleanup(self.server.kill)
         if self.has_proxy:
             self.proxy = self.started(*self.options)
 
     def topology(self) -> str:
         return ring(self.nodes)
+
+    def environment_of_server(self) -> dict[str, str]:
+        """What the server's environment has besides that of the test."""
+        return {}
 
     def started(self, *arguments: str, **how: Any) -> Proxy:
         """Starts a proxy before the server."""

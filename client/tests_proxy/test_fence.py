@@ -27,7 +27,7 @@ from resetd_client import Port
 
 PAUSES = int(os.environ.get("PAUSES", "6"))
 MEMBERS, ITEMS = 8, 200_000
-PATIENCE = 900.0  # seconds: on a busy machine the workers take items slowly
+LONGEST = 900.0  # seconds: on a busy machine the workers take items slowly
 PAUSED = (3, 7)  # while the store goes back
 LOST = 2  # resets of which the copy of the store knows nothing
 MOST_IDLE = 10_000  # milliseconds that a transaction waits for its worker, which may be paused, or only slow on a busy machine
@@ -38,7 +38,7 @@ TWICE = "SELECT count(*) FROM (SELECT item FROM taken GROUP BY item HAVING count
 
 
 def until(what: str, holds: Callable[[], T | Literal[False] | None]) -> T:
-    return case.until(what, holds, PATIENCE)
+    return case.until(what, holds, LONGEST)
 
 
 def statements() -> list[str]:

@@ -17,7 +17,10 @@ from collections.abc import Callable, Iterator
 from typing import Any
 from unittest import mock
 
-from case import CLIENT, DEADLINE, HERE, Case, Client, unix, until
+from case import CLIENT, DEADLINE, HERE, ROOT, Case, Client, unix, until
+
+sys.path.append(f"{ROOT}/tests")
+from support import preloaded  # noqa: E402
 
 
 def python_with(*modules: str) -> str:
@@ -163,10 +166,14 @@ class PageProgram(Shown):
         return subprocess.run([PYTHON, f"{CLIENT}/resetd-page", *arguments], capture_output=True, text=True, timeout=DEADLINE, check=False)
 
 
-@unittest.skipUnless(PYTHON_OF_BROWSER and shutil.which("chromium") and shutil.which("chromedriver"),
-                     "optional: it needs chromium, its driver and python3-selenium")
+@unittest.skipUnless(PYTHON_OF_BROWSER and shutil.which("chromium") and shutil.which("chromedriver") and preloaded.has_compiler(),
+                     "optional: it needs chromium, its driver, python3-selenium and a C compiler")
 class InABrowser(Shown):
     nodes = 64
+
+    def environment_of_server(self) -> dict[str, str]:
+        """Each sync takes a tenth of a second longer, so the browser has time to show a reset under way."""
+        return preloaded.environment(self.folder, SYNC_MILLIS=100)
 
     def topology(self) -> str:
         """A ring with chords: 64 nodes and 128 links."""

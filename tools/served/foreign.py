@@ -570,6 +570,7 @@ def of_second_hand(tried: Tried) -> None:
     others.look(1)
     tried.go_on()
     tried.looks("while it was stopped, the links of another member were dropped, it was reset alone, linked, and its links dropped again", 3)
+    tried.until("by what it is shown then, it talks", tried.talks_now)
     run = others.members[1].run
     assert run is not None
     tried.refuse(run.tag)
