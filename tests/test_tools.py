@@ -66,7 +66,7 @@ class Door(Run):
         self.needs("a C compiler", bool(shutil.which("cc")))
         self.needs("Go", bool(shutil.which("go")), is_optional=True)
         printed = self.expect(tool("soak_door"), "--library", os.path.dirname(os.environ["RESETD_MEMBER"]), "--minutes", "0.5", "--stuck", "1500")
-        self.assertRegex(printed.splitlines()[-1], r"^[1-9]\d* rounds: .* looks at 64 members, 0 mixed, ")
+        self.assertRegex(printed.splitlines()[-1], r"^[1-9]\d* rounds: .* checks of 64 members, 0 mixed, ")
 
 
 class Nightly(Case):
@@ -97,9 +97,12 @@ class Nightly(Case):
         self.assertEqual((first.returncode, len(again)), (1, 2), first.stderr)
         lines = self.read("results").decode().splitlines()
         self.assertEqual(len(lines), 3)
-        for line, (part, missing) in zip(lines[1:], (("powercut", "qemu-system-x86"), ("soak-door", "there is no library of the members"))):
+        of_door = "the kit, another program than bin/resetd, another proxy than bin/resetd-proxy, another library than lib"
+        wanted = (("powercut", "the kit, another program than bin/resetd, 30 images", "qemu-system-x86"),
+                  ("soak-door", of_door, "there is no library of the members"))
+        for line, (part, of_kit, missing) in zip(lines[1:], wanted):
             name, result, _, minutes, commit, kit, seed, last = line.split("\t")
-            self.assertEqual((name, result, seed, kit), (part, "FAILED (1)", "7", "the kit, another program than bin/resetd, another program than bin/resetd-proxy"))
+            self.assertEqual((name, result, seed, kit), (part, "FAILED (1)", "7", of_kit))
             self.assertIn(missing, last)
             self.assertRegex(f"{commit} {minutes}", r"^[0-9a-f]{7,40}\+? \d+\.\d$")
         repeat = next(line for line in again if line.endswith("/powercut has what it printed)"))

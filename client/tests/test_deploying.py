@@ -61,6 +61,16 @@ class Manifest(unittest.TestCase):
         nodes = {each["id"] for each in ring["node"]}
         self.assertLessEqual({end for link in ring["link"] for end in link.values()}, nodes)
 
+    def test_the_document_types_the_commands_of_the_manifest(self) -> None:
+        """The commands name the secret, its files and the containers as the manifest does."""
+        document, containers = text_of("docs/DEPLOYING.md"), {container["name"] for container in self.pod["containers"]}
+        typed = re.findall(r"(?m)^kubectl .+$", document)
+        made = re.findall(r"(?m)^#   (kubectl .+)$", text_of(MANIFEST))
+        self.assertEqual([line.replace("examples/", "") for line in typed[:len(made)]], made)
+        self.assertLessEqual(set(re.findall(r" -c ([a-z]+) ", "\n".join(typed))), containers)
+        secrets = {each["secret"]["secretName"] for each in self.pod["volumes"] if "secret" in each}
+        self.assertEqual({re.findall(r"secret generic (\S+)", line)[0] for line in typed if " secret " in line}, secrets)
+
     @unittest.skipUnless(shutil.which("kubectl"), "kubectl is not installed: the manifest is not decoded")
     def test_kubernetes_knows_each_field(self) -> None:
         """kubectl decodes the StatefulSet into its type, and drops fields that the type does not have."""

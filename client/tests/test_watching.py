@@ -144,7 +144,7 @@ class Watching(Case):
                 raise KeyboardInterrupt
 
         threading.Thread(target=self.change_after_the_first_view, daemon=True).start()
-        with mock.patch("resetd_client.control.looks.note", note), mock.patch("resetd_client.control.looks.PROXY_SECONDS", 3_600.0):
+        with mock.patch("resetd_client.control.views.note", note), mock.patch("resetd_client.control.views.PROXY_SECONDS", 3_600.0):
             status, _, errors = self.run_resetctl("watch", "--for", str(SECONDS), address=f"unix:{self.path}")
         self.assertEqual((status, errors), (130, ""), pictures)
         self.assertIn("[·]", pictures[0])

@@ -134,20 +134,20 @@ class Client:
 class Load:
     """Clients that ask for resets of random members, each as soon as it has its answer."""
 
-    def __init__(self, clients: list[Client], members: list[int]) -> None:
+    def __init__(self, clients: list[Client], members: list[int], seed: int) -> None:
         self.clients, self.members = clients, members
+        self.choices = [random.Random(f"{seed} {client.number}") for client in clients]
         self.threads: list[threading.Thread] = []
         self.fault: Exception | None = None
         self.is_on = False
 
     def start(self) -> None:
         self.is_on = True
-        self.threads = [threading.Thread(target=self.run, args=(client,), daemon=True) for client in self.clients]
+        self.threads = [threading.Thread(target=self.run, args=each, daemon=True) for each in zip(self.clients, self.choices)]
         for thread in self.threads:
             thread.start()
 
-    def run(self, client: Client) -> None:
-        choice = random.Random()
+    def run(self, client: Client, choice: random.Random) -> None:
         try:
             while self.is_on:
                 reply = client.order("reset", is_wanted=lambda: self.is_on, node=choice.choice(self.members))

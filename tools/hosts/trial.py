@@ -30,7 +30,7 @@ def topology() -> str:
 
 
 class Trial:
-    def __init__(self, program: str, folder: str, planted: str | None) -> None:
+    def __init__(self, program: str, folder: str, planted: str | None, seed: int) -> None:
         self.program, self.folder, self.planted = program, folder, planted
         self.hosts = [Host(number, folder) for number in (1, 2, 3)]
         options = {**OPTIONS, STRICT_LOCKS: "off"} if planted == "no-strict-locks" else OPTIONS
@@ -40,7 +40,7 @@ class Trial:
         self.site = Site(self.hosts[2], self.keepers)
         self.clients = [Client(number, self.site, self.records) for number in (*MEMBERS, *LOAD_CLIENTS)]
         self.services = list[Service]()
-        self.load = Load(self.clients[len(MEMBERS):], list(MEMBERS))
+        self.load = Load(self.clients[len(MEMBERS):], list(MEMBERS), seed)
         if planted == "dropped-answers":
             self.load.clients[0].drops = 5
 

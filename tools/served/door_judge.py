@@ -1,5 +1,9 @@
-"""Checks that the members of a door keep their rule: no two starts of one member talk in one run, and all talk again in the
-end."""
+"""Checks that the members of a door keep their rule, by its outcome: no two starts of one member talk in one run, a member talks only
+with the work of the epoch that it has begun, and all talk again in the end.
+
+`tools/try_member` compares each look of one member with the rule, because it answers each look itself. Here 64 members look at
+the proxy, and are killed between any two calls, so only their files show what they do.
+"""
 
 import contextlib
 import json
@@ -10,7 +14,7 @@ from typing import NamedTuple
 
 from .door import NODES, Failed, Members, until
 
-LOOK_SECONDS = 0.1
+CHECK_SECONDS = 0.1
 
 
 class Start(NamedTuple):
@@ -64,23 +68,23 @@ class Judge(threading.Thread):
         super().__init__(daemon=True)
         self._members, self._starts = members, dict[tuple[int, str], Start]()
         self._is_over, self.mixed = threading.Event(), list[str]()
-        self.looks, self.talks = 0, 0
+        self.checks, self.talks = 0, 0
 
     def run(self) -> None:
-        while not self._is_over.wait(LOOK_SECONDS):
+        while not self._is_over.wait(CHECK_SECONDS):
             try:
-                self.look()
+                self.check()
             except Failed as failed:
                 self.mixed.append(str(failed))
 
-    def look(self) -> set[str]:
+    def check(self) -> set[str]:
         """Returns the runs in which members talk now. They include the empty one if a member does not talk."""
         talks = [talk_of(node, self._members.folder(node)) for node in NODES]
         for talk in filter(None, talks):
             start = self._starts.setdefault((talk.node, talk.run), talk.start)
             if start != talk.start:
                 self.mixed.append(f"two starts of member {talk.node} talk in run {talk.run}")
-        self.looks += 1
+        self.checks += 1
         self.talks += sum(talk is not None for talk in talks)
         return {talk.run if talk else "" for talk in talks}
 
@@ -94,7 +98,7 @@ class Judge(threading.Thread):
 
         def holds() -> bool:
             self._members.expect_running()
-            found = self.look()
+            found = self.check()
             return len(found) == 1 and "" not in found
         until("all members talk in one run", holds, seconds)
         return time.monotonic() - began

@@ -13,9 +13,16 @@ CALLS = {"fsync": ["EIO"], "fdatasync": ["EIO"], "pwrite64": ["EIO", "ENOSPC"]}
 STOPPED_BY_DEVICE = (3, "resetd: Device\n")
 
 
+def why_not() -> str:
+    """Returns why strace can't make a call fail here, or an empty text if it can."""
+    if shutil.which("strace") is None:
+        return "Debian's package strace is missing: apt-get install strace"
+    traced = subprocess.run(["strace", "-qq", "-o", os.devnull, "true"], capture_output=True, check=False)
+    return "strace may not trace here" if traced.returncode else ""
+
+
 def can_inject() -> bool:
-    return shutil.which("strace") is not None and \
-        subprocess.run(["strace", "-qq", "-o", os.devnull, "true"], capture_output=True, check=False).returncode == 0
+    return not why_not()
 
 
 def run(ring: Ring, most: int) -> None:

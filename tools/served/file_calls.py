@@ -36,8 +36,9 @@ class FileCalls:
         """Builds the program. Returns the reason if that is impossible, or an empty text."""
         compiler = shutil.which("cc")
         if compiler is None:
-            return "there is no C compiler"
+            return "there is no C compiler (apt-get install gcc)"
         command = [compiler, "-O1", "-o", self._program, f"{FOLDER}/file_calls.c"]
-        made = subprocess.run(command, capture_output=True, check=False).returncode == 0
-        tried = made and subprocess.run([self._program, self._counts, "true"], capture_output=True, check=False).returncode == 0
-        return "" if tried else "no process may trace another one here"
+        if subprocess.run(command, capture_output=True, check=False).returncode != 0:
+            return "cc can't build tools/served/file_calls.c, which is for x86-64 (apt-get install gcc libc6-dev)"
+        tried = subprocess.run([self._program, self._counts, "true"], capture_output=True, check=False)
+        return "no process may trace another one here" if tried.returncode else ""

@@ -191,7 +191,7 @@ class Trial:
 
     def report(self, rounds: int, calls: list[tuple[str, int]]) -> None:
         where = f"at a random moment and at {', '.join(name for name, _ in calls)}" if calls else \
-            "at a random moment (strace is not installed, or may not trace here)"
+            f"at a random moment ({faults.why_not()})"
         print(f"{rounds} migrations killed {where}: {self.found[1]} left version 1, {self.found[2]} version 2, "
               f"{self.too_late} had ended; each had all steps and sessions, and was then migrated", flush=True)
         if calls and 0 in self.found.values() and rounds > len(calls):

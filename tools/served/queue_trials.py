@@ -6,7 +6,6 @@ starts of one member in one run (MIXED), and when an item is left out (GAP).
 
 import json
 import os
-import random
 import shutil
 import signal
 import subprocess
@@ -29,7 +28,6 @@ class Queue(Trial):
         super().__init__(arguments, folder, nodes)
         self.ports = held_ports(nodes)
         self.up: dict[int, subprocess.Popen[bytes]] = {}
-        self.choice = random.Random()
 
     def begin(self) -> None:
         """All members are up, one reset is through, and items go round."""
@@ -319,7 +317,6 @@ def happen(trial: Queue, way: Callable[[Queue], None], when: str) -> None:
 
 def starts(trial: Queue) -> str:
     """Tries each event once, one after another."""
-    trial.choice = random.Random(1)
     trial.begin()
     for place, way in enumerate((*WAYS, *RENEWING), 1):
         happen(trial, way, f"({place})")
@@ -328,8 +325,7 @@ def starts(trial: Queue) -> str:
 
 def queue(trial: Queue) -> str:
     """Tries random events, one after another."""
-    seed = trial.arguments.seed if trial.arguments.seed is not None else random.randrange(1 << 32)
-    trial.choice = random.Random(seed)
+    seed = trial.arguments.seed
     trial.begin()
     for event in range(1, trial.arguments.events + 1):
         happen(trial, trial.choice.choice((*WAYS, *RENEWING, *RENEWING)), f"({event} of seed {seed})")

@@ -30,12 +30,12 @@ class Failed(Exception):
 
 
 class Arguments(argparse.Namespace):
-    """The arguments of the command line. Some trials have no seed and no events."""
+    """The arguments of the command line. Some trials have no events."""
 
     program: str
     seconds: float
     without: set[str]
-    seed: int | None
+    seed: int
     events: int
     is_at_port = False  # whether the coordinator has no proxy
     proxy = PROGRAM
@@ -46,6 +46,7 @@ class Trial:
 
     def __init__(self, arguments: Arguments, folder: str, nodes: int, is_ring: bool = True) -> None:
         self.arguments, self.folder, self.nodes = arguments, folder, range(1, nodes + 1)
+        self.choice = random.Random(arguments.seed)
         self.server = Server(arguments.program, f"{folder}/store", held_address())  # of all its starts
         self.helpers = list[subprocess.Popen[bytes]]()
         self._proxies, self._bridges = list[Proxy](), list[Bridge]()
@@ -138,7 +139,7 @@ class Trial:
         """Asks for a reset. If the server is killed, that happens at some moment of the reset."""
         self.order("reset", node=node)
         if is_killed:
-            time.sleep(random.uniform(0, 0.004))
+            time.sleep(self.choice.uniform(0, 0.004))
             self.kill()
 
     def expect_quiet(self) -> None:

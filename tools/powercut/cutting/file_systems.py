@@ -23,8 +23,8 @@ MEBIBYTES = {"ext4": 160, "xfs": 320, "btrfs": 128, "f2fs": 64}  # about the min
 class FileSystem:
     """A file system with its mount options. `no_barrier` are the options with which it sends no flush, if it has any. `lossy`
     are those with which it loses answers of a program that syncs properly, by the name of a control. `harmless` are the
-    mutants that lose nothing on it, each with the reason; `harmful_with` those that lose something only with other options,
-    each with these."""
+    mutants that lose nothing with its options, each with the reason; `harmful_with` those that lose something with other
+    options, each with these."""
 
     name: str
     kind: str
@@ -43,8 +43,8 @@ ALL = {
             "barrier_left_out": "a start syncs the store's folder, which commits the store's bytes too",
             "body_not_synced": "one transaction of the journal has a batch's body and its gate"}),
         FileSystem("xfs", "xfs"),
-        # By default it writes a batch's body and its gate to new places, to which one commit of its log refers.
-        FileSystem("btrfs", "btrfs", no_barrier="nobarrier", harmful_with={"body_not_synced": "nodatacow"}),
+        FileSystem("btrfs", "btrfs", no_barrier="nobarrier", harmful_with={"body_not_synced": "nodatacow"}, harmless={
+            "body_not_synced": "a batch's body and its gate are written to new places, to which one commit of the log refers"}),
         # Without fastboot the first sync after a checkpoint sends its flush before it has waited for the inode's block.
         FileSystem("f2fs-fastboot", "f2fs", "fastboot", "fastboot,nobarrier", lossy={"without fastboot": ""}),
     )

@@ -73,7 +73,7 @@ class Trial:
     def judge_runs(self) -> None:
         """Judges each run, cut at any moment, near the ends of checkpoints, and while a command creates or migrates a store."""
         seed = self._setting.seed
-        last = self._record("life", self._run(kills=3))
+        last = self._record("server", self._run(kills=3))
         self._judge(last, 2, 1)
         self._judge(last, 8, 2, Places(is_near_checkpoints=True))
         self._judge(last, 8, 3, Places(("start",)))
@@ -82,15 +82,15 @@ class Trial:
         self._judge(migration, 8, 5, Places(("migrating", "migrated")))
         self._judge(self._record("folder", self._run(orders=4, noise=False, store="/mnt/folder/store")), 16, 6)
         for number in (2, 3):
-            again = f"{self._folder}/life{number}"
+            again = f"{self._folder}/server{number}"
             cut_disk(last, again, seed + number)
             run, _ = load_run(again)
-            last = self._record(f"life{number}", dataclasses.replace(run, orders=self._setting.orders // 2, seed=seed + 10 * number))
+            last = self._record(f"server{number}", dataclasses.replace(run, orders=self._setting.orders // 2, seed=seed + 10 * number))
             self._judge(last, 8, 6 + number)
 
     def judge_controls(self) -> None:
         """Judges each control until it finds something, or was tried with all seeds."""
-        first = f"{self._folder}/life"
+        first = f"{self._folder}/server"
         self._control("a disk that ignores flushes", lambda seed: self._finds(first, seed, has_flushes=False))
         if self._of.no_barrier is None:
             self.controls["no flushes"] = f"not tried: {self._of.kind} has no option to send none"
@@ -101,10 +101,10 @@ class Trial:
         for number, name in enumerate(MUTANTS, 1) if self._setting.wrong is not None else ():
             if name in self._of.harmless:
                 self.controls[name] = f"not tried: {self._of.harmless[name]}"
-            elif options := self._of.harmful_with.get(name):
-                self._control(f"{name} with {options}", partial(self._of_mutant, number, options))
             else:
                 self._control(name, partial(self._of_mutant, number, self._of.options))
+            if options := self._of.harmful_with.get(name):
+                self._control(f"{name} with {options}", partial(self._of_mutant, number, options))
 
     def _control(self, name: str, finds: Callable[[int], str | None]) -> None:
         for each in range(TRIES):
