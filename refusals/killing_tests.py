@@ -1,8 +1,8 @@
 """The killing tests of mutants: each is a test that fails with its mutant in.
 
-Where that is possible the mutants stand in one build for each crate of tests, and in one for the program, and the
-environment chooses one of them (schemata.py). Others stand in a build of their own. With nothing chosen each test has to
-pass.
+Where that is possible the mutants stand in one build for each crate of tests, and in those of the program, of `resetd-proxy` and of
+the members' library, and the environment chooses one of them (schemata.py). Others stand in a build of their own. With nothing
+chosen each test has to pass.
 """
 
 import os
@@ -36,7 +36,7 @@ def run(edits: list[Edit], depends: Depends, jobs: int) -> int:
     with tempfile.TemporaryDirectory() as scratch:
         for tests in sorted({edit.tests for edit in edits} & set(TOGETHER)):
             chosen = [edit for edit in edits if edit.tests == tests and edit not in alone]
-            chosen, others = build_together(scratch, tests, chosen)
+            chosen, others = build_together(scratch, tests, chosen, depends)
             alone += others
             with ThreadPoolExecutor(jobs) as pool:
                 names = sorted({edit.test for edit in chosen})
@@ -54,11 +54,11 @@ def runs_together(edit: Edit, depends: Depends) -> bool:
     return edit.tests in TOGETHER and (edit.tests != "tests" or edit.crate in built)
 
 
-def build_together(scratch: str, tests: str, edits: list[Edit]) -> tuple[list[Edit], list[Edit]]:
+def build_together(scratch: str, tests: str, edits: list[Edit], depends: Depends) -> tuple[list[Edit], list[Edit]]:
     """Builds what these tests run, with the edits to choose from: those that it has, and those with which it did not compile."""
     left, apart = edits, list[Edit]()
     while left:
-        said = build(scratch, tests, left)
+        said = build(scratch, tests, left, depends)
         if not said:
             return left, apart
         named = [edit for edit in left if any(re.search(rf"(?<!\w){re.escape(file)}:\d", said) for file, _, _ in edit.pairs)]
@@ -68,18 +68,28 @@ def build_together(scratch: str, tests: str, edits: list[Edit]) -> tuple[list[Ed
     return [], apart
 
 
-def build(scratch: str, tests: str, edits: list[Edit]) -> str:
+def build(scratch: str, tests: str, edits: list[Edit], depends: Depends) -> str:
     """Builds what these tests run. What a build says where it fails, and nothing where it does not."""
-    chosen = ["tools/trial_build", "--schemata", *(argument for edit in edits for argument in ("--mutant", edit.id))]
-    if tests == "tests":
-        file_of = {file: f"{scratch}/{file}" for file in [*FILES.values(), PROXY[-1]]}
-        programs = [PROGRAM, PROXY] if any(is_of_proxy(edit) for edit in edits) else [PROGRAM]
-        wanted = [[*chosen, *(file_of.get(each, each) for each in arguments)] for arguments in programs] + [["tools/trial_library", scratch]]
-    else:
-        wanted = [[*chosen, "--units", f"{scratch}/{tests}"]]
+    wanted = builds_of_program(scratch, edits, depends) if tests == "tests" else [
+        ["tools/trial_build", *choices(edits), "--units", f"{scratch}/{tests}"]]
     making = [subprocess.Popen(command, stdout=subprocess.PIPE, stderr=subprocess.STDOUT, text=True) for command in wanted]
     said = [process.communicate()[0] for process in making]
     return "\n".join(text for process, text in zip(making, said) if process.returncode)
+
+
+def choices(edits: list[Edit]) -> list[str]:
+    """Returns the arguments for a build with these edits. Each build gets all of them, also those in crates that it lacks, so
+    that an edit has the same number in all builds."""
+    return ["--schemata", *(argument for edit in edits for argument in ("--mutant", edit.id))]
+
+
+def builds_of_program(scratch: str, edits: list[Edit], depends: Depends) -> list[list[str]]:
+    """Returns the commands that build what the tests of tests/ run. The members' library has no edits if none is in its crates."""
+    file_of = {file: f"{scratch}/{file}" for file in [*FILES.values(), PROXY[-1]]}
+    programs = [PROGRAM, PROXY] if any(is_of_proxy(edit) for edit in edits) else [PROGRAM]
+    is_library_edited = not libraries("resetd_member", depends).isdisjoint(edit.crate for edit in edits)
+    return [*(["tools/trial_build", *choices(edits), *(file_of.get(each, each) for each in arguments)] for arguments in programs),
+            ["tools/trial_library", *(choices(edits) if is_library_edited else []), scratch]]
 
 
 def is_of_proxy(edit: Edit) -> bool:
@@ -136,10 +146,9 @@ def run_alone(edits: list[Edit], depends: Depends, jobs: int) -> list[str]:
 
 
 def try_alone(edit: Edit, copies: Queue[str]) -> str:
-    """Puts an edit into a copy that is free, runs the tests of its killing test's crate there, and says what that test did."""
-    if edit.tests == "tests":
-        done = subprocess.run(["tests/run", "--mutant", edit.id, edit.test], capture_output=True, text=True)
-        return report(edit, outcome_in(edit.test, done.stdout))
+    """Runs the killing test of an edit over a build of its own or, if a crate has the test, in a copy of the crates that is free."""
+    if edit.tests in TOGETHER:
+        return report(edit, what_own_build_did(edit))
     copy = copies.get()
     try:
         fits = edit.apply(os.path.join(copy, "crates", edit.crate))
@@ -150,6 +159,18 @@ def try_alone(edit: Edit, copies: Queue[str]) -> str:
         return report(edit, found)
     finally:
         copies.put(copy)
+
+
+def what_own_build_did(edit: Edit) -> str:
+    """Builds with this edit alone what its test runs, and runs the test: ok, FAILED, or that it did not end in time."""
+    if edit.tests == "tests":
+        environment = {**os.environ, "RESETD_TIMEOUT": str(ANSWER)}
+        done = subprocess.run(["tests/run", "--mutant", edit.id, edit.test], env=environment, capture_output=True, text=True)
+        return outcome_in(edit.test, done.stdout)
+    with tempfile.TemporaryDirectory() as scratch:
+        build = ["tools/trial_build", "--mutant", edit.id, "--units", f"{scratch}/{edit.tests}"]
+        done = subprocess.run(build, capture_output=True, text=True)
+        return what_test_did(scratch, edit.tests, edit.test, 0) if done.returncode == 0 else f"was not built: {done.stdout[-300:]}{done.stderr[-300:]}"
 
 
 def what_copy_did(edit: Edit, copy: str) -> str:

@@ -1,4 +1,4 @@
-"""The last lines of `tests/run`: about missing requirements, and about failures."""
+"""The last lines of `tests/run`: about missing requirements, and about failures. Tools whose packages are missing."""
 
 import os
 import subprocess
@@ -58,3 +58,24 @@ class LeftOut(Case):
         self.assertRegex(lines[1], r"^failed: test_proxy\.Proxy\.test_resets_that_name_an_epoch: test_epochs\.Epochs\.test_a_reset_that_names_an_epoch, test_epochs\.")
         self.assertNotIn("test_lost_resets.", lines[1])
         self.assertEqual(lines[3], "0 passed, 1 failed")
+
+
+class MissingPackages(Case):
+    """The tools of nightly parts, in a place where no program is installed."""
+
+    programs = ()
+    TOOLS = {
+        ("tools/soak", "--program", sys.executable):
+            "no system call can be made to fail: Debian's package strace is missing: apt-get install strace (--faults 0 goes without)",
+        ("tools/try_member", "--program", sys.executable, "--proxy", sys.executable, "--wrong"):
+            "--wrong has to see the file calls of members: there is no C compiler (apt-get install gcc)",
+        ("tools/fuzz_library/fuzz",): "these Debian packages are missing: clang gcc",
+        ("bench/around", "--trial", "--proxy", sys.executable, sys.executable): "these Debian packages are missing: gcc strace",
+    }
+
+    def test_each_tool_names_what_is_missing(self) -> None:
+        for command, line in self.TOOLS.items():
+            with self.subTest(tool=command[0]):
+                ran = subprocess.run([sys.executable, *command], cwd=ROOT, env={**os.environ, "PATH": self.folder, "TMPDIR": self.folder},
+                                     stdin=subprocess.DEVNULL, capture_output=True, text=True, check=False)
+                self.assertEqual((ran.returncode, ran.stderr.splitlines()[-1:]), (1, [line]), ran.stderr)

@@ -527,7 +527,7 @@ class Durable(Made):
         super().setUp()
         self.needs("strace: one that may trace", faults.can_inject(), is_optional=True)
         self.member, self.disk = self.make_in_c(), traced.Disk()
-        self.trial = Trial(Arguments(program=PROGRAM, seconds=300.0, without=set()), self.folder, 2)
+        self.trial = Trial(Arguments(program=PROGRAM, seconds=300.0, without=set(), seed=1), self.folder, 2)
         self.addCleanup(self.trial.end)
 
     def run_until_it_talks(self, resets: int) -> list[traced.Call]:
