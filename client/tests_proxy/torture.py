@@ -85,7 +85,7 @@ class Orderer(threading.Thread):
         is_decided = False
         self.connections += 1
         with self.torture.proxy.connect() as connection, contextlib.suppress(Ended, ConnectionError):
-            self.decide(connection)
+            self.decide(connection, bursts == 0)
             is_decided = True
             for _ in range(bursts):
                 self.next = self.known if self.known == self.limit else None
@@ -96,14 +96,15 @@ class Orderer(threading.Thread):
                     break
         return is_decided
 
-    def decide(self, connection: Client) -> None:
-        """Finds out which of the earlier resets were carried out."""
+    def decide(self, connection: Client, is_last: bool) -> None:
+        """Finds out which of the earlier resets were carried out. A client with a number may order on before that is certain, since a
+        number is carried out once; if `is_last`, nothing is left undecided."""
         self.exchange(connection, [self.look()])
-        if self.client is None:
+        self.sent = self.known
+        if self.client is None or is_last:
             self.exchange(connection, [self.reset()])
             self.exchange(connection, [self.look()])
-            self.limit = self.known
-        self.sent = self.known
+            self.sent = self.limit = self.known
 
     def exchange(self, connection: Client, lines: list[tuple[bytes, Judge]], is_left: bool = False) -> None:
         """Sends lines at once, and judges the answer to each. If `is_left`, the connection is left before the last answer. Raises Ended,
