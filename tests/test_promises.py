@@ -170,6 +170,13 @@ class Broken(Copied):
         self.assertEqual(status, 1, said)
         self.assertIn("coord_check/letter_g_skipped: search::check ensures no such clause: check (lawful)", said)
 
+    def test_a_body_that_names_what_no_function_requires(self) -> None:
+        copy = self.copy()
+        self.change(copy, "refusals/coord_server.edits", "% coord_store Store::commit requires (fresh)", "% coord_store Store::commit requires (commits)")
+        status, said = self.compare(copy)
+        self.assertEqual(status, 1, said)
+        self.assertIn("coord_server/writes_an_invented_step_and_waits: store::commit::Store::commit requires no such thing: ", said)
+
     def test_a_body_that_names_several_functions(self) -> None:
         copy = self.copy()
         self.change(copy, "refusals/coord_types.edits", "% Mode::name", "% name")

@@ -6,7 +6,10 @@ before it the crate where it is another one than the catalogue's:
     % World::judge (value)
     % coord_world World::apply (outputs)
 
-The function is named by the end of its path, by as much of it as distinguishes it.
+The function is named by the end of its path, by as much of it as distinguishes it. A mutant that calls a function without what it
+requires names that with the word `requires`:
+
+    % coord_store Store::commit requires (fresh)
 """
 
 from __future__ import annotations
@@ -26,7 +29,7 @@ import catalogue  # noqa: E402
 
 # The functions that rows cite and that no mutant breaks, one on each line, with its crate.
 NOT_TRIED = "refusals/not-tried.txt"
-NAMED = re.compile(r"(?:(coord_[a-z]+|resetd) )?([\w:]+(?: as \w+::\w+)?)(?: \((\w+)\))?")
+NAMED = re.compile(r"(?:(coord_[a-z]+|resetd) )?([\w:]+(?: as \w+::\w+)?)( requires)?(?: \((\w+)\))?")
 CALL = re.compile(r"(?:\b(\w+)::)?\b(\w+)\s*(?:::<[^>]*>)?\(")
 Key = tuple[str, str]
 
@@ -61,10 +64,13 @@ class Mutants:
         if match is None:
             self.wrong.append(f"{mutant.id}: not the name of a clause: {text}")
             return
-        crate, path, name = match.group(1) or mutant.crate, match.group(2), match.group(3) or ""
+        crate, path, name = match[1] or mutant.crate, match[2], match[4] or ""
         found = [it for it in self.of_name[crate, path.rpartition("::")[2]] if f"::{it.path}".endswith(f"::{path}")]
         if len(found) != 1:
             self.wrong.append(f"{mutant.id}: {crate} has {len(found)} functions with this name, instead of one: {text}")
+        elif match[3]:
+            if name not in found[0].required:
+                self.wrong.append(f"{mutant.id}: {found[0].path} requires no such thing: {text}")
         elif name not in found[0].ensured:
             self.wrong.append(f"{mutant.id}: {found[0].path} ensures no such clause: {text}")
         else:

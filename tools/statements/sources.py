@@ -38,7 +38,15 @@ class Function:
     @property
     def ensured(self) -> list[str]:
         """The names of its `ensures` clauses; empty for a clause without a name."""
-        return [label.partition(" ")[2] for label, _ in self.clauses if label.startswith("ensures")]
+        return self._named("ensures")
+
+    @property
+    def required(self) -> list[str]:
+        """The names of its `requires` clauses; empty for a clause without a name."""
+        return self._named("requires")
+
+    def _named(self, kind: str) -> list[str]:
+        return [label.partition(" ")[2] for label, _ in self.clauses if label.startswith(kind)]
 
     @property
     def is_law(self) -> bool:
