@@ -15,8 +15,8 @@ class Files(Run):
     programs: tuple[str, ...] = ("RESETD", "RESETD_PROXY")
 
     def files(self, *names: str) -> None:
-        """Runs these files. If a mutant is chosen, the first failure ends a file: each further one may wait for minutes."""
-        until = ["--failfast"] if "MUTANT" in os.environ else []
+        """Runs these files. With a mutant (tests/run) the first failure ends a file."""
+        until = ["--failfast"] if "FAIL_FAST" in os.environ else []
         for name in names:
             with self.subTest(name):
                 self.expect(sys.executable, "-m", "unittest", "discover", "-v", *until, "-s", FOLDER, "-p", f"{name}.py", ends_with="OK")
