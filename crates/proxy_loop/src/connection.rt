@@ -1,6 +1,6 @@
 //! A client's connection.
 
-ghost use Rattle.std.specs.Prelude.{◌≡◌, ◌++◌, ◌∷◌, [], length, true, false, OnOk, List, ℕ, None, Some};
+ghost use Rattle.std.specs.Prelude.{◌≡◌, ◌⊎◌, ◌++◌, ◌∷◌, [], length, true, false, OnOk, List, ℕ, None, Some};
 ghost use Rattle.std.specs.Option.{unwrap_or};
 ghost use Rattle.std.specs.Duration.{as_nanos};
 ghost use Rattle.proxy_core.specs.declared.proxy.Admission.TheVariants.{Queued, Denied, Deferred};
@@ -106,8 +106,7 @@ impl Connection {
     /// Reads from the stream once, if all bytes read before are in the next line and this line is not complete. Errors:
     /// out of memory.
     pub fn fill(&mut self) -> Result<(), AllocError>
-        ensures who { (self.new.number ≡ self.old.number) × (self.new.role ≡ self.old.role) }
-        ensures others { (self.new.outbox ≡ self.old.outbox) × (self.new.asked ≡ self.old.asked) × (self.new.reset ≡ self.old.reset) × (self.new.is_deferred ≡ self.old.is_deferred) }
+        ensures others { self.new ≡ record self.old { stream = self.new.stream; inbox = self.new.inbox; is_readable = self.new.is_readable; has_ended = self.new.has_ended } }
         ensures line { (self.new.inbox.line ≡ self.old.inbox.line) × (self.new.inbox.is_whole ≡ self.old.inbox.is_whole) }
         ensures waits { self.old.inbox.is_whole ≡ true → self.new.inbox ≡ self.old.inbox }
         ensures ended { self.old.has_ended ≡ false → self.new.has_ended ≡ true → (self.new.is_readable ≡ false) × (self.new.inbox ≡ self.old.inbox) }
@@ -195,7 +194,7 @@ impl Connection {
         admission: Admission,
         at: Moment,
     ) -> Result<(), AllocError>
-        ensures who { (self.new.number ≡ self.old.number) × (self.new.role ≡ self.old.role) }
+        ensures others { self.new ≡ record self.old { inbox = self.new.inbox; outbox = self.new.outbox; asked = self.new.asked; kept_since = self.new.kept_since; is_deferred = self.new.is_deferred; reset = self.new.reset } }
         ensures queued { admission ≡ Queued → OnOk result ((self.new.inbox ≡ after_line self.old.inbox) × (self.new.outbox ≡ self.old.outbox)) }
         ensures denied { admission ≡ Denied → OnOk result ((self.new.inbox ≡ after_line self.old.inbox) × (self.new.outbox ≡ self.old.outbox ++ (not_allowed ++ 10 ∷ []))) }
         ensures since { admission ≡ Queued → OnOk result (self.new.asked.items ≡ self.old.asked.items ++ (unwrap_or self.old.kept_since at.now ∷ [])) }
@@ -227,7 +226,7 @@ impl Connection {
     ) -> Result<(), AllocError>
         ensures sent { OnOk result (self.new.outbox ≡ self.old.outbox ++ (answer.now ++ 10 ∷ [])) }
         ensures taken { OnOk result (self.new.inbox ≡ after_line self.old.inbox) }
-        ensures who { (self.new.number ≡ self.old.number) × (self.new.role ≡ self.old.role) }
+        ensures others { self.new ≡ record self.old { inbox = self.new.inbox; outbox = self.new.outbox; asked = self.new.asked; kept_since = self.new.kept_since; is_deferred = self.new.is_deferred; reset = self.new.reset } }
         ensures resumed { OnOk result (self.new.is_deferred ≡ false) }
     {
         let exchange = self.exchange(kind, self.inbox.line(), answer, at);
@@ -246,7 +245,7 @@ impl Connection {
     pub fn give(&mut self, answer: &Recorded<'_>) -> Result<(), AllocError>
         ensures sent { OnOk result (self.new.outbox ≡ self.old.outbox ++ (answer.now.answer.now ++ 10 ∷ [])) }
         ensures taken { self.old.reset ≡ None → OnOk result (self.new.inbox ≡ self.old.inbox) }
-        ensures who { (self.new.number ≡ self.old.number) × (self.new.role ≡ self.old.role) }
+        ensures others { self.new ≡ record self.old { inbox = self.new.inbox; outbox = self.new.outbox; asked = self.new.asked; kept_since = self.new.kept_since; is_deferred = self.new.is_deferred; reset = self.new.reset } }
         ensures resumed { OnOk result (self.new.is_deferred ≡ false) }
     {
         self.outbox.push_line(answer.answer())?;
@@ -263,7 +262,7 @@ impl Connection {
     /// Adds a view after the unsent answers. Errors: out of memory.
     pub fn show(&mut self, view: &[u8]) -> Result<(), AllocError>
         ensures sent { OnOk result (self.new.outbox ≡ self.old.outbox ++ (view.now ++ 10 ∷ [])) }
-        ensures who { (self.new.number ≡ self.old.number) × (self.new.role ≡ self.old.role) }
+        ensures others { self.new ≡ record self.old { outbox = self.new.outbox } }
     {
         self.outbox.push_line(view)
     }
@@ -272,8 +271,8 @@ impl Connection {
     pub fn send<G: Gateway>(&mut self, _written: &Written<'_, G>, now: Duration) -> bool
         ensures sent { (part : List ℕ) × (self.old.outbox ≡ part ++ self.new.outbox) }
         ensures whole { result ≡ true → self.new.blocked_since ≡ None → self.new.outbox ≡ [] }
-        ensures who { (self.new.number ≡ self.old.number) × (self.new.role ≡ self.old.role) }
-        ensures others { (self.new.inbox ≡ self.old.inbox) × (self.new.asked ≡ self.old.asked) × (self.new.reset ≡ self.old.reset) }
+        ensures since { (self.new.blocked_since ≡ None) ⊎ (self.new.blocked_since ≡ Some now) ⊎ (self.new.blocked_since ≡ self.old.blocked_since) }
+        ensures others { self.new ≡ record self.old { stream = self.new.stream; outbox = self.new.outbox; blocked_since = self.new.blocked_since } }
     {
         let before = self.outbox.len();
         match self.outbox.send(&mut self.stream) {

@@ -89,7 +89,7 @@ impl<G: Gateway> EventLoop<G> {
         signals: Option<String>,
     ) -> Self
         ensures core { result.core ≡ new_proxy }
-        ensures arguments { (result.settings ≡ settings) × (result.gateway ≡ gateway) × (result.listeners ≡ listeners) × (result.addresses ≡ addresses) }
+        ensures arguments { (result.settings ≡ settings) × (result.gateway ≡ gateway) × (result.listeners ≡ listeners) × (result.addresses ≡ addresses) × (result.views.signals ≡ signals) }
         ensures none { (slab_len result.connections ≡ 0) × (result.in_flight ≡ 0) × (result.server ≡ None) × (result.unclear.items ≡ []) }
     {
         EventLoop {
