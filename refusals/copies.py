@@ -36,8 +36,8 @@ def copy_crate(crate: str, copy: str) -> None:
 
 
 def copy_sources(copy: str) -> str:
-    """Makes a copy of all crates without the work that their checks kept: `rt` begins there with what it finds of the same crates
-    in other places on this machine. Returns the copy."""
+    """Makes a copy of all crates without the results of their checks: `rt` begins there with the results of the same crates elsewhere
+    on this machine. Returns the copy."""
     subprocess.run(["git", "init", "-q", copy], check=True)
     for name in ("crates.txt", "HANDLES"):
         shutil.copy(name, copy)
