@@ -183,13 +183,14 @@ class Between:
 
     A member that watches is pushed a view once it has done what was due by the previous one, at each change and from time to
     time. While its order has no answer, only the previous view is pushed again, as by a proxy that has not read the order
-    yet.
+    yet. While its process is stopped it is shown nothing, so it does not see what happens meanwhile.
     """
 
     def __init__(self, trial: Trial, rule: Rule) -> None:
         self.trial, self.rule, self.spoil = trial, rule, list[Spoil]()
         self.on_confirm: Callable[[], None] | None = None
         self.deaths, self.lock = 0, threading.RLock()  # the number of times that the member died
+        self.is_stopped, self.goes_on = False, threading.Condition(self.lock)
         self.watching, self.ordering = set[socket.socket](), set[socket.socket]()  # connections that watch and whose order has no answer yet
         self.text = b""  # the last view that was shown to this process
         self.path = f"{trial.folder}/between.socket"
@@ -259,6 +260,7 @@ class Between:
         lines are answered."""
         self.direct(SHOW)  # waits while the server is away, and keeps nobody else waiting
         with self.lock:
+            self.goes_on.wait_for(lambda: not self.is_stopped)
             if deaths != self.deaths:
                 return False
             is_done = self.rule.has_done() and not self.ordering
@@ -303,7 +305,14 @@ class Between:
     def present(self) -> View:
         return View.of(json.loads(self.direct(SHOW)))
 
+    def stop(self, is_stopped: bool) -> None:
+        """Records whether the member's process is stopped."""
+        with self.lock:
+            self.is_stopped = is_stopped
+            self.goes_on.notify_all()
+
     def died(self) -> None:
+        self.stop(False)
         with self.lock:
             self.deaths += 1
             self.watching, self.ordering, self.text = set(), set(), b""
@@ -355,8 +364,10 @@ class Tried:
 
     def stop(self) -> None:
         os.killpg(self.process.pid, signal.SIGSTOP)
+        self.between.stop(True)
 
     def go_on(self) -> None:
+        self.between.stop(False)
         os.killpg(self.process.pid, signal.SIGCONT)
 
     def starts_without(self, name: str, what: str) -> None:
