@@ -31,7 +31,7 @@ from cutting.workers import call_each
 def wait(number):
     machine = subprocess.Popen(["sleep", "1000"], start_new_session=True)
     try:
-        print(os.getpid(), machine.pid, flush=True)
+        os.write(1, b"%d %d\\n" % (os.getpid(), machine.pid))  # in one call, so that two processes write two lines
         time.sleep(1000)
     finally:
         machine.kill()
