@@ -1,5 +1,6 @@
 """A device with slow syncs: steps that are accepted but not settled are visible only as a count."""
 
+import os
 import sys
 import time
 
@@ -90,19 +91,37 @@ class SlowDevice(Case):
             self.assertEqual(server.close().status, 0)
 
     def test_callers_that_do_not_come_again(self) -> None:
-        """They are waited for during a sixteenth of their flight's time, by a clock that is advanced during the flight."""
+        """They are waited for during a sixteenth of their flight's time."""
         self.needs("a C compiler", preloaded.has_compiler())
-        calls, clock = self.path("calls"), self.write("clock", bytes(8))
-        settings = preloaded.environment(self.folder, SYNC_MILLIS=500, CALLS=calls, CLOCK=clock)
+        calls, clock, held = self.path("calls"), self.write("clock", bytes(8)), self.path("held")
+        settings = preloaded.environment(self.folder, CALLS=calls, CLOCK=clock, HELD=held)
         with Serving(self.made(topology([(1, 1)])), env=settings) as server, server.connect() as connection:
-            connection.send(*({"op": "reset", "client": 1, "number": number, "node": 1} for number in (1, 2)))
-            until("a flight", lambda: b"\nwrite " in self.read("calls"))
-            with open(clock, "r+b") as file:
-                file.write((16 * WAITED).to_bytes(8, sys.byteorder))
-            self.assertEqual([connection.reply()["step"] for _ in range(2)], [2, 3])
-            connection.send({"op": "reset", "client": 1, "number": 3, "node": 1})
+            # on a busy machine the second order may miss the flight of the first
+            flights = (self.in_a_long_flight(connection, number) for number in range(1, 20, 2))
+            last = next(filter(None, flights), None)
+            if last is None:
+                self.fail("no flight had two orders")
+            connection.send({"op": "reset", "client": 1, "number": last + 1, "node": 1})
             connection.socket.settimeout(12 * WAITED)
-            self.assertEqual(connection.reply()["step"], 4)
+            self.assertEqual(connection.reply()["step"], last + 2)
+
+    def in_a_long_flight(self, connection: Connection, first: int) -> int | None:
+        """Sends two orders, and advances the clock during their flight. Returns the second one's number, if one flight had both."""
+        before = len(self.read("calls"))
+
+        def lines() -> list[bytes]:
+            return self.read("calls")[before:].splitlines()
+        self.write("held", b"")
+        connection.send(*({"op": "reset", "client": 1, "number": number, "node": 1} for number in (first, first + 1)))
+        until("a flight", lambda: any(line.startswith(b"write ") for line in lines()))
+        with open(self.path("clock"), "r+b") as file:
+            ahead = int.from_bytes(file.read(), sys.byteorder) + 16 * WAITED
+            file.seek(0)
+            file.write(ahead.to_bytes(8, sys.byteorder))
+        os.remove(self.path("held"))
+        self.assertEqual([connection.reply()["step"] for _ in range(2)], [first + 1, first + 2])
+        kinds = [line.split()[0] for line in lines()]
+        return None if b"write" in kinds[kinds.index(b"out"):] else first + 1
 
     def test_a_close_settles_what_was_accepted(self) -> None:
         """A client's close does not wait for a wave, and no accepted step of the wave is lost."""

@@ -120,12 +120,13 @@ int getsockname(int socket, struct sockaddr *address, socklen_t *length) {
     static long names;
     return fails("NAME_FAILS", "ERROR", &names) ? -1 : syscall(SYS_getsockname, socket, address, length);
 }
-// A sync takes SYNC_MILLIS longer, or with SYNCS_LEFT_OUT no time at all. Sync number SYNC_FAILS fails, and no other. What was
-// synced is written down by its path.
+// A sync takes SYNC_MILLIS longer, or with SYNCS_LEFT_OUT no time at all. No sync ends while the file HELD exists. Sync number
+// SYNC_FAILS fails, and no other. What was synced is written down by its path.
 static int synced(int number, int file) {
     static long syncs;
     char name[40], path[4096];
     if (setting("SYNC_MILLIS")) usleep(1000 * setting("SYNC_MILLIS"));
+    while (getenv("HELD") && access(getenv("HELD"), F_OK) == 0) usleep(1000);
     if (fails("SYNC_FAILS", "ERROR", &syncs)) return -1;
     int status = setting("SYNCS_LEFT_OUT") ? 0 : syscall(number, file);
     sprintf(name, "/proc/self/fd/%d", file);
