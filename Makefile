@@ -177,7 +177,7 @@ release:
 	@tools/release $(or $(LOG),--trial)
 
 bin/resetd:
-	@echo 'there is no proved program yet: make build makes it in some 45 minutes.' >&2
+	@echo 'there is no proved program yet: make build makes it in about an hour.' >&2
 	@echo 'To go on with a trial build, of which nothing is proved: make trial, and then PROGRAM=bin/resetd-trial after this' >&2
 	@exit 1
 
