@@ -5,6 +5,8 @@ PREFIX ?= /usr/local
 PROGRAM ?= bin/resetd
 # The proxy is installed of the same kind as the program: the proved one, or the trial build.
 PROXY ?= $(if $(findstring trial,$(PROGRAM)),bin/resetd-proxy-trial,bin/resetd-proxy)
+# The folder of the members' library that the soak of the door takes.
+LIBRARY ?= lib
 # So many checks run at a time, each on one processor and with up to 3 GB of memory.
 JOBS ?= $(shell nproc)
 
@@ -57,8 +59,8 @@ soak:
 instances:
 	@tools/soak --instances 32 --rounds $(or $(ROUNDS),100)
 
-soak-door: $(PROGRAM) $(PROXY) lib/libresetd_member.a
-	@tools/soak_door --program $(PROGRAM) --proxy $(PROXY) --minutes $(or $(MINUTES),30)
+soak-door: $(PROGRAM) $(PROXY) $(LIBRARY)/libresetd_member.a
+	@tools/soak_door --program $(PROGRAM) --proxy $(PROXY) --library $(LIBRARY) --minutes $(or $(MINUTES),30)
 
 soak-fence: $(PROGRAM) $(PROXY)
 	@tools/soak_fence --program $(PROGRAM) --proxy $(PROXY) --minutes $(or $(MINUTES),10)
@@ -100,8 +102,8 @@ bench: build
 sweep:
 	bench/refused_allocations --seconds $(or $(EACH),12) units resetd
 
-nightly: $(PROGRAM) $(PROXY) lib/libresetd_member.a
-	@tools/nightly --program $(PROGRAM) --proxy $(PROXY) --jobs $(JOBS) --images $(or $(IMAGES),2000)
+nightly: $(PROGRAM) $(PROXY) $(LIBRARY)/libresetd_member.a
+	@tools/nightly --program $(PROGRAM) --proxy $(PROXY) --library $(LIBRARY) --jobs $(JOBS) --images $(or $(IMAGES),2000)
 
 test:
 	@tools/layers
