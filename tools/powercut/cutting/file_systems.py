@@ -45,8 +45,10 @@ ALL = {
         FileSystem("xfs", "xfs"),
         FileSystem("btrfs", "btrfs", no_barrier="nobarrier", harmful_with={"body_not_synced": "nodatacow"}, harmless={
             "body_not_synced": "a batch's body and its gate are written to new places, to which one commit of the log refers"}),
-        # Without fastboot the first sync after a checkpoint sends its flush before it has waited for the inode's block.
-        FileSystem("f2fs-fastboot", "f2fs", "fastboot", "fastboot,nobarrier", lossy={"without fastboot": ""}),
+        # Without fastboot the first sync after a checkpoint sends its flush before it has waited for the inode's block. Without mode=lfs a
+        # file's length that becomes a multiple of 4,096 need not be synced.
+        FileSystem("f2fs-lfs", "f2fs", "mode=lfs,fastboot", "mode=lfs,fastboot,nobarrier", lossy={
+            "without fastboot": "mode=lfs", "without mode=lfs": "fastboot"}),
     )
 }
 

@@ -15,7 +15,7 @@ from typing import NamedTuple
 from .cuts import UNITS, Cut, Moment, ends_of_checkpoints, moments
 from .disk import Disk, Entry, Sectors
 from .machine import Gone, Machine, Maker
-from .recording import Run, load_run
+from .recording import GROWTH, Run, load_run
 from .stores import History
 from .verdicts import Disagreement, Looker, Verdict, hung, judge_image
 
@@ -173,10 +173,13 @@ class Judge:
 
     def _lost(self, image: Image, moment: Moment, verdict: Verdict) -> str | None:
         """Describes what a legal store lacks, or returns None if it lacks nothing."""
-        if verdict.kind != "legal" or verdict.content is None:
+        if verdict.kind != "legal":
             return None
         if verdict.count < image.answered:
-            return f"it has {verdict.count} steps, and step {image.answered} was answered"
+            what = "bytes" if self.run.scenario == GROWTH else "steps"
+            return f"it has {verdict.count} {what}, and {image.answered} were acknowledged"
+        if verdict.content is None:
+            return None
         signalled = itertools.chain(((int(node), epoch) for node, epoch in self.run.signalled.items()), moment.signalled.items())
         for node, epoch in signalled:
             if verdict.epochs.get(node, -1) < epoch:

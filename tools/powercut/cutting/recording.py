@@ -14,11 +14,13 @@ from .stores import NODES, STEPS_MADE, TOPOLOGY, TOPOLOGY_APART, store_of_versio
 
 LOAD_SECONDS = 3_000
 STILL_MILLISECONDS = 1_500  # so that the file system writes what it wrote late
+GROWTH = "growth"  # the scenario without the program
+GROWN_BLOCKS = 16
 
 
 @dataclass
 class Run:
-    """The parameters of a run. `scenario` is one of SCENARIOS. If the nodes are apart, no order sends packets. With
+    """The parameters of a run. `scenario` is one of SCENARIOS. Without orders no server runs. If the nodes are apart, no order sends packets. With
     `has_late_syncs` a kill often finds unsynced writes. On a disk that was cut, `owed` and `signalled` are what was answered and
     signalled before the cut."""
 
@@ -62,12 +64,20 @@ def migrate_first(machine: Machine, run: Run) -> None:
     machine.must("mark", "migrated")
 
 
+def grow_first(machine: Machine, run: Run) -> None:
+    """A first run: in place of a store, a file that grows to the ends of blocks, and is synced at each of them."""
+    machine.put(run.store, b"")
+    machine.must("sync")
+    machine.must("mark", "growing")
+    machine.must("grow", run.store, GROWN_BLOCKS)
+
+
 def go_on(machine: Machine, run: Run) -> None:
     """A further run on a disk that was cut."""
     machine.must("run", 120, program_path(run.program), "check", run.store)
 
 
-SCENARIOS = {"first": make_first, "migration": migrate_first, "again": go_on}
+SCENARIOS = {"first": make_first, "migration": migrate_first, GROWTH: grow_first, "again": go_on}
 
 
 def carry_out(machine: Machine, run: Run) -> str:
@@ -86,7 +96,8 @@ def carry_out(machine: Machine, run: Run) -> str:
         machine.must("mark", "mounting")
     machine.must("mount", DEVICE, run.kind, run.options)
     SCENARIOS[run.scenario](machine, run)
-    said = machine.must("load", program_path(run.program), run.store, run.orders, run.seed, int(run.noise), run.kills, 1, seconds=LOAD_SECONDS)
+    load = (run.store, run.orders, run.seed, int(run.noise), run.kills, 1)
+    said = machine.must("load", program_path(run.program), *load, seconds=LOAD_SECONDS) if run.orders else b"no orders"
     machine.must("sleep", STILL_MILLISECONDS)
     machine.must("unmount")
     return said.decode()

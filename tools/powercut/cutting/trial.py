@@ -10,7 +10,7 @@ from .file_systems import FileSystem
 from .judging import Judge, Places, Tally
 from .again import cut_disk
 from .machine import MACHINES, Maker
-from .recording import Run, load_run, record
+from .recording import GROWTH, Run, load_run, record
 
 WITHOUT_BARRIER = "barrier_left_out"
 MUTANTS = ("body_not_synced", "gate_not_synced", WITHOUT_BARRIER)
@@ -19,6 +19,7 @@ TRIES = 4  # seeds with which a control is tried until it finds something
 # then, because its step would sync the file before that answer.
 KILLS: dict[str, Any] = {"orders": 120, "kills": 20, "noise": False, "is_apart": True, "has_late_syncs": True}
 KILLED = Places(("killed",), is_at_markers=True)
+GROWING = Places(("growing",))
 
 
 @dataclasses.dataclass
@@ -81,6 +82,7 @@ class Trial:
         migration = self._record("migration", self._run("migration", orders=20))
         self._judge(migration, 8, 5, Places(("migrating", "migrated")))
         self._judge(self._record("folder", self._run(orders=4, noise=False, store="/mnt/folder/store")), 16, 6)
+        self._judge(self._record(GROWTH, self._run(GROWTH, orders=0)), 16, 7, GROWING)
         for number in (2, 3):
             again = f"{self._folder}/server{number}"
             cut_disk(last, again, seed + number)
@@ -126,9 +128,11 @@ class Trial:
         return self._finds(self._record("no-flushes", run), seed)
 
     def _with_options(self, name: str, options: str, seed: int) -> str | None:
-        """Tries the unchanged program with other mount options, in a run in which many kills find unsynced writes."""
-        folder = self._record(name, self._run(seed=seed, options=options, **KILLS))
-        return self._finds(folder, seed, KILLED)
+        """Tries other mount options: for a file that grows, and for the unchanged program in a run in which many kills find unsynced writes."""
+        growth = self._record(f"{name}-{GROWTH}", self._run(GROWTH, seed=seed, options=options, orders=0))
+        if found := self._finds(growth, seed, GROWING):
+            return found
+        return self._finds(self._record(name, self._run(seed=seed, options=options, **KILLS)), seed, KILLED)
 
     def _of_mutant(self, number: int, options: str, seed: int) -> str | None:
         """Tries a mutant. The barrier at a start matters only if a kill has left unsynced bytes."""

@@ -11,7 +11,7 @@ from typing import NamedTuple
 from .file_systems import DEVICE
 from .initramfs import program_path
 from .machine import Gone, Machine
-from .recording import Run
+from .recording import GROWTH, Run
 from .stores import Content, read_store
 
 NODE_LINE = re.compile(r"^node (\d+) \d+ \w+ \d+ (\d+) \d+$", re.M)
@@ -20,7 +20,7 @@ NODE_LINE = re.compile(r"^node (\d+) \d+ \w+ \d+ (\d+) \d+$", re.M)
 @dataclass
 class Verdict:
     """`kind` is legal, nomount, nofile, unreadable, empty, refused, noshow, noumount or hung. `said` is the reason, if it is
-    not legal."""
+    not legal. `count` is the number of steps, or the number of bytes of a file that is not a store; such a file has no `content`."""
 
     kind: str
     said: str = ""
@@ -87,13 +87,15 @@ class Disagreement(Exception):
 def judge_image(machine: Machine, run: Run, looker: Looker, is_inside: bool) -> Verdict:
     """Mounts the disk as it is now, and checks its store with the host's program and, if `is_inside`, also with the machine's
     own. Raises Disagreement."""
-    program = program_path(run.program) if is_inside else ""
+    program = program_path(run.program) if is_inside and run.scenario != GROWTH else ""
     status, printed, data = machine.ask("judge", DEVICE, run.kind, run.options, program, run.store)
     text = printed.decode(errors="replace")
     if status:
         return Verdict({1: "nomount", 2: "noumount"}.get(status, "hung"), text)
     if text.startswith(("nofile", "unreadable")):
         return Verdict(text.split()[0], text)
+    if run.scenario == GROWTH:
+        return Verdict("legal", count=len(data))
     said = looker.look(data)
     if is_inside and read_said(text) != said:
         raise Disagreement(f"in the machine {text[:300]}, and here {said}")

@@ -17,9 +17,11 @@
 #include <sys/stat.h>
 #include <sys/syscall.h>
 #include <termios.h>
+#include <time.h>
 #include <unistd.h>
 
 #define MOST_FIELDS 40
+#define BLOCK 4096
 static int port = -1;
 
 static void send_bytes(const char *data, size_t size) {
@@ -106,6 +108,25 @@ static void order_get(char **fields) {
   free(bytes.data);
 }
 
+/* Appends this many bytes to a file and syncs it, always at the same time of the system's clock. Returns 0 if it succeeds. */
+static int append_and_sync(int file, size_t size) {
+  static const char bytes[BLOCK];
+  struct timespec same = {1000000000, 0};
+  return clock_settime(CLOCK_REALTIME, &same) || write(file, bytes, size) != (ssize_t)size || fsync(file);
+}
+
+/* grow FILE BLOCKS: appends blocks to an empty file, each in two parts, and then marks the length. */
+static void order_grow(char **fields) {
+  int file = open(fields[1], O_WRONLY | O_CLOEXEC), failed = file < 0;
+  for (int block = 1; !failed && block <= atoi(fields[2]); block++) {
+    char text[40];
+    snprintf(text, sizeof text, "least %d\n", block * BLOCK);
+    failed = append_and_sync(file, BLOCK - 100) || append_and_sync(file, 100) || mark(text);
+  }
+  if (file >= 0) close(file);
+  answer_status(failed);
+}
+
 /* run SECONDS PROGRAM ARGUMENT.. */
 static void order_run(char **fields) {
   struct text printed = {0}, errors = {0};
@@ -154,6 +175,7 @@ static void order_off(char **fields) { (void)fields; answer_status(0); reboot(RB
 static const struct { const char *name; void (*carry_out)(char **fields); } orders[] = {
   {"mount", order_mount}, {"unmount", order_unmount}, {"marker", order_marker}, {"mark", order_mark}, {"mkdir", order_mkdir},
   {"sync", order_sync}, {"sleep", order_sleep}, {"set", order_set}, {"put", order_put}, {"get", order_get}, {"run", order_run},
+  {"grow", order_grow},
   {"variable", order_set_variable}, {"judge", order_judge}, {"load", run_load}, {"off", order_off},
 };
 
