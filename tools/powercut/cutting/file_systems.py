@@ -48,7 +48,8 @@ ALL = {
         # Without fastboot the first sync after a checkpoint sends its flush before it has waited for the inode's block. Without mode=lfs a
         # file's length that becomes a multiple of 4,096 need not be synced.
         FileSystem("f2fs-lfs", "f2fs", "mode=lfs,fastboot", "mode=lfs,fastboot,nobarrier", lossy={
-            "without fastboot": "mode=lfs", "without mode=lfs": "fastboot"}),
+            "without fastboot": "mode=lfs", "without mode=lfs": "fastboot"}, harmful_with={"body_not_synced": "fastboot"}, harmless={
+            "body_not_synced": "a batch's body and its gate are written to new places, to which one checkpoint refers"}),
     )
 }
 
