@@ -116,6 +116,65 @@ class Nightly(Case):
         self.assertEqual([line.split("\t")[0] for line in self.read("results").decode().splitlines()], ["part", "powercut", "soak-door"])
 
 
+class WholeNight(Case):
+    """`tools/nightly` with all its parts. Each command of a part is a script that ends at once."""
+
+    programs = ()
+    HELD = "#!/bin/sh\necho it held\n"
+
+    def setUp(self) -> None:
+        super().setUp()
+        with open(tool("nightly"), encoding="utf-8") as file:
+            source = file.read()
+        self.known = re.findall(r'^ {8}"([\w-]+)": Part\(', source, re.MULTILINE)
+        for name in ("tools", "refusals", "client/tests_proxy"):
+            os.makedirs(self.path(name))
+        for name in ("tools/nightly", "refusals/nights.py"):
+            shutil.copy(f"{ROOT}/{name}", self.path(name))
+        for name in set(re.findall(r'Part\(\[.*?"((?:tools|refusals|bench)/\w+(?:/\w+)?)"', source)):
+            self.script(name, self.HELD)
+        self.write("client/tests_proxy/test_kills.py", "import unittest\n\n\nclass Kills(unittest.TestCase):\n    def test(self):\n        pass\n")
+        self.script("rt", "#!/bin/sh\necho the kit\n")
+
+    def script(self, name: str, text: str) -> None:
+        os.makedirs(os.path.dirname(self.path(name)), exist_ok=True)
+        os.chmod(self.write(name, text), 0o755)
+
+    def night(self, *parts: str) -> tuple[int, dict[str, list[str]]]:
+        """Runs these parts, or all of them, and returns the exit status and the lines of the results by their parts."""
+        programs = [word for name in ("program", "proxy") for word in (f"--{name}", self.path("rt"))]
+        ran = subprocess.run([self.path("tools/nightly"), "--jobs", "3", "--seed", "7", *programs, "--results", self.path("results"), *parts],
+                             env={**os.environ, "TMPDIR": self.folder, "RT": self.path("rt")}, stdin=subprocess.DEVNULL, capture_output=True,
+                             text=True, check=False)
+        self.assertEqual(ran.stderr, "")
+        lines = [line.split("\t") for line in self.read("results").decode().splitlines()]
+        by_part = {line[0]: line[1:] for line in lines[1:]}
+        self.assertEqual(len(by_part), len(lines) - 1)
+        return ran.returncode, by_part
+
+    def test_the_line_of_all_parts(self) -> None:
+        """It says `held` only if every line of every part does. A run of one part leaves it, and a part that runs again replaces its lines."""
+        status, lines = self.night()
+        self.assertEqual((status, list(lines)), (0, [*self.known, "whole"]))
+        self.assertEqual({line[0] for line in lines.values()}, {"held"})
+        result, _, minutes, *_, seed, text = lines["whole"]
+        self.assertRegex(minutes, r"^\d+\.\d$")
+        self.assertEqual((result, seed, text), ("held", "7", f"{len(self.known)} parts, of which 0 failed, with 3 processors"))
+        self.script("tools/powercut/run", f"{self.HELD}printf 'row\\txfs\\tFAILED\\t1 lost\\n'\n")
+        self.script("tools/soak_fence", "#!/bin/sh\nexit 1\n")
+        status, after = self.night("soak-fence")
+        self.assertEqual((status, after["soak-fence"][0], after["whole"]), (1, "FAILED (1)", lines["whole"]))
+        status, failed = self.night()
+        self.assertEqual((status, list(failed)), (1, ["powercut", "powercut xfs", *self.known[1:], "whole"]))
+        self.assertEqual([name for name, line in failed.items() if line[0] != "held"], ["powercut xfs", "soak-fence", "whole"])
+        self.assertEqual(failed["whole"][0], "FAILED (powercut soak-fence)")
+        self.assertEqual(failed["whole"][-1], f"{len(self.known)} parts, of which 2 failed, with 3 processors")
+        for name in ("tools/powercut/run", "tools/soak_fence"):
+            self.script(name, self.HELD)
+        status, last = self.night()
+        self.assertEqual((status, list(last), last["whole"][0]), (0, list(lines), "held"))
+
+
 class Documents(Run):
     programs = ("RESETD", "RESETD_PROXY")
 
