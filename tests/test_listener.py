@@ -3,12 +3,11 @@ clients."""
 
 import errno
 import os
-import time
 from collections import Counter
 
 from support import preloaded
 from support.case import Case, until
-from support.serving import Serving, processor_seconds
+from support.serving import Serving, rests
 from support.stores import topology
 
 # accept(2): a network error that is already pending on the new socket is reported by accept, which is then to be retried.
@@ -138,21 +137,6 @@ class Idle(Case):
                 self.expect_rest(server)
             self.assertEqual(server.close().status, 0)
 
-    def expect_rest(self, server: Serving) -> None:
-        until("rest of all threads", lambda: self.rests(server))
-
-    def rests(self, server: Serving) -> bool:
-        """Returns whether, for a second, no thread has woken from a sleep, as one that polls would, and none has used or lost
-        the processor, as one that spins would."""
-        before = self.turns(server), processor_seconds(server.process.pid)
-        time.sleep(1)
-        return (self.turns(server), processor_seconds(server.process.pid)) == before
-
     @staticmethod
-    def turns(server: Serving) -> int:
-        """Returns how often its threads have gone to sleep, or have lost the processor."""
-        threads, count = f"/proc/{server.process.pid}/task", 0
-        for thread in os.listdir(threads):
-            with open(f"{threads}/{thread}/status", encoding="ascii") as rows:
-                count += sum(int(row.split()[1]) for row in rows if "voluntary_ctxt_switches" in row)
-        return count
+    def expect_rest(server: Serving) -> None:
+        until("rest of all threads", lambda: rests(server.process.pid))

@@ -5,6 +5,7 @@ import json
 import os
 import socket
 import subprocess
+import time
 from collections.abc import Callable, Mapping, Sequence
 from typing import Any, Self
 
@@ -80,6 +81,23 @@ def sleeps(process: int) -> bool:
                 states.add(file.read().rsplit(")", 1)[1].split()[0])
         return states == {"S"}
     return False
+
+
+def turns(process: int) -> int:
+    """Returns how often the threads of a process have gone to sleep, or have lost the processor."""
+    threads, count = f"/proc/{process}/task", 0
+    for thread in os.listdir(threads):
+        with open(f"{threads}/{thread}/status", encoding="ascii") as rows:
+            count += sum(int(row.split()[1]) for row in rows if "voluntary_ctxt_switches" in row)
+    return count
+
+
+def rests(process: int) -> bool:
+    """Returns whether, for a second, no thread has woken from a sleep, as one that polls would, and none has used, lost or waited
+    for the processor, as one that spins would."""
+    before = turns(process), processor_seconds(process)
+    time.sleep(1)
+    return sleeps(process) and (turns(process), processor_seconds(process)) == before
 
 
 class Serving:
