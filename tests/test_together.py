@@ -181,15 +181,16 @@ class Refused(Served):
 
     def orders(self, store: str, refusing: Refusing, threads: range, first: int = 0) -> tuple[list[Answer], int, int]:
         """Sends three orders in one packet, and nothing after it. Returns their replies, and the number of allocations before
-        them and with them."""
-        with self.started(store, refusing.environment(first, threads=threads)) as server, server.connect() as connection:
+        their connection and with it."""
+        with self.started(store, refusing.environment(first, threads=threads)) as server:
             before = refusing.count()
-            connection.socket.settimeout(TIMEOUT)
-            # a connection that lacks memory may already be over
-            with contextlib.suppress(OSError):
-                connection.send(*({"op": "reset", "client": 1, "number": number, "node": 1} for number in range(1, 4)))
-                connection.socket.shutdown(socket.SHUT_WR)
-            replies, after = self.replies(connection), refusing.count()
+            with server.connect() as connection:
+                connection.socket.settimeout(TIMEOUT)
+                # a connection that lacks memory may already be over
+                with contextlib.suppress(OSError):
+                    connection.send(*({"op": "reset", "client": 1, "number": number, "node": 1} for number in range(1, 4)))
+                    connection.socket.shutdown(socket.SHUT_WR)
+                replies, after = self.replies(connection), refusing.count()
             # the number of earlier allocations varies a little; if this one has not happened yet, it does not belong to the close
             refusing.refuse(0, 0)
             # whatever that client received, the next one is served
@@ -259,12 +260,13 @@ class Refused(Served):
 
     def answers(self, store: str, refusing: Refusing, asked: list[Answer], first: int) -> tuple[list[Answer], int, int]:
         """Returns the answers over one connection, while the server's first thread is refused one allocation."""
-        with self.started(store, refusing.environment(first, threads=FIRST_THREAD)) as server, server.connect() as connection:
+        with self.started(store, refusing.environment(first, threads=FIRST_THREAD)) as server:
             before = refusing.count()
-            with contextlib.suppress(OSError):
-                connection.send(*asked)
-                connection.socket.shutdown(socket.SHUT_WR)
-            answers, after = self.replies(connection), refusing.count()
+            with server.connect() as connection:
+                with contextlib.suppress(OSError):
+                    connection.send(*asked)
+                    connection.socket.shutdown(socket.SHUT_WR)
+                answers, after = self.replies(connection), refusing.count()
             refusing.refuse(0, 0)
             self.assertEqual(self.close(server).status, 0)
             return answers, before, after
