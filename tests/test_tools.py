@@ -129,8 +129,9 @@ class WholeNight(Case):
         self.known = re.findall(r'^ {8}"([\w-]+)": Part\(', source, re.MULTILINE)
         for name in ("tools", "refusals", "client/tests_proxy"):
             os.makedirs(self.path(name))
-        for name in ("tools/nightly", "refusals/nights.py"):
-            shutil.copy(f"{ROOT}/{name}", self.path(name))
+        shutil.copy(f"{ROOT}/refusals/nights.py", self.path("refusals"))
+        self.shares = self.write("shares", "1\n")
+        self.script("tools/nightly", re.sub(r'(?m)^SHARES = "[^"]*"', f'SHARES = "{self.shares}"', source))
         for name in set(re.findall(r'Part\(\[.*?"((?:tools|refusals|bench)/\w+(?:/\w+)?)"', source)):
             self.script(name, self.HELD)
         self.write("client/tests_proxy/test_kills.py", "import unittest\n\n\nclass Kills(unittest.TestCase):\n    def test(self):\n        pass\n")
@@ -173,6 +174,15 @@ class WholeNight(Case):
             self.script(name, self.HELD)
         status, last = self.night()
         self.assertEqual((status, list(last), last["whole"][0]), (0, list(lines), "held"))
+
+    def test_processes_have_equal_shares_while_all_parts_run(self) -> None:
+        """Before and after, and while one part runs alone, the system's setting stays."""
+        self.script("refusals/plant", f"#!/bin/sh\ncat {self.shares}\n")
+        for before in ("1\n", "0\n"):
+            self.write("shares", before)
+            self.assertEqual(self.night("plant")[1]["plant"][-1], before.strip())
+            self.assertEqual(self.night()[1]["plant"][-1], "0")
+            self.assertEqual(self.read("shares").decode().strip(), before.strip())
 
 
 class Documents(Run):
