@@ -12,7 +12,7 @@ import subprocess
 import sys
 import threading
 
-from support.case import Case, tool
+from support.case import Case, tool, until
 from support.program import PROGRAM, ROOT, SHORT
 from support.serving import Serving
 
@@ -141,17 +141,24 @@ class WholeNight(Case):
         os.makedirs(os.path.dirname(self.path(name)), exist_ok=True)
         os.chmod(self.write(name, text), 0o755)
 
+    def start(self, *parts: str) -> subprocess.Popen[str]:
+        """Starts these parts, or all of them."""
+        programs = [word for name in ("program", "proxy") for word in (f"--{name}", self.path("rt"))]
+        night = subprocess.Popen([self.path("tools/nightly"), "--jobs", "3", "--seed", "7", *programs, "--results", self.path("results"), *parts],
+                                 env={**os.environ, "TMPDIR": self.folder, "RT": self.path("rt")}, stdin=subprocess.DEVNULL,
+                                 stdout=subprocess.PIPE, stderr=subprocess.PIPE, text=True)
+        self.addCleanup(night.communicate)
+        self.addCleanup(night.kill)
+        return night
+
     def night(self, *parts: str) -> tuple[int, dict[str, list[str]]]:
         """Runs these parts, or all of them, and returns the exit status and the lines of the results by their parts."""
-        programs = [word for name in ("program", "proxy") for word in (f"--{name}", self.path("rt"))]
-        ran = subprocess.run([self.path("tools/nightly"), "--jobs", "3", "--seed", "7", *programs, "--results", self.path("results"), *parts],
-                             env={**os.environ, "TMPDIR": self.folder, "RT": self.path("rt")}, stdin=subprocess.DEVNULL, capture_output=True,
-                             text=True, check=False)
-        self.assertEqual(ran.stderr, "")
+        night = self.start(*parts)
+        self.assertEqual(night.communicate()[1], "")
         lines = [line.split("\t") for line in self.read("results").decode().splitlines()]
         by_part = {line[0]: line[1:] for line in lines[1:]}
         self.assertEqual(len(by_part), len(lines) - 1)
-        return ran.returncode, by_part
+        return night.returncode, by_part
 
     def test_the_line_of_all_parts(self) -> None:
         """It says `held` only if every line of every part does. A run of one part leaves it, and a part that runs again replaces its lines."""
@@ -183,6 +190,18 @@ class WholeNight(Case):
             self.assertEqual(self.night("plant")[1]["plant"][-1], before.strip())
             self.assertEqual(self.night()[1]["plant"][-1], "0")
             self.assertEqual(self.read("shares").decode().strip(), before.strip())
+
+    def test_one_that_is_stopped(self) -> None:
+        """Its parts end with it, none has a line, and the system's setting is as before."""
+        self.script("tools/powercut/run", f"#!/bin/sh\necho $$ > {self.path('begun.new')}\nmv {self.path('begun.new')} {self.path('begun')}\nexec sleep 1000\n")
+        night = self.start()
+        until("a part", lambda: os.path.exists(self.path("begun")))
+        self.assertEqual(self.read("shares").strip(), b"0")
+        night.terminate()
+        self.assertEqual((*night.communicate(), night.returncode), ("", "", 1))
+        self.assertRaises(ProcessLookupError, os.kill, int(self.read("begun")), 0)
+        self.assertEqual(self.read("shares").strip(), b"1")
+        self.assertFalse(os.path.exists(self.path("results")))
 
 
 class Documents(Run):
