@@ -137,13 +137,13 @@ class Members:
 class Door:
     """All of these, in one folder."""
 
-    def __init__(self, folder: str, programs: Programs, choice: random.Random) -> None:
-        self.choice, self.answered = choice, 0
+    def __init__(self, folder: str, programs: Programs, choice: random.Random, ignores_syncs: bool = False) -> None:
+        self.choice = choice
         self.server = Server(programs.coordinator, f"{folder}/store", held_address())
         made = self.server.found(topology(HALF, 1))
         if made[0] != 0:
             raise Failed(f"resetd init: {made}")
-        self.device = Forgetful(self.server.store, folder, choice)
+        self.device = Forgetful(self.server.store, folder, choice, ignores_syncs)
         self.start_server()
         self.proxy = Proxy(folder, self.server.address, "--signals", self.server.signals, program=programs.proxy)
         self.members = Members(folder, programs, self.proxy.address)
@@ -159,19 +159,28 @@ class Door:
         self.start_server()
 
     def cut_power(self) -> None:
-        """Cuts the coordinator's power. All earlier answers must be durable."""
+        """Cuts the coordinator's power. All earlier replies, views and signals must be durable."""
         self.server.process.kill()
         self.server.process.wait()
         self.device.cut()
         status, lines = self.server.command("check")
-        if status or int(lines[0].split()[1]) < self.answered:
-            raise Failed(f"step {self.answered} was answered, and after a power cut resetd check says {lines}")
+        if status or int(lines[0].split()[1]) < self.device.released:
+            raise Failed(f"step {self.device.released} was released, and after a power cut resetd check says {lines}")
+        epochs = self._stored_epochs()
+        for node, epoch in self.device.signalled.items():
+            if epochs[node] < epoch:
+                raise Failed(f"epoch {epoch} of node {node} was signalled, and after a power cut it has epoch {epochs[node]}")
         self.start_server()
+
+    def _stored_epochs(self) -> dict[int, int]:
+        """Returns the epoch of each node in the store, while no server serves it."""
+        rows = [line.split() for line in self.server.command("show")[1]]
+        return {int(row[1]): int(row[5]) for row in rows if row[0] == "node"}
 
     def reset(self, node: int) -> None:
         """Asks for a reset, at whichever address answers."""
         with contextlib.suppress(Away):
-            self.answered = max(self.answered, self.proxy.ask(op="reset", node=node).get("step", 0))
+            self.proxy.ask(op="reset", node=node)
 
     def end(self) -> None:
         self.members.kill_all()
